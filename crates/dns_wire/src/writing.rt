@@ -1,0 +1,233 @@
+//! Writing the parts of messages, all names uncompressed (RFC 1035 4.1).
+
+ghost use Rattle.std.specs.Prelude.{◌≡◌, ◌++◌, ◌+◌, ◌*◌, ◌≤◌, ◌<◌, ◌^◌, length, OnOk};
+ghost use Rattle.std.specs.Int.{w16, w32, to_be_bytes};
+ghost use Rattle.dns_wire.specs.Name.{name_bytes};
+ghost use Rattle.dns_wire.specs.Header.{unit, flag_bytes, header_bytes};
+ghost use Rattle.dns_wire.specs.Edns.{opt_record, opt_records};
+ghost use Rattle.dns_wire.specs.WireFormat.{data_bytes, record_bytes, records_bytes, question_bytes, questions_bytes};
+ghost use Rattle.dns_wire.specs.MessageBytes.{counted, message_bytes};
+ghost use Rattle.dns_wire.specs.declared.message.Message.{Message};
+
+use crate::edns::Edns;
+use crate::fault::OutOfMemory;
+use crate::header::Header;
+use crate::name::Name;
+use crate::question::Question;
+use crate::record::Record;
+use crate::writing_data::{data_len, put_data};
+
+/// Writes a message, the OPT last; the counts are those of what is written, whatever the header says.
+pub(crate) fn put_message(
+    out: &mut Vec<u8>,
+    header: &Header,
+    questions: &[Question],
+    answers: &[Record],
+    authority: &[Record],
+    additional: &[Record],
+    edns: &Option<Edns>,
+) -> Result<(), OutOfMemory>
+    ensures { OnOk result (out.new.items ≡ out.old.items ++ message_bytes (record {
+      header = header.now;
+      questions = questions.now;
+      answers = answers.now;
+      authority = authority.now;
+      additional = additional.now;
+      edns = edns.now;
+    })) }
+{
+    put_flags(out, header)?;
+    put_counts(
+        out,
+        questions.len() as u128,
+        answers.len() as u128,
+        authority.len() as u128,
+        additional.len() as u128 + opt_count(edns),
+    )?;
+    put_questions(out, questions)?;
+    put_records(out, answers)?;
+    put_records(out, authority)?;
+    put_extra(out, additional, edns)
+}
+
+/// Writes the id and the flags of a header, its opcode and code modulo 16.
+fn put_flags(out: &mut Vec<u8>, header: &Header) -> Result<(), OutOfMemory>
+    ensures { OnOk result (out.new.items ≡ out.old.items ++ (to_be_bytes w16 header.now.id ++ flag_bytes header.now)) }
+{
+    let [first, second] = header.id.to_be_bytes();
+    let high = 128 * u8::from(header.qr)
+        + 8 * (header.opcode % 16)
+        + 4 * u8::from(header.aa)
+        + 2 * u8::from(header.tc)
+        + u8::from(header.rd);
+    let low = 128 * u8::from(header.ra)
+        + 32 * u8::from(header.ad)
+        + 16 * u8::from(header.cd)
+        + header.code % 16;
+    out.extend_from_slice(&[first, second, high, low])?;
+    Ok(())
+}
+
+/// Writes the four counts of a header.
+fn put_counts(
+    out: &mut Vec<u8>,
+    questions: u128,
+    answers: u128,
+    authority: u128,
+    additional: u128,
+) -> Result<(), OutOfMemory>
+    ensures { OnOk result (out.new.items ≡ out.old.items ++ (to_be_bytes w16 questions ++ (to_be_bytes w16 answers ++ (to_be_bytes w16 authority ++ to_be_bytes w16 additional)))) }
+{
+    put_count(out, questions)?;
+    put_count(out, answers)?;
+    put_count(out, authority)?;
+    put_count(out, additional)
+}
+
+/// How many OPT records there are.
+fn opt_count(edns: &Option<Edns>) -> u128
+    ensures is { result ≡ length (opt_records edns.now) }
+    ensures small { result ≤ 1 }
+{
+    match edns {
+        None => 0,
+        Some(_) => 1,
+    }
+}
+
+/// Writes questions.
+fn put_questions(out: &mut Vec<u8>, questions: &[Question]) -> Result<(), OutOfMemory>
+    ensures { OnOk result (out.new.items ≡ out.old.items ++ questions_bytes questions.now) }
+{
+    for question in questions {
+        put_question(out, question)?;
+    }
+    Ok(())
+}
+
+/// Writes a question.
+fn put_question(out: &mut Vec<u8>, question: &Question) -> Result<(), OutOfMemory>
+    ensures { OnOk result (out.new.items ≡ out.old.items ++ question_bytes question.now) }
+{
+    question.name.write(out)?;
+    put_u16(out, question.qtype)?;
+    put_u16(out, question.qclass)
+}
+
+/// Writes the records of the additional section, then the OPT.
+fn put_extra(out: &mut Vec<u8>, records: &[Record], edns: &Option<Edns>) -> Result<(), OutOfMemory>
+    ensures { OnOk result (out.new.items ≡ out.old.items ++ records_bytes (records.now ++ opt_records edns.now)) }
+{
+    put_records(out, records)?;
+    match edns {
+        None => Ok(()),
+        Some(edns) => put_opt(out, edns),
+    }
+}
+
+/// Writes records.
+fn put_records(out: &mut Vec<u8>, records: &[Record]) -> Result<(), OutOfMemory>
+    ensures { OnOk result (out.new.items ≡ out.old.items ++ records_bytes records.now) }
+{
+    for one in records {
+        put_record(out, one)?;
+    }
+    Ok(())
+}
+
+/// Writes a record.
+pub(crate) fn put_record(out: &mut Vec<u8>, one: &Record) -> Result<(), OutOfMemory>
+    ensures { OnOk result (out.new.items ≡ out.old.items ++ record_bytes one.now) }
+{
+    put_head(out, one)?;
+    put_count(out, data_len(&one.rdata) as u128)?;
+    put_data(out, &one.rdata)
+}
+
+fn put_head(out: &mut Vec<u8>, one: &Record) -> Result<(), OutOfMemory>
+    ensures { OnOk result (out.new.items ≡ out.old.items ++ name_bytes one.now.name ++ to_be_bytes w16 one.now.rtype ++ to_be_bytes w16 one.now.class ++ to_be_bytes w32 one.now.ttl) }
+{
+    one.name.write(out)?;
+    put_u16(out, one.rtype)?;
+    put_u16(out, one.class)?;
+    put_u32(out, one.ttl)
+}
+
+/// Writes an OPT record (RFC 6891 6.1.2).
+fn put_opt(out: &mut Vec<u8>, edns: &Edns) -> Result<(), OutOfMemory>
+    ensures { OnOk result (out.new.items ≡ out.old.items ++ record_bytes (opt_record edns.now)) }
+{
+    let [high, low] = edns.payload.to_be_bytes();
+    let [a, b, c, d] = opt_ttl(edns).to_be_bytes();
+    out.extend_from_slice(&[0, 0, 41, high, low, a, b, c, d, 0, 0])?;
+    Ok(())
+}
+
+/// What an OPT has in the place of a TTL (RFC 6891 6.1.3).
+fn opt_ttl(edns: &Edns) -> u32
+    ensures { result ≡ edns.now.extended * 2 ^ 24 + edns.now.version * 2 ^ 16 + unit edns.now.dnssec_ok * 2 ^ 15 }
+{
+    u32::from(edns.extended) * 16777216
+        + u32::from(edns.version) * 65536
+        + u32::from(edns.dnssec_ok) * 32768
+}
+
+/// How many bytes a question takes.
+pub(crate) fn question_len(question: &Question) -> usize
+    ensures is { result ≡ length (question_bytes question.now) }
+    ensures short { result ≤ 259 }
+{
+    name_len(&question.name) + 4
+}
+
+/// How many bytes a record takes.
+pub(crate) fn record_len(one: &Record) -> u128
+    ensures is { result ≡ length (record_bytes one.now) }
+    ensures most { result ≤ 265 + length (data_bytes one.now.rdata) }
+{
+    name_len(&one.name) as u128 + 10 + data_len(&one.rdata) as u128
+}
+
+/// How many bytes the OPT takes.
+pub(crate) fn opt_len(edns: &Option<Edns>) -> usize
+    ensures is { result ≡ length (records_bytes (opt_records edns.now)) }
+    ensures short { result ≤ 11 }
+{
+    match edns {
+        None => 0,
+        Some(_) => 11,
+    }
+}
+
+/// How many bytes a name takes.
+#[tactic(auto, using(crate::proofs::Lengths::length_name_bytes))]
+pub(crate) fn name_len(name: &Name) -> usize
+    ensures is { result ≡ length (name_bytes name.now) }
+    ensures short { result ≤ 255 }
+{
+    name.labels();
+    name.len()
+}
+
+/// Writes a number in two bytes.
+pub(crate) fn put_u16(out: &mut Vec<u8>, number: u16) -> Result<(), OutOfMemory>
+    ensures { OnOk result (out.new.items ≡ out.old.items ++ to_be_bytes w16 number) }
+{
+    out.extend_from_slice(&number.to_be_bytes())?;
+    Ok(())
+}
+
+/// Writes the lowest sixteen bits of a count.
+fn put_count(out: &mut Vec<u8>, count: u128) -> Result<(), OutOfMemory>
+    ensures { OnOk result (out.new.items ≡ out.old.items ++ to_be_bytes w16 count) }
+{
+    put_u16(out, (count % 65536) as u16)
+}
+
+/// Writes a number in four bytes.
+pub(crate) fn put_u32(out: &mut Vec<u8>, number: u32) -> Result<(), OutOfMemory>
+    ensures { OnOk result (out.new.items ≡ out.old.items ++ to_be_bytes w32 number) }
+{
+    out.extend_from_slice(&number.to_be_bytes())?;
+    Ok(())
+}
