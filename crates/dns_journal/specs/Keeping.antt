@@ -1,0 +1,34 @@
+-- What the calls of a keeper do to its rows, where it tells them afterwards, and to its count of faults.
+use Rattle.std.specs.Prelude.{◌≡◌, ℕ, ℤ, ◌≤◌, List, [], Option, Some, None, IfNone, Result, IsErrOf}
+use Rattle.dns_wire.specs.Edge.{Rose}
+use Rattle.dns_wire.specs.declared.record.Record.{Record}
+use Rattle.dns_journal.specs.declared.row.Row.{Row}
+use Rattle.dns_journal.specs.declared.keeper.KeepFault.{KeepFault}
+use Rattle.dns_journal.specs.declared.keeper.KeepFault.TheVariants.{Failed}
+use Rattle.dns_journal.specs.Rows.{appended, first_from, AreAscending}
+
+-- the rows before and after: where they are told afterwards they were told before, and a batch came to them
+abbrev pub GrowsByBatch : Option (List Row) → Option (List Row) → ℕ → ℕ → ℕ → List Record → Type 0
+GrowsByBatch before None client serial moment records = Unit {0}
+GrowsByBatch None (Some after) client serial moment records = ⊥
+GrowsByBatch (Some before) (Some after) client serial moment records = after ≡ appended before client serial moment records
+
+-- told rows have ascending ids
+abbrev pub TellsAscending : Option (List Row) → Type 0
+TellsAscending None = Unit {0}
+TellsAscending (Some rows) = AreAscending rows
+
+-- the row with the least id from this one on, or that there is none
+abbrev pub IsRowFrom : Option (List Row) → ℤ → Option Row → Type 0
+IsRowFrom None id found = Unit {0}
+IsRowFrom (Some rows) id found = found ≡ first_from id rows
+
+-- there are no rows where none was found
+abbrev pub IsEmptyAtNone : Option (List Row) → Option Row → Type 0
+IsEmptyAtNone None found = Unit {0}
+IsEmptyAtNone (Some rows) found = IfNone found (rows ≡ [])
+
+-- the count of faults never falls, and a call failed only where it rose
+pub record HasCause {T : Type 0} (before now : ℕ) (result : Result T KeepFault) : Type 0 where
+  pub later : before ≤ now
+  pub failed : IsErrOf result Failed → Rose before now
