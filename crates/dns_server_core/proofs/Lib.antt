@@ -1,0 +1,4 @@
+pub mod Running
+pub mod Opened
+pub mod Owing
+pub mod Replying

@@ -1,0 +1,17 @@
+use Rattle.dns_server_core.proofs.Replying.{OwesBytes-one, OwesBytes-header, OwesBytes-limit, OwesBytes-malformed, OwesBytes-silent}
+use Rattle.dns_server_core.proofs.laws.owed_replies.Goals as goal
+
+pub returns-clause-one : goal.returns-clause-one
+returns-clause-one c = OwesBytes-one c.standing_messages.ensures.messages c.written_replies.ensures.one
+
+pub returns-clause-header : goal.returns-clause-header
+returns-clause-header c = OwesBytes-header c.written_replies.ensures.header
+
+pub returns-clause-limit : goal.returns-clause-limit
+returns-clause-limit c = OwesBytes-limit c.standing_messages.ensures.messages c.written_replies.ensures.short
+
+pub returns-clause-malformed : goal.returns-clause-malformed
+returns-clause-malformed c = OwesBytes-malformed c.written_replies.ensures.short
+
+pub returns-clause-silent : goal.returns-clause-silent
+returns-clause-silent c = OwesBytes-silent c.written_replies.ensures.header

@@ -1,0 +1,206 @@
+//! A zone beside the journal that it stands for.
+
+ghost use Rattle.std.specs.Prelude.{◌≡◌, ◌≤◌, ◌<◌, ◌^◌, length, ℕ, IfOk, OnErr, IfErr, IfSome, IsErrOf, Some, Option};
+ghost use Rattle.dns_zone.specs.Zone.{serial_of};
+ghost use Rattle.dns_wire.specs.Edge.{Keeps};
+ghost use Rattle.dns_wire.specs.WireFormat.{AreShort};
+ghost use Rattle.dns_server_core.specs.Book.{HasRows, opening_of, Settles};
+ghost use Rattle.dns_server_core.specs.Opening.{HadNoRow, Opens, OpensNot, faults_of};
+
+use crate::ask::{Ask, Settled};
+use crate::owed::owed_bytes;
+use dns_journal::{KeepFault, Keeper};
+use dns_wire::{Data, Name, OutOfMemory, Record, Records};
+use dns_zone::{ReplayKind, Zone};
+use std::alloc::Global;
+use std::marker::Model;
+
+/// A zone, and the keeper of the journal that it stands for.
+#[derive(Drop)]
+pub struct Book<K: Keeper> {
+    keeper: K,
+    zone: Zone,
+    allow_update: bool,
+    row_count: u64,
+    alloc: Global,
+}
+
+impl<K: Keeper> Model for Book<K> {
+    ghost use Rattle.dns_server_core.specs.Book.{SeenOf, HasRows};
+
+    ghost Value = { SeenOf K };
+
+    ghost view = { λ b. record { keeper = b.keeper; zone = b.zone; allow_update = b.allow_update; row_count = b.row_count } };
+
+    ghost invariant = { λ b. HasRows (K.rows b.keeper) b.row_count };
+}
+
+/// Why a book was not opened.
+#[derive(Clone, Copy, Debug, PartialEq, Eq)]
+pub enum OpenKind {
+    /// The journal is no zone's from this row on. For now no journal with rows is read back: its first row is named.
+    Recovery {
+        /// The row's id, or 0.
+        row: i64,
+        /// What is wrong with it.
+        kind: ReplayKind,
+    },
+    /// The keeper failed, and counted it.
+    KeeperFault,
+    /// The journal has no rows, and there is no zone to begin it with.
+    NoZone,
+    /// Memory ran out.
+    OutOfMemory,
+}
+
+/// Why a book was not opened, and the keeper, whose rows are as before.
+#[derive(Drop)]
+pub struct OpenFault<K> {
+    /// The cause.
+    pub kind: OpenKind,
+    /// What was handed in.
+    pub keeper: K,
+}
+
+impl<K: Keeper> Book<K> {
+    /// Opens a journal. One without rows is begun, in one append at this moment (milliseconds, below 2^47), with a
+    /// snapshot row and the zone's records, all with the SOA's serial and client 0. `allow_update` says whether
+    /// updates are let in (RFC 2136 3.3).
+    pub fn open(
+        alloc: Global,
+        mut keeper: K,
+        origin: Name,
+        allow_update: bool,
+        moment: u64,
+        zone: Option<Zone>,
+    ) -> Result<Book<K>, OpenFault<K>>
+        requires moment { moment < 2 ^ 47 }
+        requires origin { IfSome zone (λ z. z.origin ≡ origin) }
+        ensures ok { IfOk result (Opens (K.rows keeper) K.rows zone allow_update moment) }
+        ensures err { IfErr result (λ f. OpensNot (K.rows keeper) (K.rows f.keeper) (K.faults keeper) (K.faults f.keeper) zone f.kind) }
+        ensures kept { IfErr result (λ f. Keeps (K.rows keeper) (K.rows f.keeper)) }
+        ensures later { K.faults keeper ≤ faults_of K.faults result }
+    {
+        match keeper.row_from(i64::MIN) {
+            Ok(None) => match zone {
+                Some(zone) => begin(alloc, keeper, allow_update, moment, zone),
+                None => refuse(OpenKind::NoZone, keeper),
+            },
+            Ok(Some(row)) => refuse(
+                OpenKind::Recovery {
+                    row: row.id,
+                    kind: ReplayKind::NotBuilt,
+                },
+                keeper,
+            ),
+            Err(KeepFault::Failed) => refuse(OpenKind::KeeperFault, keeper),
+            Err(KeepFault::OutOfMemory) => refuse(OpenKind::OutOfMemory, keeper),
+        }
+    }
+
+    /// Settles one message at its moment: gives the reply that it is owed, within its limit, and what it did to the
+    /// journal. Where memory ran out, nothing has changed.
+    pub fn settle(&mut self, ask: &Ask) -> Result<Settled, OutOfMemory>
+        requires moment { ask.now.at < 2 ^ 47 }
+        requires bytes { length ask.now.bytes ≤ 65535 }
+        ensures ok { IfOk result (λ settled. Settles self.old ask.now settled self.new) }
+        ensures err { OnErr result (self.new ≡ self.old) }
+    {
+        let reply = owed_bytes(self.alloc, &self.zone, ask)?;
+        Ok(Settled {
+            reply,
+            length: self.row_count,
+            receipt: None,
+        })
+    }
+
+    /// The serial of the zone's SOA.
+    pub fn serial(&self) -> u32
+        ensures { result ≡ serial_of self.now.zone.records }
+    {
+        self.zone.serial()
+    }
+
+    /// How many rows the journal has.
+    pub fn journal_len(&self) -> u64
+        ensures { result ≡ self.now.row_count }
+    {
+        self.row_count
+    }
+
+    /// The keeper's count of faults.
+    pub fn fault_count(&self) -> u64
+        ensures { result ≡ K.faults self.now.keeper }
+    {
+        self.keeper.fault_count()
+    }
+
+    /// Gives the keeper back.
+    pub fn into_keeper(self) -> K
+        ensures keeper { result ≡ self.keeper }
+        ensures rows { HasRows (K.rows result) self.row_count }
+    {
+        let Book {
+            keeper,
+            zone: _,
+            allow_update: _,
+            row_count: _,
+            alloc: _,
+        } = self;
+        keeper
+    }
+}
+
+fn refuse<K: Keeper>(kind: OpenKind, keeper: K) -> Result<Book<K>, OpenFault<K>>
+    ensures { IsErrOf result (record { kind = kind; keeper = keeper }) }
+{
+    Err(OpenFault { kind, keeper })
+}
+
+/// Begins a journal that has no rows.
+fn begin<K: Keeper>(
+    alloc: Global,
+    mut keeper: K,
+    allow_update: bool,
+    moment: u64,
+    zone: Zone,
+) -> Result<Book<K>, OpenFault<K>>
+    requires moment { moment < 2 ^ 47 }
+    requires empty { HadNoRow (K.rows keeper) (K.rows keeper) }
+    ensures ok { IfOk result (Opens (K.rows keeper) K.rows (Some zone) allow_update moment) }
+    ensures err { IfErr result (λ f. OpensNot (K.rows keeper) (K.rows f.keeper) (K.faults keeper) (K.faults f.keeper) (Some zone) f.kind) }
+    ensures kept { IfErr result (λ f. Keeps (K.rows keeper) (K.rows f.keeper)) }
+    ensures later { K.faults keeper ≤ faults_of K.faults result }
+{
+    let Ok(records) = opening_of(alloc, &zone) else {
+        return refuse(OpenKind::OutOfMemory, keeper);
+    };
+    match keeper.append(0, zone.serial(), moment, &records) {
+        Ok(()) => Ok(Book {
+            keeper,
+            row_count: records.len() as u64,
+            zone,
+            allow_update,
+            alloc,
+        }),
+        Err(KeepFault::Failed) => refuse(OpenKind::KeeperFault, keeper),
+        Err(KeepFault::OutOfMemory) => refuse(OpenKind::OutOfMemory, keeper),
+    }
+}
+
+/// The records that a journal of this zone begins with.
+fn opening_of(alloc: Global, zone: &Zone) -> Result<Records, OutOfMemory>
+    ensures records { IfOk result (λ records. records ≡ opening_of zone.now) }
+    ensures short { IfOk result AreShort }
+{
+    let mut records = Records::new(alloc);
+    records.push(Record {
+        name: zone.origin().copy()?,
+        rtype: 252,
+        class: 1,
+        ttl: 0,
+        rdata: Data::Empty,
+    })?;
+    records.append(zone.records(alloc)?)?;
+    Ok(records)
+}
