@@ -1,0 +1,7 @@
+mod Digits
+mod FirstWord
+mod Flushed
+mod Prefixes
+mod TextsWritten
+mod Told
+mod Ending

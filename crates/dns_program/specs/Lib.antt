@@ -1,0 +1,10 @@
+pub mod Lines
+pub mod World
+pub mod Status
+pub mod Words
+pub mod EventText
+pub mod EventReading
+pub mod Steps
+pub mod Ends
+pub mod Parts
+pub mod Fronts

@@ -1,0 +1,34 @@
+-- The lines that the program writes.
+use Rattle.std.specs.Prelude.{ℕ, ◌++◌, List, codes}
+use Rattle.std.specs.List.{flat_map}
+use Rattle.std.specs.Fmt.{decimal}
+use Rattle.std.specs.Int.{w32, w128, to_be_bytes}
+use Rattle.hex.specs.Hex.{encode_lower}
+use Rattle.dns_wire.specs.declared.peer.Ip.{Ip}
+use Rattle.dns_wire.specs.declared.peer.Ip.TheVariants.{V4, V6}
+use Rattle.dns_server_core.specs.declared.event.Out.{Out}
+use Rattle.dns_server_core.specs.declared.event.Receiver.{Receiver}
+use Rattle.dns_server_core.specs.declared.event.Receiver.TheVariants as to
+
+-- an address: eight small hex digits, or thirty-two
+abbrev pub ip_text : Ip → List ℕ
+ip_text (V4 n) = encode_lower (to_be_bytes w32 n)
+ip_text (V6 n) = encode_lower (to_be_bytes w128 n)
+
+-- where a reply goes: `C` and a connection's number, or `P` and an address and a port
+abbrev pub receiver_text : Receiver → List ℕ
+receiver_text (to.Conn number) = codes "C " ++ decimal number
+receiver_text (to.Peer peer) = codes "P " ++ (ip_text peer.ip ++ (codes " " ++ decimal peer.port))
+
+-- the line of a reply: where it goes, and its bytes in small hex digits
+abbrev pub out_line : Out → List ℕ
+out_line out = receiver_text out.to ++ (codes " " ++ (encode_lower out.bytes ++ codes "\n"))
+
+-- the line of a name and its number
+abbrev pub number_line : List ℕ → ℕ → List ℕ
+number_line name n = name ++ (codes " " ++ (decimal n ++ codes "\n"))
+
+-- the lines of the replies, and then the zone's serial, how many rows the journal has, and how many connections are open
+abbrev pub output_lines : List Out → ℕ → ℕ → ℕ → List ℕ
+output_lines outs serial rows open_ =
+    flat_map out_line outs ++ number_line (codes "serial") serial ++ number_line (codes "journal_len") rows ++ number_line (codes "open") open_

@@ -1,0 +1,132 @@
+//! How a run of the program ends.
+
+ghost use Rattle.std.specs.Prelude.{◌≡◌, IfOk, string_bytes};
+ghost use Rattle.dns_program.specs.Status.{status_number, zone_kind_text, replay_kind_text, refusal_line, read_status};
+
+use crate::reading::ReadFault;
+use dns_wire::OutOfMemory;
+use dns_zone::{ReplayKind, ZoneTextKind};
+use std::alloc::Global;
+
+/// How a run ended. Of several causes the first in the order of the work is told: the words, the first look at the
+/// journal, the zone text, the event text, the opening of the journal, the output.
+#[derive(Clone, Copy, Debug, PartialEq, Eq)]
+pub enum Status {
+    /// The output was written.
+    Ok,
+    /// The words of the command line are no command.
+    Usage,
+    /// The zone text is no zone.
+    ZoneText {
+        /// The line on which the faulty entry begins, from 1, or 0 at the end of the text.
+        line: u64,
+        /// What is wrong.
+        kind: ZoneTextKind,
+    },
+    /// The event text has a line that is no event line.
+    EventLine {
+        /// The first such line, from 1.
+        line: u64,
+    },
+    /// The rows of the journal are refused.
+    Recovery {
+        /// The id of the first row that is refused.
+        row: i64,
+        /// Why it is.
+        kind: ReplayKind,
+    },
+    /// The zone text or the event text could not be read.
+    ReadFault,
+    /// The output could not be written.
+    WriteFault,
+    /// The journal could not be read or opened.
+    KeeperFault,
+    /// The zone text or the event text is longer than allowed.
+    TooLong,
+    /// Memory ran out.
+    OutOfMemory,
+}
+
+impl Status {
+    /// The status that the process ends with, from 0 to 10; 4 is not in use.
+    pub fn number(&self) -> u8
+        ensures { result ≡ status_number self.now }
+    {
+        match self {
+            Status::Ok => 0,
+            Status::Usage => 1,
+            Status::ZoneText { .. } => 2,
+            Status::EventLine { .. } => 3,
+            Status::Recovery { .. } => 5,
+            Status::ReadFault => 6,
+            Status::WriteFault => 7,
+            Status::KeeperFault => 8,
+            Status::TooLong => 9,
+            Status::OutOfMemory => 10,
+        }
+    }
+}
+
+impl From<ReadFault> for Status {
+    ghost from_gives = { λ fault status. status ≡ read_status fault };
+
+    fn from(fault: ReadFault) -> Status {
+        match fault {
+            ReadFault::Failed => Status::ReadFault,
+            ReadFault::TooLong => Status::TooLong,
+            ReadFault::OutOfMemory => Status::OutOfMemory,
+        }
+    }
+}
+
+/// What a run leaves.
+#[derive(Debug, Drop)]
+pub struct Ended<K> {
+    /// How it ended.
+    pub status: Status,
+    /// The keeper of the journal that it was handed.
+    pub keeper: Option<K>,
+}
+
+/// The line that a refusal writes, with its line end. It is empty where the run was not refused, where the output
+/// failed, and where memory ran out.
+pub fn refusal_line(alloc: Global, status: &Status) -> Result<String, OutOfMemory>
+    ensures { IfOk result (λ line. string_bytes line ≡ refusal_line status.now) }
+{
+    let line = match status {
+        Status::Ok | Status::WriteFault | Status::OutOfMemory => String::new(alloc),
+        Status::Usage => String::from_str(alloc, "usage\n")?,
+        Status::ZoneText { line, kind } => {
+            let kind = zone_kind_text(*kind);
+            format!(in alloc; "zone text line {line}: {kind}\n")?
+        }
+        Status::EventLine { line } => format!(in alloc; "event line {line}\n")?,
+        Status::Recovery { row, kind } => {
+            let kind = replay_kind_text(*kind);
+            format!(in alloc; "journal row {row}: {kind}\n")?
+        }
+        Status::ReadFault => String::from_str(alloc, "read fault\n")?,
+        Status::KeeperFault => String::from_str(alloc, "keeper fault\n")?,
+        Status::TooLong => String::from_str(alloc, "too long\n")?,
+    };
+    Ok(line)
+}
+
+fn zone_kind_text(kind: ZoneTextKind) -> &'static str
+    ensures { result.now ≡ zone_kind_text kind }
+{
+    match kind {
+        ZoneTextKind::RecordType => "Type",
+        ZoneTextKind::OutOfZone => "OutOfZone",
+        ZoneTextKind::NotOneSoa => "NotOneSoa",
+        ZoneTextKind::AliasBesideOther => "AliasBesideOther",
+    }
+}
+
+fn replay_kind_text(kind: ReplayKind) -> &'static str
+    ensures { result.now ≡ replay_kind_text kind }
+{
+    match kind {
+        ReplayKind::NotBuilt => "not built",
+    }
+}
