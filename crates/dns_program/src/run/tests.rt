@@ -240,11 +240,9 @@ fn failing_sinks(rt: HostRuntime) -> Result<(), Fail> {
             &mut out,
         )?;
         assert_eq!(rt; ended.status, Status::WriteFault, "{call}");
-        assert_eq!(rt;
-            out.taken().as_slice(),
-            &output.as_bytes()[..count],
-            "{call}"
-        );
+        assert_eq!(rt; out.taken().len(), count, "{call}");
+        let front = output.as_bytes().starts_with(out.taken().as_slice());
+        assert!(rt; front, "{call}");
     }
     let mut zone = source(alloc, "", 0)?;
     let mut events = source(alloc, WWW, 0)?;
