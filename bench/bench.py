@@ -1,10 +1,14 @@
 #!/usr/bin/env python3
-"""Times the built program: one query to a zone of many names, and many queries to the example zone.
+"""Times the built program: one query to a zone of many names, many queries to the example zone, and the messages of
+the tests over and over, whose instructions are counted too where valgrind is there.
 
 Uses the standard library alone, and no network. Each run of the program is bounded in time.
 """
 
+import itertools
 import os
+import re
+import shutil
 import subprocess
 import sys
 import tempfile
@@ -14,7 +18,10 @@ TOP = os.path.dirname(os.path.dirname(os.path.abspath(__file__)))
 PROGRAM = os.path.join(TOP, "crates", "dns_program", "out", "dns_program")
 NAMES = 10_000
 QUERIES = 20_000
-BOUND = 120  # seconds
+MESSAGES = 100_000
+AT_ONCE = 20_000  # messages in one event text, which has a greatest length
+BOUND = 300  # seconds
+TABLE = os.path.join(TOP, "crates", "dns_wire", "src", "tests.rt")
 SOA = "example.com. 3600 IN SOA ns.example.com. hostmaster.example.com. 7 3600 600 86400 300"
 
 
@@ -28,16 +35,56 @@ def line(moment, labels):
     return f"D {moment} 7f000001 5300 {query(labels, moment % 65536).hex()}\n"
 
 
-def timed(title, zone, events, count, unit):
-    """Runs the program, and prints how long it took and how many things it did a second."""
+def seconds_of(zone, events):
+    """Runs the program, and gives how long it took. Each line is answered."""
     command = [PROGRAM, "events", "example.com.", f"--zone={zone}"]
     start = time.perf_counter()
     run = subprocess.run(command, input=events.encode(), stdout=subprocess.PIPE, timeout=BOUND)
     seconds = time.perf_counter() - start
     replies = sum(1 for one in run.stdout.splitlines() if one.startswith(b"P "))
     if run.returncode != 0 or replies != events.count("\n"):
-        sys.exit(f"{title}: status {run.returncode}, {replies} replies")
+        sys.exit(f"status {run.returncode}, {replies} replies to {events.count(chr(10))} lines")
+    return seconds
+
+
+def report(title, seconds, count, unit):
     print(f"{title}: {seconds:.3f} s, {count / seconds:,.0f} {unit} a second")
+
+
+def messages():
+    """The messages of the tests of the wire format, each as a request: with QR clear, so that it is read and answered."""
+    with open(TABLE, encoding="utf-8") as text:
+        table = re.search(r'const MESSAGES: &str = "\\\n(.*?)"', text.read(), re.S).group(1)
+    for row in table.splitlines():
+        hexed = row.split()[1]
+        if len(hexed) >= 24:
+            message = bytearray.fromhex(hexed)
+            message[2] &= 0x7F
+            yield message.hex()
+
+
+def lines_of(table, count):
+    return "".join(f"D 0 7f000001 5300 {one}\n" for one in itertools.islice(itertools.cycle(table), count))
+
+
+def instructions(zone, events, folder):
+    """How many instructions the program takes."""
+    counts = os.path.join(folder, "callgrind.out")
+    command = ["valgrind", "--tool=callgrind", f"--callgrind-out-file={counts}", PROGRAM, "events", "example.com."]
+    command.append(f"--zone={zone}")
+    subprocess.run(command, input=events.encode(), capture_output=True, timeout=BOUND, check=True)
+    with open(counts, encoding="ascii") as text:
+        return int(re.search(r"^(?:summary|totals): (\d+)", text.read(), re.M).group(1))
+
+
+def time_messages(zone, folder):
+    table = list(messages())
+    events = lines_of(table, AT_ONCE)
+    seconds = sum(seconds_of(zone, events) for _ in range(MESSAGES // AT_ONCE))
+    report(f"messages of the tests, {MESSAGES:,}", seconds, MESSAGES, "messages")
+    if shutil.which("valgrind"):
+        used = instructions(zone, events, folder) - instructions(zone, "", folder)
+        print(f"messages of the tests: {used // AT_ONCE:,} instructions a message, with its lines of text")
 
 
 def main():
@@ -50,10 +97,11 @@ def main():
             for number in range(NAMES - 1):
                 text.write(f"h{number}.example.com. 3600 IN A 10.0.{number // 256 % 256}.{number % 256}\n")
         last = line(0, [f"h{NAMES - 2}", "example", "com"])
-        timed(f"a zone of {NAMES:,} names, one query", large, last, NAMES, "zone lines")
-    small = os.path.join(TOP, "examples", "example.com.zone")
-    many = "".join(line(moment, ["www", "example", "com"]) for moment in range(QUERIES))
-    timed(f"the example zone, {QUERIES:,} queries", small, many, QUERIES, "event lines")
+        report(f"a zone of {NAMES:,} names, one query", seconds_of(large, last), NAMES, "zone lines")
+        small = os.path.join(TOP, "examples", "example.com.zone")
+        many = "".join(line(moment, ["www", "example", "com"]) for moment in range(QUERIES))
+        report(f"the example zone, {QUERIES:,} queries", seconds_of(small, many), QUERIES, "event lines")
+        time_messages(small, folder)
 
 
 if __name__ == "__main__":
