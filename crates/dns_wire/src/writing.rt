@@ -1,12 +1,13 @@
 //! Writing the parts of messages, all names uncompressed (RFC 1035 4.1).
 
-ghost use Rattle.std.specs.Prelude.{◌≡◌, ◌++◌, ◌+◌, ◌*◌, ◌≤◌, ◌<◌, ◌^◌, length, OnOk};
+ghost use Rattle.std.specs.Prelude.{◌≡◌, ◌++◌, ◌+◌, ◌*◌, ◌≤◌, ◌<◌, ◌^◌, length, OnOk, IfSome};
 ghost use Rattle.std.specs.Int.{w16, w32, to_be_bytes};
-ghost use Rattle.dns_wire.specs.Name.{name_bytes};
+ghost use Rattle.dns_wire.specs.Name.{IsName, name_bytes};
 ghost use Rattle.dns_wire.specs.Header.{unit, flag_bytes, header_bytes};
 ghost use Rattle.dns_wire.specs.Edns.{opt_record, opt_records};
 ghost use Rattle.dns_wire.specs.WireFormat.{data_bytes, record_bytes, records_bytes, question_bytes, questions_bytes};
 ghost use Rattle.dns_wire.specs.MessageBytes.{counted, message_bytes};
+ghost use Rattle.dns_wire.specs.ReadBack.{IsQuestion, IsRecord, IsEdns};
 ghost use Rattle.dns_wire.specs.declared.message.Message.{Message};
 
 use crate::edns::Edns;
@@ -175,6 +176,7 @@ fn opt_ttl(edns: &Edns) -> u32
 /// How many bytes a question takes.
 pub(crate) fn question_len(question: &Question) -> usize
     ensures is { result ≡ length (question_bytes question.now) }
+    ensures kept { IsQuestion question.now }
     ensures short { result ≤ 259 }
 {
     name_len(&question.name) + 4
@@ -183,6 +185,7 @@ pub(crate) fn question_len(question: &Question) -> usize
 /// How many bytes a record takes.
 pub(crate) fn record_len(one: &Record) -> u128
     ensures is { result ≡ length (record_bytes one.now) }
+    ensures kept { IsRecord one.now }
     ensures most { result ≤ 265 + length (data_bytes one.now.rdata) }
 {
     name_len(&one.name) as u128 + 10 + data_len(&one.rdata) as u128
@@ -191,18 +194,28 @@ pub(crate) fn record_len(one: &Record) -> u128
 /// How many bytes the OPT takes.
 pub(crate) fn opt_len(edns: &Option<Edns>) -> usize
     ensures is { result ≡ length (records_bytes (opt_records edns.now)) }
+    ensures kept { IfSome edns.now IsEdns }
     ensures short { result ≤ 11 }
 {
     match edns {
         None => 0,
-        Some(_) => 11,
+        Some(edns) => present_opt_len(*edns),
     }
+}
+
+fn present_opt_len(edns: Edns) -> usize
+    ensures is { result ≡ length (record_bytes (opt_record edns)) }
+    ensures kept { IsEdns edns }
+    ensures short { result ≡ 11 }
+{
+    11
 }
 
 /// How many bytes a name takes.
 #[tactic(auto, using(crate::proofs::Lengths::length_name_bytes))]
 pub(crate) fn name_len(name: &Name) -> usize
     ensures is { result ≡ length (name_bytes name.now) }
+    ensures name { IsName name.now }
     ensures short { result ≤ 255 }
 {
     name.labels();
