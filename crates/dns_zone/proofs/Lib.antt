@@ -6,3 +6,7 @@ pub mod Putting
 pub mod Rivals
 pub mod Readings
 pub mod Placing
+pub mod AllTypes
+pub mod Walk
+pub mod Aliases
+pub mod Fewest

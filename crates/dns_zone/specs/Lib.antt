@@ -4,3 +4,6 @@ pub mod Lines
 pub mod Words
 pub mod Entries
 pub mod ZoneText
+pub mod View
+pub mod Look
+pub mod Lookup

@@ -59,6 +59,13 @@ impl Zone {
         self.records.len()
     }
 
+    /// The records themselves.
+    pub(crate) fn as_slice(&self) -> &[Record]
+        ensures { result.now ≡ self.now.records }
+    {
+        &self.records
+    }
+
     /// All records, in their order.
     pub fn records(&self, alloc: Global) -> Result<Records, OutOfMemory>
         ensures records { IfOk result (λ records. records ≡ self.now.records) }
