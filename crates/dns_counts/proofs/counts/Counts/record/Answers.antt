@@ -1,0 +1,54 @@
+use Rattle.dns_counts.specs.Counters.{counters}
+use Rattle.dns_counts.specs.Labels.{codes_of, lookups, classes, types}
+use Rattle.dns_counts.proofs.Counted.{counted-none, known-none, grown-nil}
+use Rattle.dns_counts.proofs.counts.Counts.record.Goals as goal
+
+pub returns-in-Some : goal.returns-in-Some
+unfolding counters
+returns-in-Some c =
+    rw (
+      ← c.self.view_is,
+      c.in-Some.is,
+      grown-nil c.self.inside.records,
+      grown-nil c.self.inside.modified,
+      c.raise_each.ensures,
+      c.flags_of.ensures,
+      c.raise_each-2.ensures,
+      c.flags_in.ensures,
+      c.raise_each-3.ensures,
+      c.protocol_units.ensures,
+      c.count_code.ensures,
+      c.from.ensures,
+      c.count_known.ensures,
+      c.count_known-in-Some.ensures,
+      c.count_code-in-Some.ensures,
+      c.count_code-in-Some-2.ensures,
+      c.count_types.ensures,
+      c.as_slice.ensures,
+      c.count_classes.ensures,
+      c.as_slice-in-Some.ensures,
+    )
+
+pub returns-in-None : goal.returns-in-None
+unfolding counters
+returns-in-None c =
+    rw (
+      ← c.self.view_is,
+      c.in-None.is,
+      grown-nil c.self.inside.records,
+      grown-nil c.self.inside.modified,
+      counted-none (codes_of types) c.self.inside.request_types,
+      counted-none (codes_of types) c.self.inside.response_types,
+      counted-none (codes_of classes) c.self.inside.request_classes,
+      counted-none (codes_of classes) c.self.inside.response_classes,
+      known-none (codes_of lookups) c.self.inside.lookups,
+      c.raise_each.ensures,
+      c.flags_of.ensures,
+      c.raise_each-2.ensures,
+      c.flags_in.ensures,
+      c.raise_each-3.ensures,
+      c.protocol_units.ensures,
+      c.count_code.ensures,
+      c.from.ensures,
+      c.count_known.ensures,
+    )

@@ -1,0 +1,5 @@
+pub mod Counting
+pub mod Labels
+pub mod Counters
+pub mod Direction
+pub mod Totals

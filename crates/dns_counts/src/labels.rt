@@ -1,0 +1,166 @@
+//! The labels of the counters, and the codes that they stand for.
+
+ghost use Rattle.std.specs.Prelude.{◌≡◌, ◌≤◌, length, map};
+ghost use Rattle.dns_counts.specs.Labels.{unit, flags_of as units_of, flags_in as units_in, protocol_units as units_for};
+ghost use Rattle.dns_counts.specs.Counters.{count_at};
+
+use dns_wire::{Header, Protocol};
+
+pub(crate) const FLAGS: [&str; 6] = ["aa", "ad", "cd", "ra", "rd", "tc"];
+
+pub(crate) const OPERATION_CODES: [u16; 4] = [0, 2, 4, 5];
+
+pub(crate) const OPERATIONS: [&str; 5] = ["query", "status", "notify", "update", "unknown"];
+
+pub(crate) const RESPONSE_CODES: [u16; 12] = [0, 1, 2, 3, 4, 5, 6, 7, 8, 9, 10, 16];
+
+pub(crate) const RESPONSES: [&str; 21] = [
+    "no_error",
+    "form_error",
+    "serv_fail",
+    "nx_domain",
+    "not_imp",
+    "refused",
+    "yx_domain",
+    "yx_rrset",
+    "nx_rrset",
+    "not_auth",
+    "not_zone",
+    "bad_vers",
+    "bad_sig",
+    "bad_key",
+    "bad_time",
+    "bad_mode",
+    "bad_name",
+    "bad_alg",
+    "bad_trunc",
+    "bad_cookie",
+    "unknown",
+];
+
+pub(crate) const LOOKUP_CODES: [u16; 2] = [0, 3];
+
+pub(crate) const LOOKUPS: [&str; 2] = ["true", "false"];
+
+pub(crate) const CLASS_CODES: [u16; 5] = [1, 3, 4, 254, 255];
+
+pub(crate) const CLASSES: [&str; 6] = ["in", "ch", "hs", "none", "any", "unknown"];
+
+pub(crate) const TYPE_CODES: [u16; 38] = [
+    0, 1, 2, 5, 6, 10, 12, 13, 15, 16, 24, 25, 28, 33, 35, 37, 41, 43, 44, 46, 47, 48, 50, 51, 52,
+    53, 59, 60, 61, 62, 64, 65, 250, 251, 252, 255, 257, 65305,
+];
+
+pub(crate) const TYPES: [&str; 39] = [
+    "zero",
+    "a",
+    "ns",
+    "cname",
+    "soa",
+    "null",
+    "ptr",
+    "hinfo",
+    "mx",
+    "txt",
+    "sig",
+    "key",
+    "aaaa",
+    "srv",
+    "naptr",
+    "cert",
+    "opt",
+    "ds",
+    "sshfp",
+    "rrsig",
+    "nsec",
+    "dnskey",
+    "nsec3",
+    "nsec3param",
+    "tlsa",
+    "smimea",
+    "cds",
+    "cdnskey",
+    "openpgpkey",
+    "csync",
+    "svcb",
+    "https",
+    "tsig",
+    "ixfr",
+    "axfr",
+    "any",
+    "caa",
+    "aname",
+    "unknown",
+];
+
+pub(crate) const RECORDS: [&str; 1] = ["file"];
+
+pub(crate) const MODIFICATIONS: [&str; 3] = ["added", "updated", "deleted"];
+
+pub(crate) const PROTOCOLS: [&str; 6] = ["udp", "tcp", "tls", "https", "quic", "http3"];
+
+/// The label of a counter that has none.
+pub(crate) const NO_LABELS: [&str; 1] = [""];
+
+/// 1 for a flag that is set.
+fn one_if(flag: bool) -> u64
+    ensures { result ≡ unit flag }
+{
+    if flag { 1 } else { 0 }
+}
+
+/// 1 for each flag that a header has, in the order of the labels.
+pub(crate) fn flags_of(header: &Header) -> [u64; 6]
+    ensures { result ≡ units_of header.now }
+{
+    [
+        one_if(header.aa),
+        one_if(header.ad),
+        one_if(header.cd),
+        one_if(header.ra),
+        one_if(header.rd),
+        one_if(header.tc),
+    ]
+}
+
+/// The same from the third and fourth byte of a message.
+pub(crate) fn flags_in(word: u16) -> [u64; 6]
+    ensures { result ≡ units_in word }
+{
+    let word = u64::from(word);
+    [
+        word / 0x0400 % 2,
+        word / 0x0020 % 2,
+        word / 0x0010 % 2,
+        word / 0x0080 % 2,
+        word / 0x0100 % 2,
+        word / 0x0200 % 2,
+    ]
+}
+
+/// 1 for the label of a transport.
+pub(crate) fn protocol_units(protocol: Protocol) -> [u64; 6]
+    ensures { result ≡ units_for protocol }
+{
+    match protocol {
+        Protocol::Udp => [1, 0, 0, 0, 0, 0],
+        Protocol::Tcp => [0, 1, 0, 0, 0, 0],
+        Protocol::Tls => [0, 0, 1, 0, 0, 0],
+        Protocol::Https => [0, 0, 0, 1, 0, 0],
+        Protocol::Quic => [0, 0, 0, 0, 1, 0],
+        Protocol::H3 => [0, 0, 0, 0, 0, 1],
+    }
+}
+
+/// The count at the place of a label.
+pub(crate) fn count_of_label(labels: &[&str], counts: &[u64], label: &str) -> Option<u64>
+    requires { length labels.now ≤ length counts.now }
+    ensures { result ≡ count_at (map (λ known. known.now) labels.now) counts.now label.now }
+{
+    for (place, known) in labels.iter().enumerate() {
+        if label == *known {
+            return Some(counts[place]);
+        }
+    }
+    None
+}
