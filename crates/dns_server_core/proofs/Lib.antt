@@ -2,3 +2,17 @@ pub mod Running
 pub mod Opened
 pub mod Owing
 pub mod Replying
+pub mod Counting
+pub mod FirstBits
+pub mod Fronts
+pub mod Pieces
+pub mod Hearing
+pub mod Together
+pub mod Order
+pub mod Turns
+pub mod Places
+pub mod Leaving
+pub mod Whole
+pub mod Listed
+pub mod ValidTests
+pub mod Recut

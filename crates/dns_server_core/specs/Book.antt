@@ -6,14 +6,18 @@ use Rattle.dns_journal.specs.declared.row.Row.{Row}
 use Rattle.dns_zone.specs.Zone.{Contents}
 use Rattle.dns_server_core.specs.declared.ask.Ask.{Ask}
 use Rattle.dns_server_core.specs.declared.ask.Settled.{Settled}
+use Rattle.dns_server_core.specs.Access.{Access}
 use Rattle.dns_server_core.specs.Owed.{OwesBytes}
+use Rattle.dns_server_core.specs.Counted.{counts_after}
+use Rattle.dns_wire.specs.Header.{header_of}
 
--- the keeper of the rows, the zone that they stand for, whether updates are let in, and how many rows there are
+-- the keeper of the rows, the zone that they stand for, whether updates are let in, how many rows there are, and what was counted
 pub record SeenOf (K : Type 0) : Type 0 where
   pub keeper : K
   pub zone : Contents
   pub allow_update : Bool
   pub row_count : ℕ
+  pub counts : List (List ℕ)
 
 -- there are so many rows, where they are told
 abbrev pub HasRows : Option (List Row) → ℕ → Type 0
@@ -28,9 +32,9 @@ snapshot_of origin = record { name = origin; rtype = 252; class = 1; ttl = 0; rd
 abbrev pub opening_of : Contents → List Record
 opening_of zone = snapshot_of zone.origin ∷ zone.records
 
--- one message is settled: its reply is what it is owed, and nothing changes
-pub record Settles {K : Type 0} (before : SeenOf K) (ask : Ask) (settled : Settled) (after : SeenOf K) : Type 0 where
-  pub reply : OwesBytes before.zone ask settled.reply
+-- one message is settled, where these networks say who is let in: its reply is what it is owed, it is counted, and nothing else changes
+pub record Settles {K : Type 0} (access : Access) (before : SeenOf K) (ask : Ask) (settled : Settled) (after : SeenOf K) : Type 0 where
+  pub reply : OwesBytes before.zone access ask settled.reply
   pub length : settled.length ≡ after.row_count
   pub receipt : settled.receipt ≡ None
-  pub same : after ≡ before
+  pub same : after ≡ record before { counts = counts_after access ask (header_of ask.bytes) reply.reply settled.reply before.counts }

@@ -1,6 +1,16 @@
+pub mod Bits
+pub mod Access
 pub mod Sources
 pub mod Owed
+pub mod Counted
 pub mod Book
 pub mod Opening
-pub mod Serving
 pub mod Runs
+pub mod Events
+pub mod Connections
+pub mod Valid
+pub mod ValidTest
+pub mod Steps
+pub mod Order
+pub mod Handing
+pub mod Serving

@@ -11,6 +11,7 @@ use Rattle.dns_server_core.specs.declared.book.OpenKind.{OpenKind}
 use Rattle.dns_server_core.specs.declared.book.OpenFault.{OpenFault}
 use Rattle.dns_server_core.specs.declared.book.OpenKind.TheVariants.{Recovery, KeeperFault, NoZone, OutOfMemory}
 use Rattle.dns_server_core.specs.Book.{SeenOf, opening_of}
+use Rattle.dns_server_core.specs.Counted.{counts_of_zone}
 
 -- there was no row, where the rows are told afterwards
 abbrev pub HadNoRow : Option (List Row) → Option (List Row) → Type 0
@@ -30,6 +31,7 @@ pub record Opens {K : Type 0} (before : Option (List Row)) (rows : K → Option 
   pub grown : GrowsByBatch before (rows book.keeper) 0 (serial_of book.zone.records) moment (opening_of book.zone)
   pub allow_update : book.allow_update ≡ allowed
   pub row_count : book.row_count ≡ length (opening_of book.zone)
+  pub counts : book.counts ≡ counts_of_zone book.zone.records
 
 -- why a journal was not opened
 abbrev pub OpensNot : Option (List Row) → Option (List Row) → ℕ → ℕ → Option Contents → OpenKind → Type 0

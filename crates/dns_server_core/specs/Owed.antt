@@ -9,13 +9,17 @@ use Rattle.dns_wire.specs.declared.question.Question.{Question}
 use Rattle.dns_wire.specs.declared.record.Record.{Record}
 use Rattle.dns_wire.specs.declared.reply.Reply.{Reply}
 use Rattle.dns_wire.specs.Header.{header_of}
-use Rattle.dns_wire.specs.Messages.{MessageAt}
+use Rattle.dns_wire.specs.Messages.{MessageAt, OneQuestionAt}
+use Rattle.dns_wire.specs.Standing.{ReadsOne}
 use Rattle.dns_wire.specs.Name.{is_at_or_below}
 use Rattle.dns_wire.specs.Written.{Written}
-use Rattle.dns_zone.specs.Zone.{Contents, set_of}
+use Rattle.dns_zone.specs.declared.lookup.Looked.{Looked}
+use Rattle.dns_zone.specs.Lookup.{lookup_of}
+use Rattle.dns_zone.specs.Zone.{Contents}
 use Rattle.dns_server_core.specs.declared.ask.Ask.{Ask}
 use Rattle.dns_server_core.specs.declared.owed.Request.{Request}
 use Rattle.dns_server_core.specs.Sources.{sanitized}
+use Rattle.dns_server_core.specs.Access.{Access, lets_in}
 
 -- the id of a reply: the request's, but 0 over QUIC (RFC 9250 4.2.1)
 abbrev pub id_for : Protocol → ℕ → ℕ
@@ -72,14 +76,13 @@ echoed (q ∷ r ∷ qs) = None
 abbrev pub is_foreign : Contents → Question → Bool
 is_foreign zone q = not (q.qclass == 1) || not (is_at_or_below q.name zone.origin) || (q.qtype == 251) || (q.qtype == 252)
 
--- the set that was asked for, as authoritative; NotImp (4) where it is empty
-abbrev pub set_reply : Request → Question → List Record → Reply
-set_reply request q [] = reply_to request 4 false (Some q) []
-set_reply request q (r ∷ rs) = reply_to request 0 true (Some q) (r ∷ rs)
+-- the reply of what the zone is looked up for (RFC 1034 4.3.2)
+abbrev pub looked_reply : Request → Question → Looked → Reply
+looked_reply request q looked = record (reply_to request looked.code looked.aa (Some q) looked.answers) { authority = looked.authority }
 
 -- the reply to one question: Refused (5) where it is foreign
 unfoldable pub question_reply : Contents → Request → Question → Reply
-question_reply zone request q = if is_foreign zone q then reply_to request 5 false (Some q) [] else set_reply request q (set_of zone.records q.name q.qtype)
+question_reply zone request q = if is_foreign zone q then reply_to request 5 false (Some q) [] else looked_reply request q (lookup_of zone q.name q.qtype)
 
 -- the reply to a query: FormErr (1) without exactly one question
 abbrev pub query_reply : Contents → Request → List Question → Reply
@@ -107,15 +110,24 @@ request_in (Some h) = if h.qr then None else Some h
 unfoldable pub request_of : Ask → Option Header
 request_of ask = if is_err (sanitized ask.source) then None else request_in (header_of ask.bytes)
 
--- the reply to a request: FormErr (1), no question and no OPT, where it is no message
-pub data OwesReply (zone : Contents) (ask : Ask) (h : Header) : Reply → Type 0 where
-  malformed : ((m : Message) → MessageAt ask.bytes m → ⊥) → OwesReply zone ask h (reply_to (record { protocol = ask.protocol; header = h; edns = None }) 1 false None [])
-  read : (m : Message) → MessageAt ask.bytes m → OwesReply zone ask h (message_reply zone ask.protocol m)
+-- what a reply takes from a request of which nothing but the header is read
+abbrev pub header_alone : Protocol → Header → Request
+header_alone protocol h = record { protocol = protocol; header = h; edns = None }
+
+-- the reply to a request. From a source that is shut out: Refused (5, RFC 1035 4.1.1), no OPT, and the
+-- question, where there is exactly one that reads, whatever the message is. Else, where it is no message: FormErr (1),
+-- no question and no OPT.
+pub data OwesReply (zone : Contents) (access : Access) (ask : Ask) (h : Header) : Reply → Type 0 where
+  shut_out : lets_in access ask.source.ip ≡ false → (question : Option Question) → ReadsOne (OneQuestionAt ask.bytes) question
+      → OwesReply zone access ask h (reply_to (header_alone ask.protocol h) 5 false question [])
+  malformed : lets_in access ask.source.ip ≡ true → ((m : Message) → MessageAt ask.bytes m → ⊥)
+      → OwesReply zone access ask h (reply_to (header_alone ask.protocol h) 1 false None [])
+  read : lets_in access ask.source.ip ≡ true → (m : Message) → MessageAt ask.bytes m → OwesReply zone access ask h (message_reply zone ask.protocol m)
 
 -- the reply that a message is owed, or that it is owed none
-abbrev pub Owes : Contents → Ask → Option Reply → Type 0
-Owes zone ask None = request_of ask ≡ None
-Owes zone ask (Some reply) = (h : Header) × (request_of ask ≡ Some h) × OwesReply zone ask h reply
+abbrev pub Owes : Contents → Access → Ask → Option Reply → Type 0
+Owes zone access ask None = request_of ask ≡ None
+Owes zone access ask (Some reply) = (h : Header) × (request_of ask ≡ Some h) × OwesReply zone access ask h reply
 
 -- a reply in its written form, within its limit
 abbrev pub IsWritten : Protocol → Option Reply → Option (List ℕ) → Type 0
@@ -125,9 +137,9 @@ IsWritten protocol (Some reply) None = ⊥
 IsWritten protocol (Some reply) (Some bytes) = Written reply (limit_of protocol reply.edns) bytes
 
 -- the bytes that a message is owed
-pub record OwesBytes (zone : Contents) (ask : Ask) (bytes : Option (List ℕ)) : Type 0 where
+pub record OwesBytes (zone : Contents) (access : Access) (ask : Ask) (bytes : Option (List ℕ)) : Type 0 where
   pub reply : Option Reply
-  pub owed : Owes zone ask reply
+  pub owed : Owes zone access ask reply
   pub written : IsWritten ask.protocol reply bytes
 
 -- a reply whose OPT lets at least 512 bytes in

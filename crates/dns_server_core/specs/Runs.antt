@@ -1,37 +1,16 @@
 -- Runs over the messages that a list of events completes.
-use Rattle.std.specs.Prelude.{◌≡◌, ◌<◌, ◌≤◌, ◌^◌, ℕ, List, [], ◌∷◌, ◌++◌, length, map, take, Option, Some, None}
+use Rattle.std.specs.Prelude.{◌≡◌, ℕ, List, [], ◌∷◌, ◌++◌, length, Option, Some, None}
 use Rattle.std.specs.Int.{w16, to_be_bytes}
-use Rattle.std.specs.List.{AllByRecursion}
-use Rattle.dns_wire.specs.declared.peer.Protocol.TheVariants.{Udp}
 use Rattle.dns_server_core.specs.declared.ask.Ask.{Ask}
 use Rattle.dns_server_core.specs.declared.ask.Settled.{Settled}
-use Rattle.dns_server_core.specs.declared.event.Event.{Event}
-use Rattle.dns_server_core.specs.declared.event.Event.TheVariants.{Datagram}
 use Rattle.dns_server_core.specs.declared.event.Out.{Out}
 use Rattle.dns_server_core.specs.declared.event.Receiver.{Receiver}
 use Rattle.dns_server_core.specs.declared.event.Receiver.TheVariants.{Conn, Peer}
-use Rattle.dns_server_core.specs.declared.server.RunFault.{RunFault}
-use Rattle.dns_server_core.specs.declared.server.RunFault.TheVariants.{OutOfMemory}
 
 -- a whole message that came in time, and where its reply goes
 pub record Completed : Type 0 where
   pub to : Receiver
   pub ask : Ask
-
--- the message that an event completes
-abbrev pub completed_by : Event → Completed
-completed_by (Datagram at peer bytes) = record { to = Peer peer; ask = record { bytes = bytes; source = peer; protocol = Udp; at = at; client = 0 } }
-
--- the messages that a list of events completes, in order
-abbrev pub done_by : List Event → List Completed
-done_by = map completed_by
-
--- an event that a server can take: its moment is below 2^47, and its bytes are at most 65,535
-abbrev pub IsEvent : Event → Type 0
-IsEvent (Datagram at peer bytes) = (at < 2 ^ 47) × (length bytes ≤ 65535)
-
-abbrev pub AreEvents : List Event → Type 0
-AreEvents = AllByRecursion IsEvent
 
 -- a reply as it is sent: behind its length on a connection (RFC 1035 4.2.2), plain to a peer
 abbrev pub sent_to : Receiver → List ℕ → List ℕ
@@ -54,7 +33,3 @@ pub record Answers {H : Type 0} (serves : H → Ask → Settled → H → Type 0
   pub outs : List Out
   pub run : Run serves before asks outs after
   pub added : new ≡ old ++ outs
-
--- memory ran out behind the first `done` messages of a list: a run over these, and nothing more
-abbrev pub StopsAt : {H : Type 0} → (H → Ask → Settled → H → Type 0) → H → List Completed → H → List Out → List Out → RunFault → Type 0
-StopsAt serves before asks after old new (OutOfMemory done) = (done ≤ length asks) × Answers serves before (take done asks) after old new

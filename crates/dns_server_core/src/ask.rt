@@ -3,6 +3,7 @@
 ghost use Rattle.std.specs.Prelude.{◌≡◌};
 ghost use Rattle.dns_server_core.specs.Sources.{sanitized};
 
+use crate::reply_bytes::ReplyBytes;
 use dns_wire::{Ip, Octets, Peer, Protocol};
 
 /// One whole message that came in.
@@ -35,7 +36,7 @@ pub struct Receipt {
 #[derive(Debug, Drop)]
 pub struct Settled {
     /// The reply in its written form, none where none is owed.
-    pub reply: Option<Octets>,
+    pub reply: Option<ReplyBytes>,
     /// How many rows the journal then has.
     pub length: u64,
     /// The rows that were added, none where none were.

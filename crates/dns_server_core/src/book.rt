@@ -7,8 +7,12 @@ ghost use Rattle.dns_wire.specs.WireFormat.{AreShort};
 ghost use Rattle.dns_server_core.specs.Book.{HasRows, opening_of, Settles};
 ghost use Rattle.dns_server_core.specs.Opening.{HadNoRow, Opens, OpensNot, faults_of};
 
+use crate::access::AccessControl;
 use crate::ask::{Ask, Settled};
-use crate::owed::owed_bytes;
+use crate::counted::{asked_of, counts_of_zone, replied_of};
+use crate::owed::{limit_of, reply_for, request_of};
+use crate::reply_bytes::ReplyBytes;
+use dns_counts::Counts;
 use dns_journal::{KeepFault, Keeper};
 use dns_wire::{Data, Name, OutOfMemory, Record, Records};
 use dns_zone::{ReplayKind, Zone};
@@ -22,6 +26,7 @@ pub struct Book<K: Keeper> {
     zone: Zone,
     allow_update: bool,
     row_count: u64,
+    counts: Counts,
     alloc: Global,
 }
 
@@ -30,7 +35,7 @@ impl<K: Keeper> Model for Book<K> {
 
     ghost Value = { SeenOf K };
 
-    ghost view = { λ b. record { keeper = b.keeper; zone = b.zone; allow_update = b.allow_update; row_count = b.row_count } };
+    ghost view = { λ b. record { keeper = b.keeper; zone = b.zone; allow_update = b.allow_update; row_count = b.row_count; counts = b.counts } };
 
     ghost invariant = { λ b. HasRows (K.rows b.keeper) b.row_count };
 }
@@ -98,17 +103,29 @@ impl<K: Keeper> Book<K> {
         }
     }
 
-    /// Settles one message at its moment: gives the reply that it is owed, within its limit, and what it did to the
-    /// journal. Where memory ran out, nothing has changed.
-    pub fn settle(&mut self, ask: &Ask) -> Result<Settled, OutOfMemory>
+    /// Settles one message at its moment: gives the reply that it is owed, within its limit, where `access` says which
+    /// sources are let in, and what it did to the journal. Where memory ran out, nothing has changed.
+    pub fn settle(&mut self, access: &AccessControl, ask: &Ask) -> Result<Settled, OutOfMemory>
         requires moment { ask.now.at < 2 ^ 47 }
         requires bytes { length ask.now.bytes ≤ 65535 }
-        ensures ok { IfOk result (λ settled. Settles self.old ask.now settled self.new) }
+        ensures ok { IfOk result (λ settled. Settles access.now self.old ask.now settled self.new) }
         ensures err { OnErr result (self.new ≡ self.old) }
     {
-        let reply = owed_bytes(self.alloc, &self.zone, ask)?;
+        let Some(header) = request_of(ask) else {
+            return Ok(Settled {
+                reply: None,
+                length: self.row_count,
+                receipt: None,
+            });
+        };
+        let reply = reply_for(self.alloc, &self.zone, access, ask, header)?;
+        let bytes = reply.encode(self.alloc, limit_of(ask.protocol, reply.edns))?;
+        let asked = asked_of(access, ask, header, &reply);
+        let replied = replied_of(self.alloc, &reply, bytes.as_slice())?;
+        let sent = ReplyBytes::new(bytes)?;
+        self.counts.record(&asked, &replied);
         Ok(Settled {
-            reply,
+            reply: Some(sent),
             length: self.row_count,
             receipt: None,
         })
@@ -128,6 +145,13 @@ impl<K: Keeper> Book<K> {
         self.row_count
     }
 
+    /// What was counted since the book was opened: each reply once, and the records of the zone.
+    pub fn counts(&self) -> &Counts
+        ensures { result.now ≡ self.now.counts }
+    {
+        &self.counts
+    }
+
     /// The keeper's count of faults.
     pub fn fault_count(&self) -> u64
         ensures { result ≡ K.faults self.now.keeper }
@@ -145,6 +169,7 @@ impl<K: Keeper> Book<K> {
             zone: _,
             allow_update: _,
             row_count: _,
+            counts: _,
             alloc: _,
         } = self;
         keeper
@@ -179,6 +204,7 @@ fn begin<K: Keeper>(
         Ok(()) => Ok(Book {
             keeper,
             row_count: records.len() as u64,
+            counts: counts_of_zone(&zone),
             zone,
             allow_update,
             alloc,

@@ -1,19 +1,21 @@
 //! What a message is owed (RFC 1034 4.3, RFC 6891 6.1).
 
-ghost use Rattle.std.specs.Prelude.{◌≡◌, ◌≤◌, ◌<◌, IfOk, IfSome, IfNone, [], None, Some, false};
+ghost use Rattle.std.specs.Prelude.{◌≡◌, ◌≤◌, ◌<◌, IfOk, IfSome, IfNone, Option, [], None, Some, true, false};
 ghost use Rattle.dns_wire.specs.declared.message.Message.{Message as Read};
-ghost use Rattle.dns_wire.specs.Messages.{MessageAt};
-ghost use Rattle.dns_server_core.specs.Owed.{id_for, edns_for, limit_of, reply_to, is_newer, echoed, is_foreign, set_reply, question_reply, query_reply, message_reply, request_of, Owes, OwesBytes, HasRoom};
+ghost use Rattle.dns_wire.specs.declared.question.Question.{Question as Asked};
+ghost use Rattle.dns_wire.specs.Messages.{MessageAt, OneQuestionAt};
+ghost use Rattle.dns_wire.specs.Name.{is_at_or_below};
+ghost use Rattle.dns_wire.specs.Standing.{ReadsOne};
+ghost use Rattle.dns_server_core.specs.Owed.{OwesReply, id_for, edns_for, limit_of, reply_to, is_newer, echoed, is_foreign, looked_reply, question_reply, query_reply, message_reply, request_of, HasRoom};
 
+use crate::access::AccessControl;
 use crate::ask::{Ask, sanitize_src_address};
 use dns_wire::{
     Edns, Header, Message, Octets, OutOfMemory, ProtoError, Protocol, Question, Questions, Records,
-    Reply,
+    Reply, read_one_question,
 };
-use dns_zone::Zone;
+use dns_zone::{Looked, Zone};
 use std::alloc::Global;
-
-const NO_ERROR: u16 = 0;
 
 const FORM_ERR: u16 = 1;
 
@@ -57,7 +59,7 @@ fn edns_for(code: u16, edns: Option<Edns>) -> Option<Edns>
 }
 
 /// How many bytes a reply with this OPT may take: a datagram's what the OPT says, 512 without one.
-fn limit_of(protocol: Protocol, edns: Option<Edns>) -> u16
+pub(crate) fn limit_of(protocol: Protocol, edns: Option<Edns>) -> u16
     requires { IfSome edns (λ e. 512 ≤ e.payload) }
     ensures is { result ≡ limit_of protocol edns }
     ensures least { 512 ≤ result }
@@ -127,7 +129,8 @@ fn echoed(questions: &Questions) -> Result<Option<Question>, OutOfMemory>
 
 /// Whether a question is not for this zone: another class, another name, or a zone transfer.
 fn is_foreign(zone: &Zone, question: &Question) -> bool
-    ensures { result ≡ is_foreign zone.now question.now }
+    ensures is { result ≡ is_foreign zone.now question.now }
+    ensures inside { result ≡ false → is_at_or_below question.now.name zone.now.origin ≡ true }
 {
     question.qclass != 1
         || !question.name.at_or_below(zone.origin())
@@ -135,14 +138,16 @@ fn is_foreign(zone: &Zone, question: &Question) -> bool
         || question.qtype == 252
 }
 
-fn set_reply(alloc: Global, request: &Request, question: Question, found: Records) -> Reply
-    ensures is { result ≡ set_reply request.now question found }
+/// The reply of what the zone was looked up for.
+fn looked_reply(alloc: Global, request: &Request, question: Question, looked: Looked) -> Reply
+    requires { looked.code ≤ 3 }
+    ensures is { result ≡ looked_reply request.now question looked }
     ensures fits { HasRoom result }
 {
-    if found.len() == 0 {
-        return refusal(alloc, request, NOT_IMP, Some(question));
-    }
-    reply_to(alloc, request, NO_ERROR, true, Some(question), found)
+    let (code, aa) = (looked.code, looked.aa);
+    let mut reply = reply_to(alloc, request, code, aa, Some(question), looked.answers);
+    reply.authority = looked.authority;
+    reply
 }
 
 #[tactic(auto, unfolding(crate::specs::Owed::question_reply))]
@@ -159,8 +164,8 @@ fn question_reply(
     if is_foreign(zone, question) {
         return Ok(refusal(alloc, request, REFUSED, Some(echo)));
     }
-    let found = zone.copy_set(alloc, &question.name, question.qtype)?;
-    Ok(set_reply(alloc, request, echo, found))
+    let looked = zone.lookup(alloc, question)?;
+    Ok(looked_reply(alloc, request, echo, looked))
 }
 
 fn query_reply(
@@ -217,7 +222,7 @@ fn message_in(alloc: Global, bytes: &[u8]) -> Result<Option<Message>, OutOfMemor
 
 /// The header of a message that is owed a reply.
 #[tactic(auto, unfolding(crate::specs::Owed::request_of))]
-fn request_of(ask: &Ask) -> Option<Header>
+pub(crate) fn request_of(ask: &Ask) -> Option<Header>
     ensures { result ≡ request_of ask.now }
 {
     if sanitize_src_address(&ask.source).is_err() {
@@ -229,40 +234,38 @@ fn request_of(ask: &Ask) -> Option<Header>
     }
 }
 
-/// The reply that a message is owed, none where it is owed none.
-fn owed(alloc: Global, zone: &Zone, ask: &Ask) -> Result<Option<Reply>, OutOfMemory>
-    ensures is { IfOk result (Owes zone.now ask.now) }
-    ensures fits { IfOk result (λ r. IfSome r HasRoom) }
+/// The reply to a request from a source that is shut out, whatever the message is.
+fn shut_out_reply(alloc: Global, request: &Request, bytes: &[u8]) -> Result<Reply, OutOfMemory>
+    ensures is { IfOk result (λ r. (question : Option Asked) × ReadsOne (OneQuestionAt bytes.now) question × (r ≡ reply_to request.now 5 false question [])) }
+    ensures fits { IfOk result HasRoom }
 {
-    let Some(header) = request_of(ask) else {
-        return Ok(None);
-    };
-    match message_in(alloc, ask.bytes.as_slice())? {
-        Some(message) => Ok(Some(message_reply(alloc, zone, ask.protocol, &message)?)),
-        None => {
-            let request = Request {
-                protocol: ask.protocol,
-                header,
-                edns: None,
-            };
-            Ok(Some(refusal(alloc, &request, FORM_ERR, None)))
-        }
-    }
+    let question = read_one_question(alloc, bytes)?;
+    Ok(refusal(alloc, request, REFUSED, question))
 }
 
-/// The bytes that a message is owed, none where it is owed none.
-pub(crate) fn owed_bytes(
+/// The reply that a request is owed, by the first rule that fits.
+pub(crate) fn reply_for(
     alloc: Global,
     zone: &Zone,
+    access: &AccessControl,
     ask: &Ask,
-) -> Result<Option<Octets>, OutOfMemory>
-    ensures { IfOk result (OwesBytes zone.now ask.now) }
+    header: Header,
+) -> Result<Reply, OutOfMemory>
+    ensures is { IfOk result (OwesReply zone.now access.now ask.now header) }
+    ensures fits { IfOk result HasRoom }
 {
-    match owed(alloc, zone, ask)? {
-        None => Ok(None),
-        Some(reply) => {
-            let limit = limit_of(ask.protocol, reply.edns);
-            Ok(Some(reply.encode(alloc, limit)?))
-        }
+    let request = Request {
+        protocol: ask.protocol,
+        header,
+        edns: None,
+    };
+    let bytes = ask.bytes.as_slice();
+    if !access.allow(&ask.source.ip) {
+        let reply = shut_out_reply(alloc, &request, bytes)?;
+        return Ok(reply);
+    }
+    match message_in(alloc, bytes)? {
+        Some(message) => Ok(message_reply(alloc, zone, ask.protocol, &message)?),
+        None => Ok(refusal(alloc, &request, FORM_ERR, None)),
     }
 }

@@ -1,37 +1,30 @@
 //! A server over lists of events.
 
-ghost use Rattle.std.specs.Prelude.{◌≡◌, ◌<◌, ◌≤◌, ◌^◌, ◌++◌, length, ◌∷◌, [], OnOk, OnErr, IfErr, vec_len};
-ghost use Rattle.std.specs.Vec.{vec_capacity};
+ghost use Rattle.std.specs.Prelude.{◌≡◌, ◌↔◌, length, [], OnOk, IfErr, true, false};
 ghost use Rattle.dns_zone.specs.Zone.{serial_of};
 ghost use Rattle.dns_server_core.specs.Book.{Settles};
-ghost use Rattle.dns_server_core.specs.declared.event.Event.TheVariants as event;
-ghost use Rattle.dns_server_core.specs.declared.event.Receiver.TheVariants as receiver;
-ghost use Rattle.dns_server_core.specs.Runs.{completed_by, done_by, IsEvent, AreEvents, outs_of, Answers, StopsAt};
+ghost use Rattle.dns_server_core.specs.Valid.{Valid};
+ghost use Rattle.dns_server_core.specs.Connections.{new_kept, done, after};
+ghost use Rattle.dns_server_core.specs.Runs.{Answers};
+ghost use Rattle.dns_server_core.specs.Serving.{Leaves};
 
-use crate::ask::Ask;
+use crate::access::{AccessControl, IpNet};
 use crate::book::Book;
-use crate::event::{Event, Out, Receiver};
+use crate::event::{Event, Out};
+use crate::fault::RunFault;
+use crate::sessions::Sessions;
+use dns_counts::Counts;
 use dns_journal::Keeper;
-use dns_wire::{Octets, OutOfMemory, Peer, Protocol};
+use dns_wire::OutOfMemory;
 use std::alloc::Global;
 use std::marker::Model;
-
-/// Why a list of events was not served to its end.
-#[derive(Clone, Copy, Debug, PartialEq, Eq)]
-pub enum RunFault {
-    /// Memory ran out: the first `done` of the messages that the list completes were settled, those without a reply
-    /// among them, and what was sent and the journal are as after these.
-    OutOfMemory {
-        /// How many.
-        done: u64,
-    },
-}
 
 /// A server: it hands the messages that events complete to a handler, in order, and keeps what they leave.
 #[derive(Drop)]
 pub struct Server<T> {
     handler: T,
-    alloc: Global,
+    access: AccessControl,
+    sessions: Sessions,
 }
 
 impl<T> Model for Server<T> {
@@ -39,34 +32,81 @@ impl<T> Model for Server<T> {
 
     ghost Value = { ServerOf T };
 
-    ghost view = { λ s. record { handler = s.handler } };
+    ghost view = { λ s. record { handler = s.handler; access = s.access; kept = s.sessions } };
 }
 
 impl<T> Server<T> {
-    /// A server to which nothing has happened yet. Takes no memory.
+    /// A server to which nothing has happened yet, and which lets every source in. Takes no memory.
     pub fn new(alloc: Global, handler: T) -> Server<T>
-        ensures { result ≡ record { handler = handler } }
+        ensures { result ≡ record { handler = handler; access = record { allowed = []; denied = [] }; kept = new_kept } }
     {
-        Server { handler, alloc }
+        Server {
+            handler,
+            access: AccessControl::new(alloc),
+            sessions: Sessions::new(alloc),
+        }
     }
 
-    /// How many connections are open: none, since only datagrams are served for now. Takes no memory.
-    pub fn open_count(&self) -> u64
-        ensures { result ≡ 0 }
+    /// A server to which nothing has happened yet, with networks whose sources are shut out, and networks whose sources
+    /// are let in. Takes no memory.
+    pub fn with_access(
+        alloc: Global,
+        handler: T,
+        denied: Vec<IpNet>,
+        allowed: Vec<IpNet>,
+    ) -> Server<T>
+        ensures { result ≡ record { handler = handler; access = record { allowed = allowed.items; denied = denied.items }; kept = new_kept } }
     {
-        0
+        Server {
+            handler,
+            access: AccessControl::from_networks(denied, allowed),
+            sessions: Sessions::new(alloc),
+        }
+    }
+
+    /// Whether a list of events may be served: it has fewer than 2^32 events; moments and limits are below 2^47; no moment
+    /// is below the one before it, nor below the last that was taken; each accepted number is greater than all that were
+    /// accepted before; pieces and datagrams have at most 65,535 bytes; and a stop stands only last. Takes no memory.
+    pub fn valid_events(&self, events: &Vec<Event>) -> bool
+        ensures { (result ≡ true) ↔ Valid self.now.kept events.now.items }
+    {
+        self.sessions.is_valid(events.as_slice())
+    }
+
+    /// How many connections are open: accepted from safe peers, not ended, and not late by the last moment that was
+    /// taken; 0 after a stop. Takes no memory.
+    pub fn open_count(&self) -> u64
+        ensures { result ≡ length self.now.kept.connections }
+    {
+        self.sessions.open_count()
     }
 }
 
 impl<K: Keeper> Server<Book<K>> {
     /// Hands each message that the list completes to the book, in order, and adds the replies to `out`, each for its
-    /// message's receiver. Room in `out` is made before a message is handed over.
+    /// message's receiver: framed for a connection, plain for the sender of a datagram. Room in `out` is made before a
+    /// message is handed over.
     pub fn run_events(&mut self, events: &Vec<Event>, out: &mut Vec<Out>) -> Result<(), RunFault>
-        requires { AreEvents events.now.items }
-        ensures ok { OnOk result (Answers Settles self.old.handler (done_by events.now.items) self.new.handler out.old.items out.new.items) }
-        ensures err { IfErr result (StopsAt Settles self.old.handler (done_by events.now.items) self.new.handler out.old.items out.new.items) }
+        requires { self.old.kept.stopped ≡ false → Valid self.old.kept events.now.items }
+        ensures running { OnOk result (self.old.kept.stopped ≡ false) }
+        ensures ok { OnOk result (Answers (Settles self.old.access) self.old.handler (done self.old.kept events.now.items) self.new.handler out.old.items out.new.items) }
+        ensures after { OnOk result (self.new.kept ≡ after self.old.kept events.now.items) }
+        ensures err { IfErr result (Leaves (Settles self.old.access) self.old events.now.items self.new out.old.items out.new.items) }
+        ensures access { self.new.access ≡ self.old.access }
     {
-        serve_all(&mut self.handler, events.as_slice(), out)
+        if self.sessions.is_stopped() {
+            return Err(RunFault::Stopped);
+        }
+        let mut done = 0u64;
+        let events = events.as_slice();
+        match self
+            .sessions
+            .serve(&mut self.handler, &self.access, events, out, &mut done)
+        {
+            Ok(()) => {}
+            Err(OutOfMemory) => return Err(RunFault::OutOfMemory { done }),
+        }
+        Ok(())
     }
 
     /// The serial of the zone's SOA.
@@ -83,84 +123,22 @@ impl<K: Keeper> Server<Book<K>> {
         self.handler.journal_len()
     }
 
+    /// What was counted since the book was opened.
+    pub fn counts(&self) -> &Counts
+        ensures { result.now ≡ self.now.handler.counts }
+    {
+        self.handler.counts()
+    }
+
     /// Gives the book back.
     pub fn into_book(self) -> Book<K>
         ensures { result ≡ self.handler }
     {
-        let Server { handler, alloc: _ } = self;
+        let Server {
+            handler,
+            access: _,
+            sessions: _,
+        } = self;
         handler
-    }
-}
-
-fn serve_all<K: Keeper>(
-    book: &mut Book<K>,
-    events: &[Event],
-    out: &mut Vec<Out>,
-) -> Result<(), RunFault>
-    requires { AreEvents events.now }
-    ensures ok { OnOk result (Answers Settles book.old (done_by events.now) book.new out.old.items out.new.items) }
-    ensures err { IfErr result (StopsAt Settles book.old (done_by events.now) book.new out.old.items out.new.items) }
-{
-    let mut done = 0u64;
-    for event in events {
-        match serve_event(book, event, out) {
-            Ok(()) => {}
-            Err(OutOfMemory) => return Err(RunFault::OutOfMemory { done }),
-        }
-        done += 1;
-    }
-    Ok(())
-}
-
-/// One event. After an `Err` neither the book nor what is sent has changed.
-fn serve_event<K: Keeper>(
-    book: &mut Book<K>,
-    event: &Event,
-    out: &mut Vec<Out>,
-) -> Result<(), OutOfMemory>
-    requires { IsEvent event.now }
-    ensures ok { OnOk result (Answers Settles book.old (completed_by event.now ∷ []) book.new out.old.items out.new.items) }
-    ensures book { OnErr result (book.new ≡ book.old) }
-    ensures out { OnErr result (out.new.items ≡ out.old.items) }
-{
-    match event {
-        Event::Datagram { at, peer, bytes } => serve_datagram(book, *at, *peer, bytes, out),
-    }
-}
-
-fn serve_datagram<K: Keeper>(
-    book: &mut Book<K>,
-    at: u64,
-    peer: Peer,
-    bytes: &Octets,
-    out: &mut Vec<Out>,
-) -> Result<(), OutOfMemory>
-    requires moment { at < 2 ^ 47 }
-    requires bytes { length bytes.now ≤ 65535 }
-    ensures ok { OnOk result (Answers Settles book.old (completed_by (event.Datagram at peer bytes.now) ∷ []) book.new out.old.items out.new.items) }
-    ensures book { OnErr result (book.new ≡ book.old) }
-    ensures out { OnErr result (out.new.items ≡ out.old.items) }
-{
-    out.reserve(1)?;
-    let ask = Ask {
-        bytes: bytes.copy()?,
-        source: peer,
-        protocol: Protocol::Udp,
-        at,
-        client: 0,
-    };
-    let settled = book.settle(&ask)?;
-    send(peer, settled.reply, out);
-    Ok(())
-}
-
-/// Adds a reply to what is sent to a peer.
-fn send(peer: Peer, reply: Option<Octets>, out: &mut Vec<Out>)
-    requires { vec_len out.old < vec_capacity out.old }
-    ensures { out.new.items ≡ out.old.items ++ outs_of (receiver.Peer peer) reply }
-{
-    if let Some(bytes) = reply {
-        let to = Receiver::Peer(peer);
-        out.push(Out { to, bytes }).unwrap();
     }
 }

@@ -1,4 +1,4 @@
-use Rattle.dns_server_core.proofs.Replying.{OwesBytes-one, OwesBytes-header, OwesBytes-limit, OwesBytes-malformed, OwesBytes-silent}
+use Rattle.dns_server_core.proofs.Replying.{OwesBytes-one, OwesBytes-header, OwesBytes-limit, OwesBytes-malformed, OwesBytes-refused, Owes-refused, OwesBytes-silent}
 use Rattle.dns_server_core.proofs.laws.owed_replies.Goals as goal
 
 pub returns-clause-one : goal.returns-clause-one
@@ -12,6 +12,12 @@ returns-clause-limit c = OwesBytes-limit c.standing_messages.ensures.messages c.
 
 pub returns-clause-malformed : goal.returns-clause-malformed
 returns-clause-malformed c = OwesBytes-malformed c.written_replies.ensures.short
+
+pub returns-clause-shut_out : goal.returns-clause-shut_out
+returns-clause-shut_out c = OwesBytes-refused c.written_replies.ensures.short
+
+pub returns-clause-refused : goal.returns-clause-refused
+returns-clause-refused c = Owes-refused
 
 pub returns-clause-silent : goal.returns-clause-silent
 returns-clause-silent c = OwesBytes-silent c.written_replies.ensures.header

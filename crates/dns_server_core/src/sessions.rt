@@ -1,0 +1,256 @@
+//! What a server keeps of events and connections, and what one event does.
+
+ghost use Rattle.std.specs.Prelude.{◌≡◌, ◌↔◌, ◌<◌, ◌≤◌, ◌^◌, ◌∷◌, [], length, OnOk, OnErr, None, true, false};
+ghost use Rattle.std.specs.List.{filter_map};
+ghost use Rattle.dns_server_core.specs.Events.{number_in};
+ghost use Rattle.dns_server_core.specs.Valid.{Valid, Fits, Rises};
+ghost use Rattle.dns_server_core.specs.Connections.{new_kept, datagram_by, done, after};
+ghost use Rattle.dns_server_core.specs.Steps.{step, completed_now, open_next};
+ghost use Rattle.dns_server_core.specs.Order.{Climbs, next, closed};
+ghost use Rattle.dns_server_core.specs.Handing.{Hands, Breaks};
+ghost use Rattle.dns_server_core.specs.Serving.{IsCutOff};
+ghost use Rattle.dns_server_core.specs.declared.event.Event.TheVariants as event;
+
+use crate::access::AccessControl;
+use crate::ask::Ask;
+use crate::connection::{Connection, accept, end, is_within, place_of};
+use crate::event::{Event, Out, Receiver};
+use crate::handler::{RequestHandler, hand, hear};
+use crate::valid::are_valid;
+use dns_wire::{Octets, OutOfMemory, Peer, Protocol};
+use std::alloc::Global;
+use std::marker::Model;
+
+/// The last moment, the greatest number, whether there was a stop, and the open connections. A connection that is late by
+/// the passing of moments alone is let go at the end of its list.
+#[derive(Drop)]
+pub(crate) struct Sessions {
+    last: u64,
+    greatest: Option<u32>,
+    stopped: bool,
+    connections: Vec<Connection>,
+    alloc: Global,
+}
+
+impl Model for Sessions {
+    ghost use Rattle.dns_server_core.specs.Connections.{Kept};
+    ghost use Rattle.dns_server_core.specs.Order.{IsKept};
+
+    ghost Value = { Kept };
+
+    ghost view = { λ s. record { last = s.last; greatest = s.greatest; stopped = s.stopped; connections = s.connections.items } };
+
+    ghost invariant = { λ s. IsKept (record { last = s.last; greatest = s.greatest; stopped = s.stopped; connections = s.connections.items }) };
+}
+
+impl Sessions {
+    /// Nothing has happened yet.
+    pub(crate) fn new(alloc: Global) -> Sessions
+        ensures { result ≡ new_kept }
+    {
+        Sessions {
+            last: 0,
+            greatest: None,
+            stopped: false,
+            connections: Vec::new(alloc),
+            alloc,
+        }
+    }
+
+    /// How many connections are open.
+    pub(crate) fn open_count(&self) -> u64
+        ensures { result ≡ length self.now.connections }
+    {
+        self.connections.len() as u64
+    }
+
+    /// Whether there was a stop.
+    pub(crate) fn is_stopped(&self) -> bool
+        ensures { result ≡ self.now.stopped }
+    {
+        self.stopped
+    }
+
+    /// Whether a list may be served.
+    pub(crate) fn is_valid(&self, events: &[Event]) -> bool
+        ensures { (result ≡ true) ↔ Valid self.now events.now }
+    {
+        (events.len() as u64) < 0x1_0000_0000 && are_valid(self.last, self.greatest, events)
+    }
+
+    /// Serves a list: each message that an event completes is handed over, in that order. `count` counts them.
+    pub(crate) fn serve<H: RequestHandler>(
+        &mut self,
+        handler: &mut H,
+        access: &AccessControl,
+        events: &[Event],
+        out: &mut Vec<Out>,
+        count: &mut u64,
+    ) -> Result<(), OutOfMemory>
+        requires running { self.old.stopped ≡ false }
+        requires valid { Valid self.old events.now }
+        ensures ran { OnOk result (Hands (H.serves access.now) handler.old (done self.old events.now) handler.new out.old.items out.new.items count.old count.new) }
+        ensures after { OnOk result (self.new ≡ after self.old events.now) }
+        ensures err { OnErr result (Breaks (H.serves access.now) H.skips handler.old (done self.old events.now) handler.new out.old.items out.new.items count.old count.new) }
+        ensures cut_off { OnErr result (IsCutOff self.old events.now self.new) }
+    {
+        let _stopped = self.stopped;
+        for event in events {
+            match self.take(handler, access, event, out, count) {
+                Ok(()) => {}
+                Err(fault) => return Err(fault),
+            }
+        }
+        self.close_late();
+        Ok(())
+    }
+
+    /// One event. After an `Err` no connection is open, and nothing else that is kept has changed.
+    fn take<H: RequestHandler>(
+        &mut self,
+        handler: &mut H,
+        access: &AccessControl,
+        event: &Event,
+        out: &mut Vec<Out>,
+        count: &mut u64,
+    ) -> Result<(), OutOfMemory>
+        requires rises { Rises self.old.greatest (number_in event.now) }
+        requires fits { Fits event.now }
+        ensures ok { OnOk result (self.new ≡ next self.old event.now) }
+        ensures ran { OnOk result (Hands (H.serves access.now) handler.old (completed_now event.now self.old.connections) handler.new out.old.items out.new.items count.old count.new) }
+        ensures err { OnErr result (Breaks (H.serves access.now) H.skips handler.old (completed_now event.now self.old.connections) handler.new out.old.items out.new.items count.old count.new) }
+        ensures closed { OnErr result (self.new ≡ record { last = self.old.last; greatest = self.old.greatest; stopped = self.old.stopped; connections = [] }) }
+    {
+        match apply(
+            self.alloc,
+            handler,
+            access,
+            &mut self.connections,
+            event,
+            out,
+            count,
+        ) {
+            Ok(()) => {}
+            Err(fault) => {
+                self.connections.clear();
+                return Err(fault);
+            }
+        }
+        self.last = event.moment();
+        self.greatest = event.greatest_from(self.greatest);
+        self.stopped = self.stopped | event.is_stop();
+        Ok(())
+    }
+
+    /// After a list: a stop closes all connections, and the last moment those that are late by it.
+    fn close_late(&mut self)
+        ensures { self.new ≡ closed self.old }
+    {
+        if self.stopped {
+            self.connections.clear();
+        } else {
+            let last = self.last;
+            self.connections.retain(|connection| is_within(
+                connection.limit,
+                connection.base,
+                last,
+            ));
+        }
+    }
+}
+
+/// What one event does to the connections, and the messages that it completes.
+fn apply<H: RequestHandler>(
+    alloc: Global,
+    handler: &mut H,
+    access: &AccessControl,
+    connections: &mut Vec<Connection>,
+    event: &Event,
+    out: &mut Vec<Out>,
+    count: &mut u64,
+) -> Result<(), OutOfMemory>
+    requires climbs { Climbs connections.old.items }
+    requires fits { Fits event.now }
+    ensures ok { OnOk result (connections.new.items ≡ open_next event.now connections.old.items) }
+    ensures ran { OnOk result (Hands (H.serves access.now) handler.old (completed_now event.now connections.old.items) handler.new out.old.items out.new.items count.old count.new) }
+    ensures err { OnErr result (Breaks (H.serves access.now) H.skips handler.old (completed_now event.now connections.old.items) handler.new out.old.items out.new.items count.old count.new) }
+{
+    match event {
+        Event::Accepted {
+            at,
+            conn,
+            peer,
+            limit,
+        } => accept(alloc, connections, *at, *conn, *peer, *limit),
+        Event::Bytes { at, conn, piece } => {
+            hear_at(handler, access, connections, *at, *conn, piece, out, count)
+        }
+        Event::Ended { at, conn } => {
+            end(connections, *at, *conn);
+            Ok(())
+        }
+        Event::Datagram { at, peer, bytes } => {
+            hand_datagram(handler, access, *at, *peer, bytes, out, count)
+        }
+        Event::Tick { at: _ } => Ok(()),
+        Event::Stop { at: _ } => Ok(()),
+    }
+}
+
+/// A piece of the bytes of the connection of a number; one that came too late closes it.
+fn hear_at<H: RequestHandler>(
+    handler: &mut H,
+    access: &AccessControl,
+    connections: &mut Vec<Connection>,
+    at: u64,
+    number: u32,
+    piece: &Octets,
+    out: &mut Vec<Out>,
+    count: &mut u64,
+) -> Result<(), OutOfMemory>
+    requires climbs { Climbs connections.old.items }
+    requires moment { at < 2 ^ 47 }
+    ensures ok { OnOk result (connections.new.items ≡ filter_map (step (event.Bytes at number piece.now)) connections.old.items) }
+    ensures ran { OnOk result (Hands (H.serves access.now) handler.old (completed_now (event.Bytes at number piece.now) connections.old.items) handler.new out.old.items out.new.items count.old count.new) }
+    ensures err { OnErr result (Breaks (H.serves access.now) H.skips handler.old (completed_now (event.Bytes at number piece.now) connections.old.items) handler.new out.old.items out.new.items count.old count.new) }
+{
+    if let Some(i) = place_of(connections, number) {
+        let stays = hear(
+            handler,
+            access,
+            &mut connections[i],
+            at,
+            piece.as_slice(),
+            out,
+            count,
+        )?;
+        if !stays {
+            connections.remove(i);
+        }
+    }
+    Ok(())
+}
+
+fn hand_datagram<H: RequestHandler>(
+    handler: &mut H,
+    access: &AccessControl,
+    at: u64,
+    peer: Peer,
+    bytes: &Octets,
+    out: &mut Vec<Out>,
+    count: &mut u64,
+) -> Result<(), OutOfMemory>
+    requires moment { at < 2 ^ 47 }
+    requires bytes { length bytes.now ≤ 65535 }
+    ensures ran { OnOk result (Hands (H.serves access.now) handler.old (datagram_by (event.Datagram at peer bytes.now)) handler.new out.old.items out.new.items count.old count.new) }
+    ensures err { OnErr result (Breaks (H.serves access.now) H.skips handler.old (datagram_by (event.Datagram at peer bytes.now)) handler.new out.old.items out.new.items count.old count.new) }
+{
+    let ask = Ask {
+        bytes: bytes.copy()?,
+        source: peer,
+        protocol: Protocol::Udp,
+        at,
+        client: 0,
+    };
+    hand(handler, access, Receiver::Peer(peer), ask, out, count)
+}
