@@ -24,4 +24,4 @@ ahead found (Err line) = Err line
 
 -- what the text gives, where these lines are left
 abbrev pub given_by : Reading → List (List ℕ) → Result (List Event) ℕ
-given_by state lines = ahead state.events.items (events_from (state.lines + 1) state.last lines)
+given_by state lines = ahead state.events.items (events_from (state.lines + 1) lines)

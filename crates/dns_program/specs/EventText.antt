@@ -12,7 +12,7 @@ use Rattle.dns_wire.specs.declared.peer.Ip.{Ip}
 use Rattle.dns_wire.specs.declared.peer.Ip.TheVariants.{V4, V6}
 use Rattle.dns_zone.specs.Lines.{lines_of}
 use Rattle.dns_server_core.specs.declared.event.Event.{Event}
-use Rattle.dns_server_core.specs.declared.event.Event.TheVariants.{Datagram}
+use Rattle.dns_server_core.specs.declared.event.Event.TheVariants.{Accepted, Bytes, Ended, Datagram, Tick, Stop}
 
 -- a value, and then what is made of it
 infixl 10 ◌>>=◌
@@ -55,31 +55,80 @@ peer_of ip port = do
   number ← number_of 65536 port
   Some (record { ip = address; port = number })
 
+-- the number of a connection
+abbrev pub connection_of : List ℕ → Option ℕ
+connection_of word = number_of (2 ^ 32) word
+
+-- a moment or a limit, in milliseconds
+abbrev pub milliseconds_of : List ℕ → Option ℕ
+milliseconds_of word = number_of (2 ^ 64) word
+
 -- the words of a datagram behind its letter: the moment, the sender's address and port, and the bytes
 unfoldable pub datagram_of : List (List ℕ) → Option Event
 datagram_of (at ∷ ip ∷ port ∷ hex ∷ []) = do
-  moment ← number_of (2 ^ 64) at
+  moment ← milliseconds_of at
   peer ← peer_of ip port
   bytes ← bytes_of hex
   Some (Datagram moment peer bytes)
 datagram_of words = None
 
--- the event of a line's words: `D at ip port hex`
+-- of a connection that was accepted: the moment, its number, the peer's address and port, and the limit
+unfoldable pub accepted_of : List (List ℕ) → Option Event
+accepted_of (at ∷ conn ∷ ip ∷ port ∷ limit ∷ []) = do
+  moment ← milliseconds_of at
+  number ← connection_of conn
+  peer ← peer_of ip port
+  most ← milliseconds_of limit
+  Some (Accepted moment number peer most)
+accepted_of words = None
+
+-- of bytes that came over a connection: the moment, its number, and the bytes
+unfoldable pub piece_of : List (List ℕ) → Option Event
+piece_of (at ∷ conn ∷ hex ∷ []) = do
+  moment ← milliseconds_of at
+  number ← connection_of conn
+  bytes ← bytes_of hex
+  Some (Bytes moment number bytes)
+piece_of words = None
+
+-- of a connection's end: the moment and its number
+unfoldable pub end_of : List (List ℕ) → Option Event
+end_of (at ∷ conn ∷ []) = do
+  moment ← milliseconds_of at
+  number ← connection_of conn
+  Some (Ended moment number)
+end_of words = None
+
+-- of a moment that passed, and of a stop: the moment
+unfoldable pub tick_of : List (List ℕ) → Option Event
+tick_of (at ∷ []) = do
+  moment ← milliseconds_of at
+  Some (Tick moment)
+tick_of words = None
+
+unfoldable pub stop_of : List (List ℕ) → Option Event
+stop_of (at ∷ []) = do
+  moment ← milliseconds_of at
+  Some (Stop moment)
+stop_of words = None
+
+-- the event of a letter and the words behind it, where it has no bytes
+unfoldable pub plain_of : List ℕ → List (List ℕ) → Option Event
+plain_of letter words =
+    if bytes_eq letter (codes "A") then accepted_of words
+    else if bytes_eq letter (codes "E") then end_of words
+    else if bytes_eq letter (codes "T") then tick_of words
+    else if bytes_eq letter (codes "S") then stop_of words
+    else None
+
+-- the event of a line's words: a letter, and what it stands for
 unfoldable pub event_of : List (List ℕ) → Option Event
 event_of [] = None
-event_of (letter ∷ words) = if bytes_eq letter (codes "D") then datagram_of words else None
-
--- the moment of an event
-abbrev pub moment_of : Event → ℕ
-moment_of (Datagram at peer bytes) = at
-
--- an event may follow this moment: its own is not below it, and below 2^47, and its bytes are at most 65,535
-unfoldable pub may_follow : ℕ → Event → Bool
-may_follow last (Datagram at peer bytes) = nat_le last at && nat_lt at (2 ^ 47) && nat_le (length bytes) 65535
-
--- an event, where it may follow this moment
-abbrev pub following : ℕ → Event → Option Event
-following last event = if may_follow last event then Some event else None
+event_of (letter ∷ []) = None
+event_of (letter ∷ word ∷ words) =
+    if bytes_eq letter (codes "D") then datagram_of (word ∷ words)
+    else if bytes_eq letter (codes "B") then piece_of (word ∷ words)
+    else plain_of letter (word ∷ words)
 
 -- the words of a line
 abbrev pub words_in : List ℕ → List (List ℕ)
@@ -95,16 +144,16 @@ abbrev pub before : Event → Result (List Event) ℕ → Result (List Event) �
 before event (Ok events) = Ok (event ∷ events)
 before event (Err line) = Err line
 
--- the events of lines, the first of which has this number, behind an event of this moment; or the number of the first line outside the form
-abbrev pub events_from : ℕ → ℕ → List (List ℕ) → Result (List Event) ℕ
-events_from number last [] = Ok []
-events_from number last (line ∷ lines) =
-    if is_skipped line then events_from (number + 1) last lines
-    else elim (event_of (words_in line) >>= following last) [
-      | Some event ↦ before event (events_from (number + 1) (moment_of event) lines)
+-- the events of lines, the first of which has this number; or the number of the first line outside the form
+abbrev pub events_from : ℕ → List (List ℕ) → Result (List Event) ℕ
+events_from number [] = Ok []
+events_from number (line ∷ lines) =
+    if is_skipped line then events_from (number + 1) lines
+    else elim (event_of (words_in line)) [
+      | Some event ↦ before event (events_from (number + 1) lines)
       | None ↦ Err number
     ]
 
 -- the events of a text, or the first line outside the form, counted from 1
 abbrev pub events_of : List ℕ → Result (List Event) ℕ
-events_of text = events_from 1 0 (lines_of text)
+events_of text = events_from 1 (lines_of text)

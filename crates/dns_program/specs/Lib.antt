@@ -1,6 +1,7 @@
 pub mod Lines
 pub mod World
 pub mod Status
+pub mod NetworkText
 pub mod Words
 pub mod EventText
 pub mod EventReading

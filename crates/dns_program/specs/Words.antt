@@ -1,10 +1,14 @@
 -- The words of the command line.
-use Rattle.std.specs.Prelude.{ℕ, List, [], ◌∷◌, Option, Some, None, Bool, true, false, nat_lt, length, take, drop, ◌&&◌, if◌then◌else◌, Result, Ok, Err, codes}
-use Rattle.std.specs.Option.{option_map_or}
+use Rattle.std.specs.Prelude.{ℕ, List, [], ◌∷◌, Option, Some, None, is_some, Bool, false, nat_lt, nat_le, length, take, drop, count_by, ◌&&◌, ◌||◌, if◌then◌else◌, Result, Ok, Err, codes}
+use Rattle.std.specs.List.{list_all, filter_map}
+use Rattle.std.specs.Option.{option_map_or, option_and_then}
 use Rattle.std.specs.Str.{bytes_eq}
 use Rattle.dns_wire.specs.declared.fault.ProtoError.{ProtoError}
 use Rattle.dns_wire.specs.Name.{fold_of}
 use Rattle.dns_wire.specs.NameText.{name_of}
+use Rattle.dns_server_core.specs.declared.access.IpNet.{IpNet}
+use Rattle.dns_server_core.specs.Access.{Access}
+use Rattle.dns_program.specs.NetworkText.{network_of}
 use Rattle.dns_program.specs.declared.words.Options.{Options}
 
 -- what follows a key at the beginning of a word
@@ -24,22 +28,39 @@ path_of words key = first_behind key (drop 2 words)
 abbrev pub is_zone_word : List ℕ → Bool
 is_zone_word word = option_map_or (λ path. nat_lt 0 (length path)) (behind (codes "--zone=") word) false
 
--- at most one option, the zone text's path
+-- the network of a word that begins with this key
+abbrev pub net_behind : List ℕ → List ℕ → Option IpNet
+net_behind key word = option_and_then network_of (behind key word)
+
+-- the networks of the words that begin with this key, in order
+abbrev pub nets_behind : List ℕ → List (List ℕ) → List IpNet
+nets_behind key words = filter_map (net_behind key) words
+
+-- one option: `--zone=` and a path, `--deny=` and a network, or `--allow=` and a network
+abbrev pub is_option : List ℕ → Bool
+is_option word = is_zone_word word || is_some (net_behind (codes "--deny=") word) || is_some (net_behind (codes "--allow=") word)
+
+-- options: the zone text's path at most once, and any number of networks
 abbrev pub are_options : List (List ℕ) → Bool
-are_options [] = true
-are_options (word ∷ []) = is_zone_word word
-are_options (word ∷ other ∷ words) = false
+are_options words = list_all is_option words && nat_le (count_by is_zone_word words) 1
 
 -- the options with the folded name of this text as the origin, where it is a name (RFC 1035 5.1, 2.3.3)
-abbrev pub options_for : Result (List (List ℕ)) ProtoError → Option Options
-options_for (Err e) = None
-options_for (Ok name) = Some (record { origin = fold_of name })
+abbrev pub options_for : Result (List (List ℕ)) ProtoError → List IpNet → List IpNet → Option Options
+options_for (Err e) denied allowed = None
+options_for (Ok name) denied allowed = Some (record { origin = fold_of name; denied = denied; allowed = allowed })
 
 -- what legal words ask for: `events`, an origin, and options
 unfoldable pub words_of : List (List ℕ) → Option Options
 words_of [] = None
 words_of (command ∷ []) = None
-words_of (command ∷ origin ∷ words) = if bytes_eq command (codes "events") && are_options words then options_for (name_of origin) else None
+words_of (command ∷ origin ∷ words) =
+    if bytes_eq command (codes "events") && are_options words
+    then options_for (name_of origin) (nets_behind (codes "--deny=") words) (nets_behind (codes "--allow=") words)
+    else None
+
+-- who is let in: the networks of the options
+abbrev pub access_of : Options → Access
+access_of options = record { allowed = options.allowed; denied = options.denied }
 
 -- a word stands alone
 abbrev pub is_alone : List ℕ → List (List ℕ) → Bool

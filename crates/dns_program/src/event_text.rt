@@ -1,9 +1,8 @@
 //! The event text.
 
-ghost use Rattle.std.specs.Prelude.{◌≡◌, ◌<◌, ◌≤◌, ◌==◌, ◌+◌, ◌^◌, List, ℕ, ◌∷◌, IfOk, IfErr, OnOk, IfSome, MatchOption, [], true, length, position};
-ghost use Rattle.dns_server_core.specs.Runs.{IsEvent, AreEvents};
+ghost use Rattle.std.specs.Prelude.{◌≡◌, ◌<◌, ◌≤◌, ◌==◌, ◌+◌, ◌^◌, List, ℕ, ◌∷◌, IfOk, IfErr, OnOk, IfSome, MatchOption, [], length, position};
 ghost use Rattle.dns_program.specs.declared.event_text.EventFault.TheVariants.{OutOfMemory as NoMemory};
-ghost use Rattle.dns_program.specs.EventText.{digits_behind, below, number_of, ip_of, bytes_of, peer_of, datagram_of, event_of, moment_of, may_follow, words_in, is_skipped, events_of};
+ghost use Rattle.dns_program.specs.EventText.{digits_behind, below, number_of, ip_of, bytes_of, peer_of, milliseconds_of, connection_of, datagram_of, piece_of, accepted_of, end_of, tick_of, stop_of, plain_of, event_of, words_in, is_skipped, events_of};
 ghost use Rattle.dns_program.specs.EventReading.{Tells, Gives, given_by};
 
 use dns_server_core::Event;
@@ -35,23 +34,27 @@ struct Reading {
     events: Vec<Event>,
     /// How many lines were read.
     lines: u64,
-    /// The moment of the last event, 0 before the first.
-    last: u64,
 }
 
 /// The events of a text, in the order of its lines. Lines end with LF, and a CR before it is dropped; the last one may
-/// lack its LF. Empty lines and lines that begin with `#` stand for nothing, and are counted. Any other line is
-/// `D at ip port hex`, its words parted by one space each: a datagram with its moment in milliseconds, below 2^47 and not
-/// below the moment of the event before; the sender's address in 8 or 32 hex digits and its port; and at most 65,535 bytes
-/// in hex digits, or `-` for none. Numbers are decimal with no zero before another digit.
+/// lack its LF. Empty lines and lines that begin with `#` stand for nothing, and are counted. Any other line is an event,
+/// its words parted by one space each:
+///
+/// - `A at conn ip port limit`: a connection was accepted,
+/// - `B at conn hex`: bytes came over a connection,
+/// - `E at conn`: a connection ended,
+/// - `D at ip port hex`: a datagram came in,
+/// - `T at`: time passed,
+/// - `S at`: the server stops.
+///
+/// Moments and limits are in milliseconds, below 2^64, and numbers of connections below 2^32; numbers are decimal with no
+/// zero before another digit. Addresses have 8 or 32 hex digits, and bytes two hex digits each, or `-` stands for none.
 pub fn events_of(alloc: Global, text: &[u8]) -> Result<Vec<Event>, EventFault>
     ensures value { Gives result (events_of text.now) }
-    ensures valid { IfOk result (λ events. AreEvents events.items) }
 {
     let mut state = Reading {
         events: Vec::new(alloc),
         lines: 0,
-        last: 0,
     };
     let mut rest = text;
     while let Some((line, after)) = split_line(rest) {
@@ -65,7 +68,6 @@ fn take_line(alloc: Global, state: &mut Reading, line: &[u8]) -> Result<(), Even
     requires room { state.old.lines + 1 < 2 ^ 64 }
     ensures ok { OnOk result ((lines : List (List ℕ)) → given_by state.new lines ≡ given_by state.old (line.now ∷ lines)) }
     ensures err { IfErr result (λ fault. (lines : List (List ℕ)) → Tells fault (given_by state.old (line.now ∷ lines))) }
-    ensures valid { OnOk result (AreEvents state.old.events.items → AreEvents state.new.events.items) }
     ensures counted { OnOk result (state.new.lines ≡ state.old.lines + 1) }
 {
     if is_skipped(line) {
@@ -73,11 +75,10 @@ fn take_line(alloc: Global, state: &mut Reading, line: &[u8]) -> Result<(), Even
         return Ok(());
     }
     let event = match event_of(alloc, line)? {
-        Some(event) if may_follow(state.last, &event) => event,
-        _ => return Err(EventFault::Line(state.lines + 1)),
+        Some(event) => event,
+        None => return Err(EventFault::Line(state.lines + 1)),
     };
     state.lines += 1;
-    state.last = moment_of(&event);
     match state.events.push(event) {
         Ok(()) => Ok(()),
         Err(AllocFailed { .. }) => Err(EventFault::OutOfMemory),
@@ -93,35 +94,39 @@ fn is_skipped(line: &[u8]) -> bool
     }
 }
 
-fn moment_of(event: &Event) -> u64
-    ensures { result ≡ moment_of event.now }
-{
-    match event {
-        Event::Datagram { at, .. } => *at,
-    }
-}
-
-#[tactic(auto, unfolding(crate::specs::EventText::may_follow))]
-fn may_follow(last: u64, event: &Event) -> bool
-    ensures value { result ≡ may_follow last event.now }
-    ensures valid { result ≡ true → IsEvent event.now }
-{
-    match event {
-        Event::Datagram { at, bytes, .. } => last <= *at && *at < 1 << 47 && bytes.len() <= 65535,
-    }
-}
-
-#[tactic(auto, unfolding(crate::specs::EventText::event_of, crate::specs::EventText::datagram_of))]
+#[tactic(auto, using(crate::proofs::FirstWord::event_behind), unfolding(crate::specs::EventText::event_of))]
 fn event_of(alloc: Global, line: &[u8]) -> Result<Option<Event>, OutOfMemory>
     ensures { IfOk result (λ event. event ≡ event_of (words_in line.now)) }
 {
     let (letter, Some(words)) = split_word(line) else {
         return Ok(None);
     };
-    if letter != b"D".as_slice() {
-        return Ok(None);
+    if letter == b"D".as_slice() {
+        return datagram_of(alloc, words);
     }
-    datagram_of(alloc, words)
+    if letter == b"B".as_slice() {
+        return piece_of(alloc, words);
+    }
+    Ok(plain_of(letter, words))
+}
+
+#[tactic(auto, unfolding(crate::specs::EventText::plain_of))]
+fn plain_of(letter: &[u8], words: &[u8]) -> Option<Event>
+    ensures { result ≡ plain_of letter.now (words_in words.now) }
+{
+    if letter == b"A".as_slice() {
+        return accepted_of(words);
+    }
+    if letter == b"E".as_slice() {
+        return end_of(words);
+    }
+    if letter == b"T".as_slice() {
+        return tick_of(words);
+    }
+    if letter == b"S".as_slice() {
+        return stop_of(words);
+    }
+    None
 }
 
 #[tactic(auto, using(crate::proofs::FirstWord::no_datagram), unfolding(crate::specs::EventText::datagram_of))]
@@ -140,7 +145,7 @@ fn datagram_of(alloc: Global, words: &[u8]) -> Result<Option<Event>, OutOfMemory
     let (hex, None) = split_word(words) else {
         return Ok(None);
     };
-    let Some(at) = number_of(u64::MAX as u128 + 1, at) else {
+    let Some(at) = milliseconds_of(at) else {
         return Ok(None);
     };
     let Some(peer) = peer_of(ip, port) else {
@@ -150,6 +155,114 @@ fn datagram_of(alloc: Global, words: &[u8]) -> Result<Option<Event>, OutOfMemory
         return Ok(None);
     };
     Ok(Some(Event::Datagram { at, peer, bytes }))
+}
+
+#[tactic(auto, using(crate::proofs::FirstWord::no_piece), unfolding(crate::specs::EventText::piece_of))]
+fn piece_of(alloc: Global, words: &[u8]) -> Result<Option<Event>, OutOfMemory>
+    ensures { IfOk result (λ event. event ≡ piece_of (words_in words.now)) }
+{
+    let (at, Some(words)) = split_word(words) else {
+        return Ok(None);
+    };
+    let (conn, Some(words)) = split_word(words) else {
+        return Ok(None);
+    };
+    let (hex, None) = split_word(words) else {
+        return Ok(None);
+    };
+    let Some(at) = milliseconds_of(at) else {
+        return Ok(None);
+    };
+    let Some(conn) = connection_of(conn) else {
+        return Ok(None);
+    };
+    let Some(piece) = bytes_of(alloc, hex)? else {
+        return Ok(None);
+    };
+    Ok(Some(Event::Bytes { at, conn, piece }))
+}
+
+#[tactic(auto, using(crate::proofs::FirstWord::no_accepted), unfolding(crate::specs::EventText::accepted_of))]
+fn accepted_of(words: &[u8]) -> Option<Event>
+    ensures { result ≡ accepted_of (words_in words.now) }
+{
+    let (at, Some(words)) = split_word(words) else {
+        return None;
+    };
+    let (conn, Some(words)) = split_word(words) else {
+        return None;
+    };
+    let (ip, Some(words)) = split_word(words) else {
+        return None;
+    };
+    let (port, Some(words)) = split_word(words) else {
+        return None;
+    };
+    let (limit, None) = split_word(words) else {
+        return None;
+    };
+    let at = milliseconds_of(at)?;
+    let conn = connection_of(conn)?;
+    let peer = peer_of(ip, port)?;
+    let limit = milliseconds_of(limit)?;
+    Some(Event::Accepted {
+        at,
+        conn,
+        peer,
+        limit,
+    })
+}
+
+#[tactic(auto, using(crate::proofs::FirstWord::no_end), unfolding(crate::specs::EventText::end_of))]
+fn end_of(words: &[u8]) -> Option<Event>
+    ensures { result ≡ end_of (words_in words.now) }
+{
+    let (at, Some(words)) = split_word(words) else {
+        return None;
+    };
+    let (conn, None) = split_word(words) else {
+        return None;
+    };
+    let at = milliseconds_of(at)?;
+    let conn = connection_of(conn)?;
+    Some(Event::Ended { at, conn })
+}
+
+#[tactic(auto, using(crate::proofs::FirstWord::no_tick), unfolding(crate::specs::EventText::tick_of))]
+fn tick_of(words: &[u8]) -> Option<Event>
+    ensures { result ≡ tick_of (words_in words.now) }
+{
+    let (at, None) = split_word(words) else {
+        return None;
+    };
+    let at = milliseconds_of(at)?;
+    Some(Event::Tick { at })
+}
+
+#[tactic(auto, using(crate::proofs::FirstWord::no_stop), unfolding(crate::specs::EventText::stop_of))]
+fn stop_of(words: &[u8]) -> Option<Event>
+    ensures { result ≡ stop_of (words_in words.now) }
+{
+    let (at, None) = split_word(words) else {
+        return None;
+    };
+    let at = milliseconds_of(at)?;
+    Some(Event::Stop { at })
+}
+
+/// A moment or a limit.
+fn milliseconds_of(word: &[u8]) -> Option<u64>
+    ensures { result ≡ milliseconds_of word.now }
+{
+    number_of(u64::MAX as u128 + 1, word)
+}
+
+/// The number of a connection.
+fn connection_of(word: &[u8]) -> Option<u32>
+    ensures { result ≡ connection_of word.now }
+{
+    let number = number_of(u32::MAX as u128 + 1, word)?;
+    Some(number as u32)
 }
 
 fn split_word(line: &[u8]) -> (&[u8], Option<&[u8]>)
@@ -182,8 +295,9 @@ fn peer_of(ip: &[u8], port: &[u8]) -> Option<Peer>
     })
 }
 
+/// The address of 8 (IPv4) or 32 (IPv6) hex digits of either case, none for any other word.
 #[tactic(auto, unfolding(crate::specs::EventText::ip_of))]
-fn ip_of(word: &[u8]) -> Option<Ip>
+pub(crate) fn ip_of(word: &[u8]) -> Option<Ip>
     ensures { result ≡ ip_of word.now }
 {
     if word.len() == 8 {
@@ -220,8 +334,9 @@ fn bytes_of(alloc: Global, word: &[u8]) -> Result<Option<Octets>, OutOfMemory>
     }
 }
 
+/// The decimal number of a word, where it is below the limit and has no zero before another digit.
 #[tactic(auto, unfolding(crate::specs::EventText::number_of))]
-fn number_of(limit: u128, word: &[u8]) -> Option<u64>
+pub(crate) fn number_of(limit: u128, word: &[u8]) -> Option<u64>
     requires some { 0 < limit }
     requires fits { limit ≤ 2 ^ 64 }
     ensures value { result ≡ number_of limit word.now }

@@ -16,7 +16,7 @@ pub const VERSION: &str = "dns 0.1.0\n";
 pub const HELP: &str = "\
 dns: an authoritative DNS server over lists of events
 
-usage: dns events ORIGIN [--zone=PATH]
+usage: dns events ORIGIN [--zone=PATH] [--deny=IP/PREFIX]... [--allow=IP/PREFIX]...
        dns --help | --version
 
 events reads the zone at ORIGIN from the file PATH, and event lines from standard input. It answers each
@@ -25,14 +25,24 @@ message that comes in, and writes a line for each reply. Without --zone= the zon
 ORIGIN is the name at the top of the zone. The zone text has one record a line: owner, TTL, IN, type, data.
 Names in it are absolute, and the types are A, NS, CNAME, SOA and TXT.
 
-An event line is a datagram: D AT IP PORT HEX, with one space between words.
-  AT    the moment, in milliseconds, below 2^47 and not below that of the line before
-  IP    the sender's address, in 8 hex digits (IPv4) or 32 (IPv6)
-  PORT  the sender's port
-  HEX   the message, two hex digits a byte, or - for no byte
+--deny= and --allow= name networks: the addresses that have the first PREFIX bits of IP, at most 32 or 128 of them.
+Within the sender's own address family, a sender in an allowed network is let in; else one in a denied network is
+shut out; else it is let in, unless there are allowed networks and no denied ones. Who is shut out gets Refused.
+
+An event line is one of these, with one space between words:
+  A AT CONN IP PORT LIMIT  a connection was accepted
+  B AT CONN HEX            bytes came over a connection
+  E AT CONN                a connection ended
+  D AT IP PORT HEX         a datagram came in
+  T AT                     time passed
+  S AT                     the server stops, and no line follows
+AT is a moment in milliseconds, not below that of the line before; CONN the connection's number, greater than those
+accepted before; LIMIT for how many milliseconds it may stay without a whole message, or 0. AT and LIMIT are below
+2^47. IP and PORT are the other end, IP in 8 hex digits (IPv4) or 32 (IPv6), as in the options. HEX is at most 65535
+bytes, two hex digits each, or - for none. On a connection each message stands behind the two bytes of its length.
 Empty lines and lines that begin with # are passed over.
 
-The output has a line for each reply, P IP PORT HEX, and then
+The output has a line for each reply, P IP PORT HEX or C CONN HEX, and then
   serial N       the zone's serial
   journal_len N  how many rows the journal has
   open N         how many connections are open
@@ -42,7 +52,7 @@ Exit status, and the one line that is written in place of the output:
   1   usage                     the words are no command
   2   zone text line L: KIND    line L of the zone text is faulty
   3   event line L              line L of the event text is faulty
-  4                             not in use
+  4   not valid                 the events break a rule above: a moment that falls or is too great, and so on
   5   journal row R: KIND       row R of the journal is refused
   6   read fault                the zone text or the event text could not be read
   7                             the output could not be written

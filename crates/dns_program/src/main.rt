@@ -4,6 +4,7 @@
 mod event_text;
 mod help;
 mod lines;
+mod network_text;
 mod reading;
 mod run;
 mod status;

@@ -1,29 +1,27 @@
 //! The top call: what the words of the command line say is done.
 
-ghost use Rattle.std.specs.Prelude.{◌≡◌, ◌<◌, ◌≤◌, ◌^◌, ◌⊎◌, [], IsSome, IfSome, IfNone, IfOk, IfErr, map, string_bytes};
+ghost use Rattle.std.specs.Prelude.{◌≡◌, ◌<◌, ◌≤◌, ◌^◌, ◌⊎◌, [], length, IsSome, IfSome, IfNone, IfOk, IfErr, map, string_bytes};
 ghost use Rattle.std.specs.List.{flat_map};
 ghost use Rattle.dns_wire.specs.Edge.{Rose, Keeps};
 ghost use Rattle.dns_wire.specs.Name.{fold_of};
 ghost use Rattle.dns_zone.specs.Zone.{serial_of};
-ghost use Rattle.dns_server_core.specs.Book.{Settles};
 ghost use Rattle.dns_server_core.specs.Opening.{HadNoRow, HadFirst};
-ghost use Rattle.dns_server_core.specs.Runs.{AreEvents, done_by, Run};
 ghost use Rattle.dns_program.specs.declared.status.Status.TheVariants as status;
 ghost use Rattle.dns_program.specs.Lines.{out_line, number_line, output_lines};
 ghost use Rattle.dns_program.specs.Status.{refusal_line};
 ghost use Rattle.dns_program.specs.World.{around, told_by, faults_by};
 ghost use Rattle.dns_program.specs.Steps.{ReadsZone, ReadsNoZone, LoadsZone, LoadsNoZone, LoadsEvents, LoadsNoEvents, IsRefused};
 ghost use Rattle.dns_program.specs.Ends.{Ends};
-ghost use Rattle.dns_program.specs.Parts.{Prepares, SettlesAll, SettlesNot, status_for, Writes, unwritten, EndsWriting, EndsRefusing};
-ghost use Rattle.dns_program.specs.Fronts.{SettlesFront};
+ghost use Rattle.dns_program.specs.Parts.{Prepares, SettlesEach, SettlesAll, SettlesNot, status_for, Writes, unwritten, EndsWriting, EndsRefusing};
+ghost use Rattle.dns_program.specs.Fronts.{SettlesPart};
 
 use crate::event_text::{EventFault, events_of};
 use crate::lines::{number_line, out_line};
 use crate::reading::{ReadFault, read_to_end};
 use crate::status::{Ended, Status, refusal_line};
-use crate::words::words_of;
+use crate::words::{Networks, words_of};
 use dns_journal::{KeepFault, Keeper};
-use dns_server_core::{Book, Event, OpenKind, Out, RunFault, Server};
+use dns_server_core::{Book, Event, OpenKind, Out, Server};
 use dns_wire::{Clock, IoFault, Name, OutOfMemory, Sink, Source, write_all};
 use dns_zone::{ReplayKind, Zone, ZoneTextFault, read_zone};
 use std::alloc::Global;
@@ -40,6 +38,8 @@ struct Ready {
     origin: Name,
     zone: Option<Zone>,
     row: i64,
+    denied: Networks,
+    allowed: Networks,
     events: Vec<Event>,
 }
 
@@ -111,13 +111,12 @@ fn prepare<Z: Source, E: Source, K: Keeper>(
         (around (Z.left zone.old) (Z.left zone.new) (Z.faults zone.old) (Z.faults zone.new))
         (around (E.left events.old) (E.left events.new) (E.faults events.old) (E.faults events.new))
         (around (K.rows keeper.old) (K.rows keeper.new) (K.faults keeper.old) (K.faults keeper.new))
-        r.origin r.zone r.row r.events.items) }
+        r.origin r.zone r.row (record { allowed = r.allowed; denied = r.denied }) r.events.items) }
     ensures err { IfErr result (IsRefused (map string_bytes words.now.items)
         (around (Z.left zone.old) (Z.left zone.new) (Z.faults zone.old) (Z.faults zone.new))
         (around (E.left events.old) (E.left events.new) (E.faults events.old) (E.faults events.new))
         (around (K.rows keeper.old) (K.rows keeper.new) (K.faults keeper.old) (K.faults keeper.new))) }
     ensures origin { IfOk result (λ r. IfSome r.zone (λ z. z.origin ≡ r.origin)) }
-    ensures events { IfOk result (λ r. AreEvents r.events.items) }
     ensures kept { Keeps (K.rows keeper.old) (K.rows keeper.new) }
     ensures later { K.faults keeper.old ≤ K.faults keeper.new }
 {
@@ -132,6 +131,8 @@ fn prepare<Z: Source, E: Source, K: Keeper>(
         origin: options.origin,
         zone,
         row,
+        denied: options.denied,
+        allowed: options.allowed,
         events,
     })
 }
@@ -202,7 +203,6 @@ fn read_zone_text<Z: Source>(alloc: Global, origin: &Name, source: &mut Z) -> Re
 fn load_events<E: Source>(alloc: Global, source: &mut E) -> Result<Vec<Event>, Status>
     ensures ok { IfOk result (λ events. LoadsEvents (around (E.left source.old) (E.left source.new) (E.faults source.old) (E.faults source.new)) events.items) }
     ensures err { IfErr result (LoadsNoEvents (around (E.left source.old) (E.left source.new) (E.faults source.old) (E.faults source.new))) }
-    ensures events { IfOk result (λ events. AreEvents events.items) }
 {
     let text = match read_to_end(alloc, source, EVENT_BOUND) {
         Ok(text) => text,
@@ -226,14 +226,15 @@ fn serve<K: Keeper>(
 ) -> Result<Answered<K>, Stopped<K>>
     requires moment { moment < 2 ^ 47 }
     requires origin { IfSome ready.zone (λ z. z.origin ≡ ready.origin) }
-    requires events { AreEvents ready.events.items }
-    ensures ok { IfOk result (λ a. SettlesAll K.rows (K.rows keeper) ready.zone moment ready.events.items a.outs.items a.server.handler) }
-    ensures err { IfErr result (λ s. SettlesNot K.rows K.faults keeper ready.zone ready.row moment ready.events.items s.status s.keeper) }
+    ensures ok { IfOk result (λ a. SettlesAll K.rows (K.rows keeper) ready.zone moment (record { allowed = ready.allowed; denied = ready.denied }) ready.events.items a.outs.items a.server) }
+    ensures err { IfErr result (λ s. SettlesNot K.rows K.faults keeper ready.zone ready.row moment (record { allowed = ready.allowed; denied = ready.denied }) ready.events.items s.status s.keeper) }
 {
     let Ready {
         origin,
         zone,
         row,
+        denied,
+        allowed,
         events,
     } = ready;
     let book = match Book::open(alloc, keeper, origin, false, moment, zone) {
@@ -245,27 +246,40 @@ fn serve<K: Keeper>(
             });
         }
     };
-    Ok(settle_all(alloc, book, &events)?)
+    Ok(settle_all(alloc, book, denied, allowed, &events)?)
 }
 
-/// Settles the messages that events complete, in order.
+/// Settles the messages that events complete, in order, where these networks say who is let in. A list that is not valid
+/// is not begun.
 fn settle_all<K: Keeper>(
     alloc: Global,
     book: Book<K>,
+    denied: Networks,
+    allowed: Networks,
     events: &Vec<Event>,
 ) -> Result<Answered<K>, Stopped<K>>
-    requires { AreEvents events.now.items }
-    ensures ok { IfOk result (λ a. Run Settles book (done_by events.now.items) a.outs.items a.server.handler) }
-    ensures err { IfErr result (SettlesFront book events.now.items) }
+    ensures ok { IfOk result (λ a. SettlesEach (record { allowed = allowed; denied = denied }) book events.now.items a.outs.items a.server) }
+    ensures err { IfErr result (SettlesPart (record { allowed = allowed; denied = denied }) book events.now.items) }
 {
-    let mut server = Server::new(alloc, book);
+    let mut server = Server::with_access(alloc, book, denied.into_vec(), allowed.into_vec());
+    if !server.valid_events(events) {
+        return Err(given_up(server, Status::NotValid));
+    }
     let mut outs = Vec::new(alloc);
     match server.run_events(events, &mut outs) {
         Ok(()) => Ok(Answered { server, outs }),
-        Err(RunFault::OutOfMemory { .. }) => Err(Stopped {
-            status: Status::OutOfMemory,
-            keeper: server.into_book().into_keeper(),
-        }),
+        Err(_) => Err(given_up(server, Status::OutOfMemory)),
+    }
+}
+
+/// A server that goes no further.
+fn given_up<K: Keeper>(server: Server<Book<K>>, status: Status) -> Stopped<K>
+    ensures keeper { result.keeper ≡ server.handler.keeper }
+    ensures status { result.status ≡ status }
+{
+    Stopped {
+        status,
+        keeper: server.into_book().into_keeper(),
     }
 }
 
@@ -300,7 +314,7 @@ fn refuse<W: Sink>(alloc: Global, status: Status, out: &mut W) -> Status
 /// Writes a line for each reply and the three closing lines, and tells how the program ends.
 fn finish<K: Keeper, W: Sink>(alloc: Global, answered: &Answered<K>, out: &mut W) -> Status
     ensures { EndsWriting (around (W.taken out.old) (W.taken out.new) (W.faults out.old) (W.faults out.new))
-        (output_lines answered.now.outs.items (serial_of answered.now.server.handler.zone.records) answered.now.server.handler.row_count 0) status.Ok result }
+        (output_lines answered.now.outs.items (serial_of answered.now.server.handler.zone.records) answered.now.server.handler.row_count (length answered.now.server.kept.connections)) status.Ok result }
 {
     let serial = answered.server.serial();
     let length = answered.server.journal_len();

@@ -9,7 +9,7 @@ use dns_zone::{ReplayKind, ZoneTextKind};
 use std::alloc::Global;
 
 /// How a run ended. Of several causes the first in the order of the work is told: the words, the first look at the
-/// journal, the zone text, the event text, the opening of the journal, the output.
+/// journal, the zone text, the event text, the opening of the journal, the list of events, the output.
 #[derive(Clone, Copy, Debug, PartialEq, Eq)]
 pub enum Status {
     /// The output was written.
@@ -28,6 +28,8 @@ pub enum Status {
         /// The first such line, from 1.
         line: u64,
     },
+    /// The events are no valid list. The journal was opened, and nothing else was done.
+    NotValid,
     /// The rows of the journal are refused.
     Recovery {
         /// The id of the first row that is refused.
@@ -48,7 +50,7 @@ pub enum Status {
 }
 
 impl Status {
-    /// The status that the process ends with, from 0 to 10; 4 is not in use.
+    /// The status that the process ends with, from 0 to 10.
     pub fn number(&self) -> u8
         ensures { result ≡ status_number self.now }
     {
@@ -57,6 +59,7 @@ impl Status {
             Status::Usage => 1,
             Status::ZoneText { .. } => 2,
             Status::EventLine { .. } => 3,
+            Status::NotValid => 4,
             Status::Recovery { .. } => 5,
             Status::ReadFault => 6,
             Status::WriteFault => 7,
@@ -101,6 +104,7 @@ pub fn refusal_line(alloc: Global, status: &Status) -> Result<String, OutOfMemor
             format!(in alloc; "zone text line {line}: {kind}\n")?
         }
         Status::EventLine { line } => format!(in alloc; "event line {line}\n")?,
+        Status::NotValid => String::from_str(alloc, "not valid\n")?,
         Status::Recovery { row, kind } => {
             let kind = replay_kind_text(*kind);
             format!(in alloc; "journal row {row}: {kind}\n")?

@@ -23,19 +23,16 @@ fn event_texts_and_their_first_faulty_line(rt: HostRuntime) -> Result<(), Fail> 
             "D 1 7F000001 0 -\r\n\nD 1 20010db8000000000000000000000001 65535 aB01\n",
             Ok(2),
         ),
-        ("D 140737488355327 7f000001 53 00\n", Ok(1)),
+        // Moments may be as great as they fit, and may fall: whether the list is valid is another question.
         (
-            "D 140737488355328 7f000001 53 00\n",
-            Err(EventFault::Line(1)),
+            "D 18446744073709551615 7f000001 53 00\nD 4 7f000001 53 00\n",
+            Ok(2),
         ),
         (
             "D 18446744073709551616 7f000001 53 00\n",
             Err(EventFault::Line(1)),
         ),
-        (
-            "#\n\nD 5 7f000001 53 00\nD 4 7f000001 53 00\n",
-            Err(EventFault::Line(4)),
-        ),
+        ("#\n\nT 5\nt 4\n", Err(EventFault::Line(4))),
         ("D 00 7f000001 53 00\n", Err(EventFault::Line(1))),
         ("D +1 7f000001 53 00\n", Err(EventFault::Line(1))),
         ("D  7f000001 53 00\n", Err(EventFault::Line(1))),
@@ -51,7 +48,28 @@ fn event_texts_and_their_first_faulty_line(rt: HostRuntime) -> Result<(), Fail> 
         ("D 0 7f000001  53 00\n", Err(EventFault::Line(1))),
         (" D 0 7f000001 53 00\n", Err(EventFault::Line(1))),
         ("d 0 7f000001 53 00\n", Err(EventFault::Line(1))),
+        // The other letters.
+        (
+            "A 0 4294967295 7f000001 53 18446744073709551615\nB 1 2 00\nB 1 2 -\nE 3 4\nT 5\nS 6\n",
+            Ok(6),
+        ),
         ("A 0 1 7f000001 0x 0\n", Err(EventFault::Line(1))),
+        ("A 0 4294967296 7f000001 53 0\n", Err(EventFault::Line(1))),
+        (
+            "A 0 1 7f000001 53 18446744073709551616\n",
+            Err(EventFault::Line(1)),
+        ),
+        ("A 0 1 7f000001 53\n", Err(EventFault::Line(1))),
+        ("A 0 1 7f000001 53 0 0\n", Err(EventFault::Line(1))),
+        ("B 0 1\n", Err(EventFault::Line(1))),
+        ("B 0 1 0\n", Err(EventFault::Line(1))),
+        ("E 0\n", Err(EventFault::Line(1))),
+        ("E 0 1 -\n", Err(EventFault::Line(1))),
+        ("T\n", Err(EventFault::Line(1))),
+        ("T 0 1\n", Err(EventFault::Line(1))),
+        ("S 0 \n", Err(EventFault::Line(1))),
+        ("S\n", Err(EventFault::Line(1))),
+        ("C 0 1 00\n", Err(EventFault::Line(1))),
     ] {
         let got = events_of(rt.alloc(), text.as_bytes()).map(|events| events.len());
         assert_eq!(rt; got, want, "{text}");
@@ -60,22 +78,33 @@ fn event_texts_and_their_first_faulty_line(rt: HostRuntime) -> Result<(), Fail> 
 }
 
 #[test]
-fn an_event_line_and_the_longest_one(rt: HostRuntime) -> Result<(), Fail> {
-    let text = b"D 7 20010DB8000000000000000000000001 5300 00fF";
+fn words_of_event_lines(rt: HostRuntime) -> Result<(), Fail> {
+    let text =
+        b"D 7 20010DB8000000000000000000000001 5300 00fF\nA 8 9 7f000001 53 10\nB 11 12 aa\n";
     let events = events_of(rt.alloc(), text)?;
-    let Some(Event::Datagram { at, peer, bytes }) = events.first() else {
-        return Err(Fail::from("no event"));
+    let [
+        Event::Datagram { at, peer, bytes },
+        Event::Accepted {
+            at: begin,
+            conn,
+            peer: other,
+            limit,
+        },
+        Event::Bytes {
+            at: later,
+            conn: another,
+            piece,
+        },
+    ] = events.as_slice()
+    else {
+        return Err(Fail::from("other events"));
     };
-    assert_eq!(rt; *at, 7);
+    assert_eq!(rt; (*at, *begin, *later), (7, 8, 11));
     assert_eq!(rt; *peer, Peer { ip: V6, port: 5300 });
     assert_eq!(rt; bytes.as_slice(), [0x00, 0xff].as_slice());
-    let mut long = Vec::from_slice(rt.alloc(), b"D 0 7f000001 53 ")?;
-    let head = long.len();
-    long.resize(head + 131_070, b'0')?;
-    assert!(rt; events_of(rt.alloc(), &long).is_ok());
-    long.push(b'0')?;
-    long.push(b'0')?;
-    assert!(rt; matches!(events_of(rt.alloc(), &long), Err(EventFault::Line(1))));
+    assert_eq!(rt; (*conn, *limit, *another), (9, 10, 12));
+    assert_eq!(rt; other.port, 53);
+    assert_eq!(rt; piece.as_slice(), [0xaa].as_slice());
     Ok(())
 }
 
@@ -126,6 +155,7 @@ fn statuses_and_their_lines(rt: HostRuntime) -> Result<(), Fail> {
         (Status::Usage, 1, "usage\n"),
         (zone, 2, "zone text line 0: NotOneSoa\n"),
         (kind, 2, "zone text line 12: Type\n"),
+        (Status::NotValid, 4, "not valid\n"),
         (Status::EventLine { line: 1 }, 3, "event line 1\n"),
         (rows, 5, "journal row -1: not built\n"),
         (Status::ReadFault, 6, "read fault\n"),
@@ -159,6 +189,37 @@ fn command_lines(rt: HostRuntime) -> Result<(), Fail> {
         ("events . --zone=", false, Some("")),
         ("events . --zone=a --zone=b", false, Some("a")),
         ("events . zone=a --zone=b", false, Some("b")),
+        (
+            "events . --deny=0a000000/8 --zone=a --allow=0A0b0c0d/32 --deny=::1/8",
+            false,
+            Some("a"),
+        ),
+        (
+            "events . --deny=0a000000/8 --zone=a --allow=0A0b0c0d/32 --deny=7f000001/0",
+            true,
+            Some("a"),
+        ),
+        (
+            "events . --deny=20010db8000000000000000000000001/128",
+            true,
+            None,
+        ),
+        (
+            "events . --deny=20010db8000000000000000000000001/129",
+            false,
+            None,
+        ),
+        ("events . --allow=0a000000/33", false, None),
+        ("events . --allow=0a000000/08", false, None),
+        ("events . --allow=0a000000/256", false, None),
+        ("events . --allow=0a000000/", false, None),
+        ("events . --allow=0a000000", false, None),
+        ("events . --allow=0a00000/8", false, None),
+        ("events . --allow=/8", false, None),
+        ("events . --allow=0a000000/8/8", false, None),
+        ("events . --allow=", false, None),
+        ("events . --allow", false, None),
+        ("events . --Deny=0a000000/8", false, None),
         ("events . --update", false, None),
         ("events a..b", false, None),
         ("events", false, None),

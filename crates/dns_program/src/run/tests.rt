@@ -1,4 +1,5 @@
-//! Whole runs over objects in memory. Replies are written down by hand from RFC 1035 4.1 and RFC 6891 6.1.
+//! Whole runs over objects in memory. Replies are written down by hand from RFC 1035 4.1, RFC 6891
+//! 6.1, RFC 1034 4.3.2, RFC 2308 3 and RFC 4592.
 
 use super::*;
 use crate::status::Status;
@@ -25,7 +26,7 @@ const WWW_REPLY: &str =
     "P 7f000001 5300 12348500000100010000000003777777076578616d706c6503636f6d000001000103777777076578616d706c6503636f6d000001000100000e100004c0000201\n";
 
 /// Each event text, and the lines of its replies.
-const ANSWERED: [(&str, &str); 16] = [
+const ANSWERED: [(&str, &str); 21] = [
     ("", ""),
     (WWW, WWW_REPLY),
     // The letters' case is echoed in the question; the answer has the zone's own name.
@@ -52,10 +53,33 @@ const ANSWERED: [(&str, &str); 16] = [
         "D 0 7f000001 5300 12348500000100010000000003777777076578616d706c6503636f6d000001000103777777076578616d706c6503636f6d000001000100000e100004c0000201\n",
         "",
     ),
-    // A name that is not there.
+    // An alias and what it leads to.
+    (
+        "D 0 7f000001 5300 12340100000100000000000005616c696173076578616d706c6503636f6d0000010001\n",
+        "P 7f000001 5300 12348500000100020000000005616c696173076578616d706c6503636f6d000001000105616c696173076578616d706c6503636f6d000005000100000e10001103777777076578616d706c6503636f6d0003777777076578616d706c6503636f6d000001000100000e100004c0000201\n",
+    ),
+    // A wildcard, two labels above: the owner is the name that was asked for.
+    (
+        "D 0 7f000001 5300 123401000001000000000000016101620477696c64076578616d706c6503636f6d0000100001\n",
+        "P 7f000001 5300 123485000001000100000000016101620477696c64076578616d706c6503636f6d0000100001016101620477696c64076578616d706c6503636f6d000010000100000e1000020177\n",
+    ),
+    // A name with no data, and a name that is not there.
+    (
+        "D 0 7f000001 5300 1234010000010000000000000477696c64076578616d706c6503636f6d0000100001\n",
+        "P 7f000001 5300 1234850000010000000100000477696c64076578616d706c6503636f6d0000100001076578616d706c6503636f6d00000600010000012c003c026e73076578616d706c6503636f6d000a686f73746d6173746572076578616d706c6503636f6d000000000700000e1000000258000151800000012c\n",
+    ),
     (
         "D 0 7f000001 5300 123401000001000000000000046e6f7065076578616d706c6503636f6d0000010001\n",
-        "P 7f000001 5300 123481040001000000000000046e6f7065076578616d706c6503636f6d0000010001\n",
+        "P 7f000001 5300 123485030001000000010000046e6f7065076578616d706c6503636f6d0000010001076578616d706c6503636f6d00000600010000012c003c026e73076578616d706c6503636f6d000a686f73746d6173746572076578616d706c6503636f6d000000000700000e1000000258000151800000012c\n",
+    ),
+    // Below a cut; and DS of the cut, which is of this zone.
+    (
+        "D 0 7f000001 5300 123401000001000000000000017803737562076578616d706c6503636f6d0000010001\n",
+        "P 7f000001 5300 123481000001000000010000017803737562076578616d706c6503636f6d000001000103737562076578616d706c6503636f6d000002000100000e100014026e7303737562076578616d706c6503636f6d00\n",
+    ),
+    (
+        "D 0 7f000001 5300 12340100000100000000000003737562076578616d706c6503636f6d00002b0001\n",
+        "P 7f000001 5300 12348500000100000001000003737562076578616d706c6503636f6d00002b0001076578616d706c6503636f6d00000600010000012c003c026e73076578616d706c6503636f6d000a686f73746d6173746572076578616d706c6503636f6d000000000700000e1000000258000151800000012c\n",
     ),
     // An EDNS version that is too high; then version 0, with an opcode that is not known.
     (
@@ -94,6 +118,149 @@ const ANSWERED: [(&str, &str); 16] = [
     ),
 ];
 
+/// The query of `WWW` behind its length, in the first ten bytes and the others.
+const FRONT: &str = "00211234010000010000";
+
+const BACK: &str = "0000000003777777076578616d706c6503636f6d0000010001";
+
+/// What it is answered on connection 1.
+const WWW_FRAME: &str =
+    "C 1 004012348500000100010000000003777777076578616d706c6503636f6d000001000103777777076578616d706c6503636f6d000001000100000e100004c0000201\n";
+
+/// Events before the query and between its two parts, how these lines begin, events after it, whether it is answered, and
+/// how many connections are open then.
+const ON_TIME: [([&str; 4], bool, u64); 13] = [
+    // At the deadline, and then as long as the limit behind the message; and a moment more.
+    (
+        [
+            "A 0 1 7f000001 5300 1000\nB 500 1 ",
+            "",
+            "B 1000 1 ",
+            "T 2000\n",
+        ],
+        true,
+        1,
+    ),
+    (
+        [
+            "A 0 1 7f000001 5300 1000\nB 500 1 ",
+            "",
+            "B 1000 1 ",
+            "T 2001\n",
+        ],
+        true,
+        0,
+    ),
+    // A moment behind the deadline, which bytes that complete no message do not move.
+    (
+        ["A 0 1 7f000001 5300 1000\nB 500 1 ", "", "B 1001 1 ", ""],
+        false,
+        0,
+    ),
+    // A deadline that passed closes the connection for good.
+    (
+        [
+            "A 0 1 7f000001 5300 1000\nB 500 1 ",
+            "T 1001\n",
+            "B 1001 1 ",
+            "",
+        ],
+        false,
+        0,
+    ),
+    // Without a limit.
+    (
+        ["A 0 1 7f000001 5300 0\nB 500 1 ", "", "B 1000000000 1 ", ""],
+        true,
+        1,
+    ),
+    // An empty frame is a message, to which no reply is owed: it moves the deadline.
+    (
+        [
+            "A 0 1 7f000001 5300 1000\nB 900 1 0000\nB 900 1 ",
+            "",
+            "B 1900 1 ",
+            "",
+        ],
+        true,
+        1,
+    ),
+    // What was left unfinished is dropped at the end, and nothing is heard of the connection then.
+    (
+        ["A 0 1 7f000001 5300 0\nB 0 1 ", "E 0 1\n", "B 0 1 ", ""],
+        false,
+        0,
+    ),
+    (
+        ["A 0 1 7f000001 5300 0\nB 0 1 ", "", "B 0 1 ", "E 0 1\n"],
+        true,
+        0,
+    ),
+    // The end of another connection, and its bytes between.
+    (
+        [
+            "A 0 1 7f000001 5300 0\nA 0 2 7f000001 5301 0\nB 0 1 ",
+            "B 0 2 0021\nE 0 2\n",
+            "B 0 1 ",
+            "",
+        ],
+        true,
+        1,
+    ),
+    (
+        [
+            "A 0 1 7f000001 5300 0\nA 0 2 7f000001 5301 0\nB 0 1 ",
+            "B 0 2 0021\n",
+            "B 0 1 ",
+            "",
+        ],
+        true,
+        2,
+    ),
+    // A stop closes all.
+    (
+        ["A 0 1 7f000001 5300 0\nB 0 1 ", "", "B 0 1 ", "S 0\n"],
+        true,
+        0,
+    ),
+    // Nothing goes to an unsafe peer, nor to a connection that was never accepted.
+    (["A 0 1 7f000001 0 0\nB 0 1 ", "", "B 0 1 ", ""], false, 0),
+    (
+        ["A 0 2 7f000001 5300 0\nB 0 1 ", "", "B 0 1 ", ""],
+        false,
+        1,
+    ),
+];
+
+/// Options, an event text, and the lines of its replies: sources that are let in and shut out.
+const SCREENED: [(&str, &str, &str); 4] = [
+    // A good message and one that is cut, from a denied network.
+    (
+        " --deny=c0000200/24",
+        "D 0 c0000264 5300 12340100000100000000000003777777076578616d706c6503636f6d0000010001\nD 0 c0000264 5300 000101000001000000000000\n",
+        "P c0000264 5300 12348105000100000000000003777777076578616d706c6503636f6d0000010001\nP c0000264 5300 000181050000000000000000\n",
+    ),
+    // An IPv4 network that is allowed shuts out the other IPv4 sources, and no IPv6 source.
+    (
+        " --allow=0a000000/8",
+        "D 0 7f000001 5300 12340100000100000000000003777777076578616d706c6503636f6d0000010001\nD 0 00000000000000000000000000000001 5300 12340100000100000000000003777777076578616d706c6503636f6d0000010001\n",
+        "P 7f000001 5300 12348105000100000000000003777777076578616d706c6503636f6d0000010001\nP 00000000000000000000000000000001 5300 12348500000100010000000003777777076578616d706c6503636f6d000001000103777777076578616d706c6503636f6d000001000100000e100004c0000201\n",
+    ),
+    // One address is allowed and all are denied.
+    (
+        " --deny=00000000/0 --allow=7f000001/32",
+        "D 0 7f000001 5300 12340100000100000000000003777777076578616d706c6503636f6d0000010001\nD 0 7f000002 5300 12340100000100000000000003777777076578616d706c6503636f6d0000010001\nD 0 00000000000000000000000000000001 5300 12340100000100000000000003777777076578616d706c6503636f6d0000010001\n",
+        "P 7f000001 5300 12348500000100010000000003777777076578616d706c6503636f6d000001000103777777076578616d706c6503636f6d000001000100000e100004c0000201\nP 7f000002 5300 12348105000100000000000003777777076578616d706c6503636f6d0000010001\nP 00000000000000000000000000000001 5300 12348500000100010000000003777777076578616d706c6503636f6d000001000103777777076578616d706c6503636f6d000001000100000e100004c0000201\n",
+    ),
+    // From a denied network: a reply, eleven bytes, no bytes, and a good message from port 0, none of which is answered;
+    // then a message whose answer is missing, one of two questions, and one with opcode 4 and EDNS version 1.
+    (
+        " --deny=7f000000/8",
+        "D 0 7f000001 5300 12348500000100010000000003777777076578616d706c6503636f6d000001000103777777076578616d706c6503636f6d000001000100000e100004c0000201\nD 0 7f000001 5300 1234010000010000000000\nD 0 7f000001 5300 -\nD 0 7f000001 0 12340100000100000000000003777777076578616d706c6503636f6d0000010001\nD 0 7f000001 5300 12340100000100010000000003777777076578616d706c6503636f6d0000010001\nD 0 7f000001 5300 12340100000200000000000003777777076578616d706c6503636f6d000001000103777777076578616d706c6503636f6d0000010001\nD 0 7f000001 5300 12342000000100000000000103777777076578616d706c6503636f6d000001000100002904d0000100000000\n",
+        "P 7f000001 5300 12348105000100000000000003777777076578616d706c6503636f6d0000010001\nP 7f000001 5300 123481050000000000000000\nP 7f000001 5300 1234a005000100000000000003777777076578616d706c6503636f6d0000010001\n",
+    ),
+];
+
 /// A source of a text, 8 bytes a read, one of whose reads fails; 0 for none.
 fn source(alloc: Global, text: &str, failing: u64) -> Result<MemorySource, Fail> {
     let bytes = Octets::from_slice(alloc, text.as_bytes())?;
@@ -115,9 +282,24 @@ fn run_over(
     keeper: MemoryKeeper,
     out: &mut MemorySink,
 ) -> Result<Ended<MemoryKeeper>, Fail> {
+    run_with(alloc, "", zone, events, keeper, out)
+}
+
+/// Runs `events example.com.` with options, each behind a blank.
+fn run_with(
+    alloc: Global,
+    options: &str,
+    zone: &mut MemorySource,
+    events: &mut MemorySource,
+    keeper: MemoryKeeper,
+    out: &mut MemorySink,
+) -> Result<Ended<MemoryKeeper>, Fail> {
+    let mut line = String::from_str(alloc, "events example.com.")?;
+    line.push_str(options)?;
     let mut words = Vec::new(alloc);
-    words.push(String::from_str(alloc, "events")?)?;
-    words.push(String::from_str(alloc, "example.com.")?)?;
+    for word in line.as_str().split(' ') {
+        words.push(String::from_str(alloc, word)?)?;
+    }
     let mut clock = MemoryClock::new(Vec::new(alloc));
     Ok(run(alloc, &words, zone, events, keeper, &mut clock, out))
 }
@@ -126,6 +308,7 @@ fn run_over(
 fn expect(
     rt: &impl Abort,
     alloc: Global,
+    options: &str,
     zone: &str,
     events: &str,
     status: Status,
@@ -133,8 +316,9 @@ fn expect(
 ) -> Result<(), Fail> {
     let mut out = sink(alloc, 0)?;
     let keeper = MemoryKeeper::new(alloc);
-    let ended = run_over(
+    let ended = run_with(
         alloc,
+        options,
         &mut source(alloc, zone, 0)?,
         &mut source(alloc, events, 0)?,
         keeper,
@@ -151,7 +335,127 @@ fn event_texts_that_are_answered(rt: HostRuntime) -> Result<(), Fail> {
     for (events, replies) in ANSWERED {
         let mut output = String::from_str(alloc, replies)?;
         output.push_str("serial 7\njournal_len 8\nopen 0\n")?;
-        expect(&rt, alloc, ZONE, events, Status::Ok, output.as_str())?;
+        expect(&rt, alloc, "", ZONE, events, Status::Ok, output.as_str())?;
+    }
+    Ok(())
+}
+
+/// A reply on a connection stands behind its length, and goes there in time alone.
+#[test]
+fn messages_on_connections(rt: HostRuntime) -> Result<(), Fail> {
+    let alloc = rt.alloc();
+    for ([before, between, second, after], answered, open) in ON_TIME {
+        let events = format!(in alloc; "{before}{FRONT}\n{between}{second}{BACK}\n{after}")?;
+        let replies = if answered { WWW_FRAME } else { "" };
+        let output = format!(in alloc; "{replies}serial 7\njournal_len 8\nopen {open}\n")?;
+        expect(
+            &rt,
+            alloc,
+            "",
+            ZONE,
+            events.as_str(),
+            Status::Ok,
+            output.as_str(),
+        )?;
+    }
+    Ok(())
+}
+
+/// A query in pieces of one byte.
+#[test]
+fn message_byte_by_byte(rt: HostRuntime) -> Result<(), Fail> {
+    let alloc = rt.alloc();
+    let mut events = String::from_str(alloc, "A 0 1 7f000001 5300 0")?;
+    let mut is_high = true;
+    for part in [FRONT, BACK] {
+        for digit in part.chars() {
+            if is_high {
+                events.push_str("\nB 0 1 ")?;
+            }
+            is_high = !is_high;
+            events.push(digit)?;
+        }
+    }
+    let mut output = String::from_str(alloc, WWW_FRAME)?;
+    output.push_str("serial 7\njournal_len 8\nopen 1\n")?;
+    expect(
+        &rt,
+        alloc,
+        "",
+        ZONE,
+        events.as_str(),
+        Status::Ok,
+        output.as_str(),
+    )
+}
+
+/// A list that is not valid: the journal is begun, and nothing is answered.
+#[test]
+fn lists_that_are_not_valid(rt: HostRuntime) -> Result<(), Fail> {
+    let alloc = rt.alloc();
+    for events in [
+        "T 5\nT 4\n",
+        "T 140737488355328\n",
+        "A 0 1 7f000001 5300 140737488355328\n",
+        "A 0 2 7f000001 5300 0\nA 0 2 7f000001 5300 0\n",
+        "A 0 2 7f000001 0 0\nA 0 1 7f000001 5300 0\n",
+        "S 0\nT 0\n",
+    ] {
+        expect(
+            &rt,
+            alloc,
+            "",
+            ZONE,
+            events,
+            Status::NotValid,
+            "not valid\n",
+        )?;
+    }
+    let mut long = String::from_str(alloc, "D 0 7f000001 53 ")?;
+    for _ in 0..65_536 {
+        long.push_str("00")?;
+    }
+    expect(
+        &rt,
+        alloc,
+        "",
+        ZONE,
+        long.as_str(),
+        Status::NotValid,
+        "not valid\n",
+    )?;
+    let mut zone = source(alloc, ZONE, 0)?;
+    let mut events = source(alloc, "S 0\nS 0\n", 0)?;
+    let mut out = sink(alloc, 0)?;
+    let ended = run_over(
+        alloc,
+        &mut zone,
+        &mut events,
+        MemoryKeeper::new(alloc),
+        &mut out,
+    )?;
+    assert_eq!(rt; ended.status, Status::NotValid);
+    let mut keeper = ended.keeper.ok_or("no keeper")?;
+    assert!(rt; matches!(keeper.row_from(8), Ok(Some(_))));
+    assert!(rt; matches!(keeper.row_from(9), Ok(None)));
+    Ok(())
+}
+
+#[test]
+fn sources_that_are_let_in_and_shut_out(rt: HostRuntime) -> Result<(), Fail> {
+    let alloc = rt.alloc();
+    for (options, events, replies) in SCREENED {
+        let mut output = String::from_str(alloc, replies)?;
+        output.push_str("serial 7\njournal_len 8\nopen 0\n")?;
+        expect(
+            &rt,
+            alloc,
+            options,
+            ZONE,
+            events,
+            Status::Ok,
+            output.as_str(),
+        )?;
     }
     Ok(())
 }
@@ -178,7 +482,7 @@ fn texts_that_are_refused(rt: HostRuntime) -> Result<(), Fail> {
             "zone text line 1: OutOfZone\n",
         ),
     ] {
-        expect(&rt, alloc, zone, events, status, output)?;
+        expect(&rt, alloc, "", zone, events, status, output)?;
     }
     let words = Vec::new(alloc);
     let mut zone = source(alloc, ZONE, 0)?;

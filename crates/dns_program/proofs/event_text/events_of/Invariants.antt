@@ -1,7 +1,6 @@
 -- The events so far are ahead of those of the lines that are left, which take fewer bytes with each line.
 use Rattle.std.proofs.Common.{◌≡◌, ◌+◌, ◌≤◌, length}
 use Rattle.dns_zone.specs.Lines.{lines_of}
-use Rattle.dns_server_core.specs.Runs.{AreEvents}
 use Rattle.dns_program.specs.EventText.{events_of}
 use Rattle.dns_program.specs.EventReading.{given_by}
 use Rattle.dns_program.proofs.event_text.events_of.Given as goal
@@ -11,7 +10,6 @@ invariant-loop-line l =
     record {
       counted : l.state.lines + length l.rest ≤ length l.text;
       same : given_by l.state (lines_of l.rest) ≡ events_of l.text;
-      valid : AreEvents l.state.events.items;
     }
 
 abbrev pub decreases-loop-line : goal.decreases-loop-line
