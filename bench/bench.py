@@ -1,6 +1,7 @@
 #!/usr/bin/env python3
-"""Times the built program: one query to a zone of many names, many queries to the example zone, and the messages of
-the tests over and over, whose instructions are counted too where valgrind is there.
+"""Times the built program: one query to a zone of many names, many queries to the example zone, many connections with
+one query each in two pieces, and the messages of the tests over and over, whose instructions are counted too where
+valgrind is there.
 
 Uses the standard library alone, and no network. Each run of the program is bounded in time.
 """
@@ -18,6 +19,7 @@ TOP = os.path.dirname(os.path.dirname(os.path.abspath(__file__)))
 PROGRAM = os.path.join(TOP, "crates", "dns_program", "out", "dns_program")
 NAMES = 10_000
 QUERIES = 20_000
+CONNECTIONS = 10_000
 MESSAGES = 100_000
 AT_ONCE = 20_000  # messages in one event text, which has a greatest length
 BOUND = 300  # seconds
@@ -35,15 +37,22 @@ def line(moment, labels):
     return f"D {moment} 7f000001 5300 {query(labels, moment % 65536).hex()}\n"
 
 
-def seconds_of(zone, events):
-    """Runs the program, and gives how long it took. Each line is answered."""
+def on_connection(number, labels):
+    """A connection that is accepted, and brings one query in two pieces."""
+    message = query(labels, number % 65536)
+    framed = (len(message).to_bytes(2, "big") + message).hex()
+    return f"A 0 {number} 7f000001 5300 0\nB 0 {number} {framed[:34]}\nB 0 {number} {framed[34:]}\n"
+
+
+def seconds_of(zone, events, due):
+    """Runs the program, and gives how long it took. So many replies are due."""
     command = [PROGRAM, "events", "example.com.", f"--zone={zone}"]
     start = time.perf_counter()
     run = subprocess.run(command, input=events.encode(), stdout=subprocess.PIPE, timeout=BOUND)
     seconds = time.perf_counter() - start
-    replies = sum(1 for one in run.stdout.splitlines() if one.startswith(b"P "))
-    if run.returncode != 0 or replies != events.count("\n"):
-        sys.exit(f"status {run.returncode}, {replies} replies to {events.count(chr(10))} lines")
+    replies = sum(1 for one in run.stdout.splitlines() if one.startswith((b"P ", b"C ")))
+    if run.returncode != 0 or replies != due:
+        sys.exit(f"status {run.returncode}, {replies} replies where {due} are due")
     return seconds
 
 
@@ -80,7 +89,7 @@ def instructions(zone, events, folder):
 def time_messages(zone, folder):
     table = list(messages())
     events = lines_of(table, AT_ONCE)
-    seconds = sum(seconds_of(zone, events) for _ in range(MESSAGES // AT_ONCE))
+    seconds = sum(seconds_of(zone, events, AT_ONCE) for _ in range(MESSAGES // AT_ONCE))
     report(f"messages of the tests, {MESSAGES:,}", seconds, MESSAGES, "messages")
     if shutil.which("valgrind"):
         used = instructions(zone, events, folder) - instructions(zone, "", folder)
@@ -97,10 +106,12 @@ def main():
             for number in range(NAMES - 1):
                 text.write(f"h{number}.example.com. 3600 IN A 10.0.{number // 256 % 256}.{number % 256}\n")
         last = line(0, [f"h{NAMES - 2}", "example", "com"])
-        report(f"a zone of {NAMES:,} names, one query", seconds_of(large, last), NAMES, "zone lines")
+        report(f"a zone of {NAMES:,} names, one query", seconds_of(large, last, 1), NAMES, "zone lines")
         small = os.path.join(TOP, "examples", "example.com.zone")
         many = "".join(line(moment, ["www", "example", "com"]) for moment in range(QUERIES))
-        report(f"the example zone, {QUERIES:,} queries", seconds_of(small, many), QUERIES, "event lines")
+        report(f"the example zone, {QUERIES:,} queries", seconds_of(small, many, QUERIES), QUERIES, "event lines")
+        cut = "".join(on_connection(number, ["www", "example", "com"]) for number in range(CONNECTIONS))
+        report(f"{CONNECTIONS:,} connections, a query each", seconds_of(small, cut, CONNECTIONS), CONNECTIONS, "connections")
         time_messages(small, folder)
 
 
