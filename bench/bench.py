@@ -23,7 +23,7 @@ CONNECTIONS = 10_000
 MESSAGES = 100_000
 AT_ONCE = 20_000  # messages in one event text, which has a greatest length
 BOUND = 300  # seconds
-TABLE = os.path.join(TOP, "crates", "dns_wire", "src", "tests.rt")
+TABLE = os.path.join(TOP, "crates", "dns_tests", "src", "wire.rt")
 SOA = "example.com. 3600 IN SOA ns.example.com. hostmaster.example.com. 7 3600 600 86400 300"
 
 

@@ -1,6 +1,7 @@
 -- The counters: what each is called, its labels, and what raises or sets the count of each label.
-use Rattle.std.specs.Prelude.{ℕ, List, [], ◌∷◌, ◌++◌, length, map, filter, replicate, Option, None, Some, not, ◌==◌, if◌then◌else◌, codes}
+use Rattle.std.specs.Prelude.{ℕ, List, [], ◌∷◌, ◌++◌, length, map, filter, replicate, Option, None, Some, Bool, false, not, ◌==◌, if◌then◌else◌, codes}
 use Rattle.std.specs.Str.{bytes_eq}
+use Rattle.std.specs.List.{list_any}
 use Rattle.dns_counts.specs.declared.asked.Asked.{Asked}
 use Rattle.dns_counts.specs.declared.asked.Replied.{Replied}
 use Rattle.dns_counts.specs.Counting.{grown, seen_of, seen_or_unknown}
@@ -29,7 +30,7 @@ of_replies name labels growth = record { name = name; labels = labels; growth = 
 abbrev pub of_zone : List ℕ → List (List ℕ) → (Change → List ℕ → List ℕ) → Counter
 of_zone name labels after = record { name = name; labels = labels; growth = λ asked replied. []; after = after }
 
--- a counter that is kept for its name alone: it has no label, and counts nothing
+-- a counter that is kept for its name alone: it has the empty label alone, and counts nothing
 abbrev pub idle : List ℕ → Counter
 idle name = of_zone name ([] ∷ []) (λ change counts. counts)
 
@@ -125,3 +126,12 @@ find_count (counter ∷ others) (counts ∷ rest) name label =
 -- what the counts say for a name and a label: none where no counter has that name or it has no such label
 abbrev pub count_of : List (List ℕ) → List ℕ → List ℕ → Option ℕ
 count_of counts name label = find_count counters counts name label
+
+-- whether the counter of this name has this label; none has a label where no counter has the name
+abbrev pub has_label_in : List Counter → List ℕ → List ℕ → Bool
+has_label_in [] name label = false
+has_label_in (counter ∷ others) name label =
+    if bytes_eq name counter.name then list_any (λ known. bytes_eq label known) counter.labels else has_label_in others name label
+
+abbrev pub has_label : List ℕ → List ℕ → Bool
+has_label name label = has_label_in counters name label

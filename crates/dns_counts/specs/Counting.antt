@@ -16,7 +16,7 @@ grown (n ∷ ns) (m ∷ ms) = raised n m ∷ grown ns ms
 unfoldable pub seen_of : List ℕ → List ℕ → List ℕ
 seen_of codes seen = map (λ code. length (filter (λ one. one == code) seen)) codes
 
--- the same, and last how often one was seen that is none of these codes
+-- how often each of these codes was seen, and last how often one was seen that is none of them
 unfoldable pub seen_or_unknown : List ℕ → List ℕ → List ℕ
 seen_or_unknown codes seen = seen_of codes seen ++ length (filter (λ one. not (list_any (λ code. one == code) codes)) seen) ∷ []
 

@@ -2,8 +2,8 @@
 use Rattle.std.specs.Prelude.{ℕ, ◌/◌, ◌%◌, List, [], ◌∷◌, map, Bool, if◌then◌else◌, codes}
 use Rattle.std.specs.Str.{bytes_eq}
 use Rattle.dns_wire.specs.declared.header.Header.{Header}
-use Rattle.dns_wire.specs.declared.peer.Protocol.{Protocol}
-use Rattle.dns_wire.specs.declared.peer.Protocol.TheVariants.{Udp, Tcp, Tls, Https, Quic, H3}
+use Rattle.dns_io.specs.declared.peer.Protocol.{Protocol}
+use Rattle.dns_io.specs.declared.peer.Protocol.TheVariants.{Udp, Tcp, Tls, Https, Quic, H3}
 
 -- a label and its code
 abbrev pub Labelled : Type 0
@@ -67,7 +67,7 @@ flag_labels = codes "aa" ∷ codes "ad" ∷ codes "cd" ∷ codes "ra" ∷ codes 
 abbrev pub flags_of : Header → List ℕ
 flags_of h = unit h.aa ∷ unit h.ad ∷ unit h.cd ∷ unit h.ra ∷ unit h.rd ∷ unit h.tc ∷ []
 
--- the same from the third and fourth byte of a message, read as one number
+-- the flags of the third and fourth byte of a message, read as one number
 abbrev pub flags_in : ℕ → List ℕ
 flags_in word =
     word / 0x0400 % 2 ∷ word / 0x0020 % 2 ∷ word / 0x0010 % 2 ∷ word / 0x0080 % 2 ∷ word / 0x0100 % 2 ∷ word / 0x0200 % 2 ∷ []

@@ -1,7 +1,8 @@
 //! What the counters are told of a message and its reply.
 
 use crate::pairs::Pairs;
-use dns_wire::{Header, Protocol};
+use dns_io::Protocol;
+use dns_wire::Header;
 
 /// A message that was asked.
 #[derive(Debug, Clone, Copy, PartialEq, Eq)]

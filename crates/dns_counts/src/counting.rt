@@ -5,8 +5,7 @@ ghost use Rattle.dns_counts.specs.Counting.{raised, grown, seen_of, seen_or_unkn
 ghost use Rattle.dns_counts.specs.Counters.{types_in, classes_in, classed};
 ghost use Rattle.std.specs.List.{position_from};
 
-/// The type of the pseudo-record of EDNS (RFC 6891 6.1.1).
-const OPT: u16 = 41;
+use dns_wire::record_type::OPT;
 
 /// A count raised by a number; it stops at the greatest value.
 pub(crate) fn raise(count: u64, more: u64) -> u64

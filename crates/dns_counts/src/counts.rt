@@ -1,7 +1,7 @@
 //! The counts, and how they grow.
 
-ghost use Rattle.std.specs.Prelude.{◌≡◌};
-ghost use Rattle.dns_counts.specs.Counters.{no_counts, recorded, changed, count_of};
+ghost use Rattle.std.specs.Prelude.{◌≡◌, is_some};
+ghost use Rattle.dns_counts.specs.Counters.{no_counts, recorded, changed, count_of, has_label};
 
 use crate::asked::{Asked, Replied};
 use crate::counting::{count_classes, count_code, count_known, count_types, raise_each};
@@ -113,7 +113,8 @@ impl Counts {
     /// exactly where there is no such counter or it has no such label.
     #[tactic(auto, unfolding(crate::specs::Counters::counters))]
     pub fn get(&self, name: &str, label: &str) -> Option<u64>
-        ensures { result ≡ count_of self.now name.now label.now }
+        ensures count { result ≡ count_of self.now name.now label.now }
+        ensures found { is_some result ≡ has_label name.now label.now }
     {
         match name {
             REQUEST_FLAGS_TOTAL => count_of_label(&FLAGS, &self.request_flags, label),

@@ -1,10 +1,13 @@
 //! The labels of the counters, and the codes that they stand for.
 
-ghost use Rattle.std.specs.Prelude.{◌≡◌, ◌≤◌, length, map};
+ghost use Rattle.std.specs.Prelude.{◌≡◌, ◌≤◌, length, map, is_some};
+ghost use Rattle.std.specs.List.{list_any};
+ghost use Rattle.std.specs.Str.{bytes_eq};
 ghost use Rattle.dns_counts.specs.Labels.{unit, flags_of as units_of, flags_in as units_in, protocol_units as units_for};
 ghost use Rattle.dns_counts.specs.Counters.{count_at};
 
-use dns_wire::{Header, Protocol};
+use dns_io::Protocol;
+use dns_wire::Header;
 
 pub(crate) const FLAGS: [&str; 6] = ["aa", "ad", "cd", "ra", "rd", "tc"];
 
@@ -123,7 +126,7 @@ pub(crate) fn flags_of(header: &Header) -> [u64; 6]
     ]
 }
 
-/// The same from the third and fourth byte of a message.
+/// 1 for each flag that the third and fourth byte of a message have, read as one number, in the order of the labels.
 pub(crate) fn flags_in(word: u16) -> [u64; 6]
     ensures { result ≡ units_in word }
 {
@@ -155,7 +158,8 @@ pub(crate) fn protocol_units(protocol: Protocol) -> [u64; 6]
 /// The count at the place of a label.
 pub(crate) fn count_of_label(labels: &[&str], counts: &[u64], label: &str) -> Option<u64>
     requires { length labels.now ≤ length counts.now }
-    ensures { result ≡ count_at (map (λ known. known.now) labels.now) counts.now label.now }
+    ensures count { result ≡ count_at (map (λ known. known.now) labels.now) counts.now label.now }
+    ensures found { is_some result ≡ list_any (λ known. bytes_eq label.now known) (map (λ known. known.now) labels.now) }
 {
     for (place, known) in labels.iter().enumerate() {
         if label == *known {

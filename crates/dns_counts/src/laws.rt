@@ -5,7 +5,7 @@ ghost use Rattle.std.specs.List.{list_all};
 ghost use Rattle.dns_counts.specs.declared.asked.Asked.{Asked as Message};
 ghost use Rattle.dns_counts.specs.declared.asked.Replied.{Replied as Reply};
 ghost use Rattle.dns_counts.specs.Counting.{raised, grown};
-ghost use Rattle.dns_counts.specs.Counters.{counters, each, recorded};
+ghost use Rattle.dns_counts.specs.Counters.{counters, each, has_label, recorded};
 ghost use Rattle.dns_counts.specs.Totals.{all_differ, recorded_all, total_growth};
 
 /// How a count grows.
@@ -30,6 +30,13 @@ pub fn recorded_replies()
 pub fn distinct_labels()
     // No two counters have one name.
     ensures names { IsTrue (all_differ (map (λ counter. counter.name) counters)) }
-    // No two labels of a counter are the same.
+    // No label stands twice in a counter.
     ensures labels { IsTrue (list_all (λ counter. all_differ counter.labels) counters) }
+{}
+
+/// Labels that are found.
+#[tactic(auto, unfolding(crate::specs::Counters::counters))]
+pub fn found_labels()
+    // Each label of each counter is found under the counter's name; that of a counter without labels is the empty one.
+    ensures { IsTrue (list_all (λ counter. list_all (λ label. has_label counter.name label) counter.labels) counters) }
 {}

@@ -10,8 +10,6 @@ mod labels;
 pub mod laws;
 mod names;
 mod pairs;
-#[cfg(test)]
-mod tests;
 
 pub use asked::{Asked, Replied};
 pub use counts::Counts;

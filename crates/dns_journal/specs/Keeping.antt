@@ -1,17 +1,15 @@
 -- What the calls of a keeper do to its rows, where it tells them afterwards, and to its count of faults.
 use Rattle.std.specs.Prelude.{◌≡◌, ℕ, ℤ, ◌≤◌, List, [], Option, Some, None, IfNone, Result, IsErrOf}
-use Rattle.dns_wire.specs.Edge.{Rose}
+use Rattle.dns_io.specs.Edge.{Rose, Told}
 use Rattle.dns_wire.specs.declared.record.Record.{Record}
 use Rattle.dns_journal.specs.declared.row.Row.{Row}
 use Rattle.dns_journal.specs.declared.keeper.KeepFault.{KeepFault}
 use Rattle.dns_journal.specs.declared.keeper.KeepFault.TheVariants.{Failed}
 use Rattle.dns_journal.specs.Rows.{appended, first_from, AreAscending}
 
--- the rows before and after: where they are told afterwards they were told before, and a batch came to them
+-- a batch came to the rows
 abbrev pub GrowsByBatch : Option (List Row) → Option (List Row) → ℕ → ℕ → ℕ → List Record → Type 0
-GrowsByBatch before None client serial moment records = Unit {0}
-GrowsByBatch None (Some after) client serial moment records = ⊥
-GrowsByBatch (Some before) (Some after) client serial moment records = after ≡ appended before client serial moment records
+GrowsByBatch before after client serial moment records = Told (λ old new. new ≡ appended old client serial moment records) before after
 
 -- told rows have ascending ids
 abbrev pub TellsAscending : Option (List Row) → Type 0

@@ -5,7 +5,8 @@ ghost use Rattle.dns_wire.specs.WireFormat.{AreShort};
 ghost use Rattle.dns_journal.specs.declared.keeper.KeepFault.TheVariants.{OutOfMemory as NoMemory};
 
 use crate::row::Row;
-use dns_wire::{OutOfMemory, Records};
+use dns_io::OutOfMemory;
+use dns_wire::Records;
 use std::alloc::{AllocError, AllocFailed};
 use thiserror::Error;
 
@@ -47,7 +48,7 @@ impl<T: Drop> From<AllocFailed<T>> for KeepFault {
 /// What keeps the rows of a journal, by ascending id.
 pub trait Keeper {
     ghost use Rattle.dns_journal.specs.declared.row.Row.{Row};
-    ghost use Rattle.dns_wire.specs.Edge.{Keeps};
+    ghost use Rattle.dns_io.specs.Edge.{Keeps};
     ghost use Rattle.dns_journal.specs.Keeping.{GrowsByBatch, TellsAscending, IsRowFrom, IsEmptyAtNone, HasCause};
 
     /// The rows, where they are told. A keeper may stop telling them at any call, and then never tells them again.
@@ -70,6 +71,7 @@ pub trait Keeper {
         requires short { AreShort records.now }
         ensures ok { OnOk result (GrowsByBatch (rows self.old) (rows self.new) client serial moment records.now) }
         ensures err { OnErr result (Keeps (rows self.old) (rows self.new)) }
+        ensures ascending { TellsAscending (rows self.new) }
         ensures cause { HasCause (faults self.old) (faults self.new) result }
         ensures uncounted { IsErrOf result KeepFault.OutOfMemory → faults self.new ≡ faults self.old };
 

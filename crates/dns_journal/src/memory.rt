@@ -11,7 +11,8 @@ ghost use Rattle.dns_journal.specs.Memory.{raised, called, is_next_failing, faul
 
 use crate::keeper::{KeepFault, Keeper};
 use crate::row::Row;
-use dns_wire::{Octets, OutOfMemory, Records};
+use dns_io::{Octets, OutOfMemory};
+use dns_wire::Records;
 use std::alloc::Global;
 use std::marker::Model;
 
@@ -112,6 +113,7 @@ impl Keeper for MemoryKeeper {
         requires short { AreShort records.now }
         ensures ok { OnOk result (self.new.rows ≡ appended self.old.rows client serial moment records.now) }
         ensures err { OnErr result (self.new.rows ≡ self.old.rows) }
+        ensures ascending { AreAscending self.new.rows }
         ensures faults { self.new.faults ≡ faults_after result self.old.faults }
         ensures appends { self.new.appends ≡ called self.old.appends }
         ensures reads { self.new.reads ≡ self.old.reads }
@@ -272,6 +274,3 @@ fn copied(alloc: Global, row: &Row) -> Result<Row, OutOfMemory>
         bytes: Octets::from_slice(alloc, row.bytes.as_slice())?,
     })
 }
-
-#[cfg(test)]
-mod tests;

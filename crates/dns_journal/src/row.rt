@@ -1,6 +1,6 @@
 //! One row of a journal.
 
-use dns_wire::Octets;
+use dns_io::Octets;
 
 /// One row of a journal.
 #[derive(Debug, Drop)]

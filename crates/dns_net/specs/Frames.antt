@@ -14,7 +14,7 @@ behind message cut = record { messages = message ∷ cut.messages; rest = cut.re
 abbrev pub ahead : List (List ℕ) → Cut → Cut
 ahead messages cut = record { messages = messages ++ cut.messages; rest = cut.rest }
 
--- the frames of a stream, at most so many. Where it begins with two bytes that make a number, and so many bytes follow
+-- the frames of a stream, at most this number of them. Where it begins with two bytes that make a number n, and n bytes follow
 -- them, these are a message, and the frames of what remains follow. Else there is no message, and all of it is the rest.
 unfoldable pub frames_by : ℕ → List ℕ → Cut
 frames_by zero bytes = record { messages = []; rest = bytes }

@@ -4,7 +4,7 @@ ghost use Rattle.std.specs.Prelude.{◌≡◌, ◌≤◌, ◌<◌, ◌+◌, ◌+
 ghost use Rattle.std.specs.Option.{option_to_list};
 ghost use Rattle.dns_net.specs.Frames.{frames, behind, Accounts, Gives};
 
-use dns_wire::{Octets, OutOfMemory};
+use dns_io::{Octets, OutOfMemory};
 use std::alloc::Global;
 use std::marker::Model;
 

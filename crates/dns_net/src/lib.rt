@@ -3,7 +3,5 @@
 
 mod frames;
 pub mod laws;
-#[cfg(test)]
-mod tests;
 
 pub use frames::{Frames, first_frame};

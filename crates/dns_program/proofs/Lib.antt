@@ -1,7 +1,7 @@
-mod Digits
-mod FirstWord
-mod Flushed
-mod Prefixes
+mod Decimals
+mod EventWords
+mod Keys
+mod TextsRead
 mod TextsWritten
 mod Told
-mod Ending
+mod Endings

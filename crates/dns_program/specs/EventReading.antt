@@ -4,7 +4,7 @@ use Rattle.std.specs.declared.alloc.Global.{Global}
 use Rattle.dns_server_core.specs.declared.event.Event.{Event}
 use Rattle.dns_program.specs.declared.event_text.EventFault.{EventFault}
 use Rattle.dns_program.specs.declared.event_text.EventFault.TheVariants.{Line, OutOfMemory}
-use Rattle.dns_program.specs.declared.event_text.Reading.{Reading}
+use Rattle.dns_program.specs.declared.event_text.LinesRead.{LinesRead}
 use Rattle.dns_program.specs.EventText.{events_from}
 
 -- a fault is what the text gives, want of memory aside
@@ -23,5 +23,5 @@ ahead found (Ok events) = Ok (found ++ events)
 ahead found (Err line) = Err line
 
 -- what the text gives, where these lines are left
-abbrev pub given_by : Reading → List (List ℕ) → Result (List Event) ℕ
+abbrev pub given_by : LinesRead → List (List ℕ) → Result (List Event) ℕ
 given_by state lines = ahead state.events.items (events_from (state.lines + 1) lines)

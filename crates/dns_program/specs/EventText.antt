@@ -1,5 +1,5 @@
 -- The event text: a line an event, in words that are parted by one space each.
-use Rattle.std.specs.Prelude.{ℕ, ◌+◌, ◌*◌, ◌-◌, ◌^◌, List, [], ◌∷◌, length, Option, Some, None, Result, Ok, Err, Bool, true, nat_lt, nat_le, ◌==◌, ◌&&◌, if◌then◌else◌, codes}
+use Rattle.std.specs.Prelude.{ℕ, ◌+◌, ◌*◌, ◌-◌, ◌^◌, List, [], ◌∷◌, length, Option, Some, None, Result, Ok, Err, Bool, true, nat_lt, ◌==◌, if◌then◌else◌, codes}
 use Rattle.std.specs.Char.{is_ascii_digit}
 use Rattle.std.specs.Int.{w32, w128, from_be_bytes}
 use Rattle.std.specs.List.{slice_split}
@@ -7,10 +7,10 @@ use Rattle.std.specs.Option.{option_map}
 use Rattle.std.specs.Result.{result_ok}
 use Rattle.std.specs.Str.{bytes_eq}
 use Rattle.hex.specs.Hex.{decode_of}
-use Rattle.dns_wire.specs.declared.peer.Peer.{Peer}
-use Rattle.dns_wire.specs.declared.peer.Ip.{Ip}
-use Rattle.dns_wire.specs.declared.peer.Ip.TheVariants.{V4, V6}
-use Rattle.dns_zone.specs.Lines.{lines_of}
+use Rattle.dns_io.specs.declared.peer.Peer.{Peer}
+use Rattle.dns_io.specs.declared.peer.Ip.{Ip}
+use Rattle.dns_io.specs.declared.peer.Ip.TheVariants.{V4, V6}
+use Rattle.dns_presentation.specs.Lines.{lines_of}
 use Rattle.dns_server_core.specs.declared.event.Event.{Event}
 use Rattle.dns_server_core.specs.declared.event.Event.TheVariants.{Accepted, Bytes, Ended, Datagram, Tick, Stop}
 
@@ -31,10 +31,10 @@ below limit None = None
 below limit (Some n) = if nat_lt n limit then Some n else None
 
 -- a decimal number below a limit: digits, no zero before another one
-unfoldable pub number_of : ℕ → List ℕ → Option ℕ
-number_of limit [] = None
-number_of limit (b ∷ []) = below limit (digits_behind 0 (b ∷ []))
-number_of limit (b ∷ c ∷ bs) = if b == 48 then None else below limit (digits_behind 0 (b ∷ c ∷ bs))
+unfoldable pub decimal_of : ℕ → List ℕ → Option ℕ
+decimal_of limit [] = None
+decimal_of limit (b ∷ []) = below limit (digits_behind 0 (b ∷ []))
+decimal_of limit (b ∷ c ∷ bs) = if b == 48 then None else below limit (digits_behind 0 (b ∷ c ∷ bs))
 
 -- an address: eight hex digits of either case, or thirty-two
 unfoldable pub ip_of : List ℕ → Option Ip
@@ -52,16 +52,16 @@ bytes_of (b ∷ bs) = if bytes_eq (b ∷ bs) (codes "-") then Some [] else resul
 unfoldable pub peer_of : List ℕ → List ℕ → Option Peer
 peer_of ip port = do
   address ← ip_of ip
-  number ← number_of 65536 port
+  number ← decimal_of 65536 port
   Some (record { ip = address; port = number })
 
 -- the number of a connection
 abbrev pub connection_of : List ℕ → Option ℕ
-connection_of word = number_of (2 ^ 32) word
+connection_of word = decimal_of (2 ^ 32) word
 
 -- a moment or a limit, in milliseconds
 abbrev pub milliseconds_of : List ℕ → Option ℕ
-milliseconds_of word = number_of (2 ^ 64) word
+milliseconds_of word = decimal_of (2 ^ 64) word
 
 -- the words of a datagram behind its letter: the moment, the sender's address and port, and the bytes
 unfoldable pub datagram_of : List (List ℕ) → Option Event

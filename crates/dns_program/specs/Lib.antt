@@ -2,10 +2,10 @@ pub mod Lines
 pub mod World
 pub mod Status
 pub mod NetworkText
-pub mod Words
+pub mod CommandLine
 pub mod EventText
 pub mod EventReading
 pub mod Steps
 pub mod Ends
+pub mod Writing
 pub mod Parts
-pub mod Fronts

@@ -4,8 +4,8 @@ use Rattle.std.specs.List.{flat_map}
 use Rattle.std.specs.Fmt.{decimal}
 use Rattle.std.specs.Int.{w32, w128, to_be_bytes}
 use Rattle.hex.specs.Hex.{encode_lower}
-use Rattle.dns_wire.specs.declared.peer.Ip.{Ip}
-use Rattle.dns_wire.specs.declared.peer.Ip.TheVariants.{V4, V6}
+use Rattle.dns_io.specs.declared.peer.Ip.{Ip}
+use Rattle.dns_io.specs.declared.peer.Ip.TheVariants.{V4, V6}
 use Rattle.dns_server_core.specs.declared.event.Out.{Out}
 use Rattle.dns_server_core.specs.declared.event.Receiver.{Receiver}
 use Rattle.dns_server_core.specs.declared.event.Receiver.TheVariants as to
@@ -28,7 +28,10 @@ out_line out = receiver_text out.to ++ (codes " " ++ (encode_lower out.bytes ++ 
 abbrev pub number_line : List ℕ → ℕ → List ℕ
 number_line name n = name ++ (codes " " ++ (decimal n ++ codes "\n"))
 
--- the lines of the replies, and then the zone's serial, how many rows the journal has, and how many connections are open
+-- the closing lines: the zone's serial, how many rows the journal has, and how many connections are open
+abbrev pub closing_lines : ℕ → ℕ → ℕ → List ℕ
+closing_lines serial rows open_ = number_line (codes "serial") serial ++ number_line (codes "journal_len") rows ++ number_line (codes "open") open_
+
+-- the whole output: a line for each reply, and the closing lines
 abbrev pub output_lines : List Out → ℕ → ℕ → ℕ → List ℕ
-output_lines outs serial rows open_ =
-    flat_map out_line outs ++ number_line (codes "serial") serial ++ number_line (codes "journal_len") rows ++ number_line (codes "open") open_
+output_lines outs serial rows open_ = flat_map out_line outs ++ closing_lines serial rows open_

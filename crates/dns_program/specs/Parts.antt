@@ -1,38 +1,58 @@
 -- What the parts of the top call do.
-use Rattle.std.specs.Prelude.{◌≡◌, ◌≢◌, ℕ, ℤ, List, [], ◌⊎◌, take, Option, Some, Result, Ok, Err, OnOk, OnErr, false}
+use Rattle.std.specs.Prelude.{◌≡◌, ℕ, List, take, Option, Some, false}
 use Rattle.dns_journal.specs.declared.row.Row.{Row}
-use Rattle.dns_wire.specs.Edge.{HasCause, Keeps, Grows, GrowsByPrefix}
-use Rattle.dns_wire.specs.declared.edge.IoFault.{IoFault}
-use Rattle.dns_wire.specs.declared.edge.IoFault.TheVariants.{Failed, OutOfMemory}
+use Rattle.dns_io.specs.Around.{Around, around}
+use Rattle.dns_io.specs.Edge.{Keeps}
 use Rattle.dns_zone.specs.Zone.{Contents}
 use Rattle.dns_server_core.specs.declared.event.Event.{Event}
 use Rattle.dns_server_core.specs.declared.event.Out.{Out}
-use Rattle.dns_server_core.specs.Access.{Access}
-use Rattle.dns_server_core.specs.Book.{SeenOf, Settles}
-use Rattle.dns_server_core.specs.Opening.{Opens, OpensNot}
-use Rattle.dns_server_core.specs.declared.book.OpenKind.{OpenKind}
-use Rattle.dns_server_core.specs.declared.book.OpenKind.TheVariants as kind
-use Rattle.dns_zone.specs.declared.replay.ReplayKind.TheVariants.{NotBuilt}
+use Rattle.dns_book.specs.Access.{Access}
+use Rattle.dns_book.specs.Book.{SeenOf, Settles}
+use Rattle.dns_book.specs.Opening.{Opens, HadNoRow, HadFirst}
+use Rattle.dns_book.specs.declared.book.OpenKind.{OpenKind}
+use Rattle.dns_book.specs.declared.book.OpenKind.TheVariants as kind
 use Rattle.dns_server_core.specs.Serving.{ServerOf}
 use Rattle.dns_server_core.specs.Valid.{Valid}
 use Rattle.dns_server_core.specs.Connections.{new_kept, done, after}
 use Rattle.dns_server_core.specs.Runs.{Run}
 use Rattle.dns_program.specs.declared.status.Status.{Status}
 use Rattle.dns_program.specs.declared.status.Status.TheVariants as status
-use Rattle.dns_program.specs.declared.words.Options.{Options}
-use Rattle.dns_program.specs.Status.{refusal_line}
-use Rattle.dns_program.specs.Words.{words_of, access_of}
-use Rattle.dns_program.specs.World.{Around}
-use Rattle.dns_program.specs.Steps.{LoadsZone, LoadsEvents}
+use Rattle.dns_program.specs.declared.run.Inputs.{Inputs}
+use Rattle.dns_program.specs.declared.run.Opening.{Opening}
+use Rattle.dns_program.specs.declared.run.Opening.TheVariants.{Begin, Recover}
+use Rattle.dns_program.specs.declared.command_line.Options.{Options}
+use Rattle.dns_program.specs.CommandLine.{options_of, access_of}
+use Rattle.dns_program.specs.Steps.{Finds, LoadsEvents, OpensNot}
 
--- words, zone and events are ready, and who is let in
-pub record Prepares (words : List (List ℕ)) (zone_text event_text : Around (List ℕ)) (journal : Around (List Row)) (origin : List (List ℕ)) (zone : Option Contents) (row : ℤ) (access : Access) (events : List Event) : Type 0 where
+-- who is let in
+abbrev pub access_for : Inputs → Access
+access_for inputs = record { allowed = inputs.allowed; denied = inputs.denied }
+
+-- the words are legal, and what they name was read
+pub record Prepares (words : List (List ℕ)) (zone_text event_text : Around (List ℕ)) (journal : Around (List Row)) (inputs : Inputs) : Type 0 where
   pub options : Options
-  pub legal : words_of words ≡ Some options
-  pub same : origin ≡ options.origin
-  pub screened : access ≡ access_of options
-  pub loaded : LoadsZone journal zone_text options.origin zone row
-  pub heard : LoadsEvents event_text events
+  pub legal : options_of words ≡ Some options
+  pub screened : access_for inputs ≡ access_of options
+  pub found : Finds journal zone_text options.origin inputs.opening
+  pub heard : LoadsEvents event_text inputs.events.items
+
+-- a journal that is to be begun has no row, and one that is to be recovered has this first row
+abbrev pub IsReady : Opening → Option (List Row) → Type 0
+IsReady (Begin zone) rows = HadNoRow rows rows
+IsReady (Recover row) rows = HadFirst rows rows row
+
+-- the journal was begun with the zone
+pub record BeginsBook {K : Type 0} (rows : K → Option (List Row)) (before : Option (List Row)) (opening : Opening) (moment : ℕ) (book : SeenOf K) : Type 0 where
+  pub zone : Contents
+  pub begun : opening ≡ Begin zone
+  pub opened : Opens before rows (Some zone) false moment book
+
+-- the status of a journal that was not begun
+abbrev pub unopened : OpenKind → Status
+unopened (kind.Recovery row why) = status.Recovery row why
+unopened kind.KeeperFault = status.KeeperFault
+unopened kind.NoZone = status.OutOfMemory
+unopened kind.OutOfMemory = status.OutOfMemory
 
 -- a list of events is valid, each of its messages was settled, and the server keeps what it leaves
 pub record SettlesEach {K : Type 0} (access : Access) (first : SeenOf K) (events : List Event) (outs : List Out) (server : ServerOf (SeenOf K)) : Type 0 where
@@ -40,66 +60,25 @@ pub record SettlesEach {K : Type 0} (access : Access) (first : SeenOf K) (events
   pub ran : Run (Settles access) first (done new_kept events) outs server.handler
   pub kept : server.kept ≡ after new_kept events
 
--- every message was settled on a journal that was begun with the zone
-pub record SettlesAll {K : Type 0} (rows : K → Option (List Row)) (before : Option (List Row)) (given : Option Contents) (moment : ℕ) (access : Access) (events : List Event) (outs : List Out) (server : ServerOf (SeenOf K)) : Type 0 where
+-- why not every message was settled, and the keeper then: the list of events is not valid, and nothing was done; or memory
+-- ran out, and some of the first messages were settled
+pub data SettlesPart {K : Type 0} (access : Access) (first : SeenOf K) (events : List Event) : Status → K → Type 0 where
+  of_invalid : {left : K} → (Valid new_kept events → ⊥) → first.keeper ≡ left → SettlesPart access first events status.NotValid left
+  of_memory : {left : K} → (count : ℕ) (outs : List Out) (last : SeenOf K) → Valid new_kept events
+      → Run (Settles access) first (take count (done new_kept events)) outs last → last.keeper ≡ left
+      → SettlesPart access first events status.OutOfMemory left
+
+-- every message was settled on the journal that was begun
+pub record SettlesAll {K : Type 0} (rows : K → Option (List Row)) (before : Option (List Row)) (inputs : Inputs) (moment : ℕ) (outs : List Out) (server : ServerOf (SeenOf K)) : Type 0 where
   pub first : SeenOf K
-  pub opened : Opens before rows given false moment first
-  pub settled : SettlesEach access first events outs server
+  pub begun : BeginsBook rows before inputs.opening moment first
+  pub settled : SettlesEach (access_for inputs) first inputs.events.items outs server
 
--- memory ran out among the messages
-pub record SettlesSome {K : Type 0} (rows : K → Option (List Row)) (before : Option (List Row)) (given : Option Contents) (moment : ℕ) (access : Access) (events : List Event) (keeper : K) : Type 0 where
-  pub first : SeenOf K
-  pub last : SeenOf K
-  pub count : ℕ
-  pub outs : List Out
-  pub opened : Opens before rows given false moment first
-  pub valid : Valid new_kept events
-  pub ran : Run (Settles access) first (take count (done new_kept events)) outs last
-  pub left : last.keeper ≡ keeper
-
--- the list of events is not valid, and nothing was settled
-pub record SettlesNone {K : Type 0} (rows : K → Option (List Row)) (before : Option (List Row)) (given : Option Contents) (moment : ℕ) (events : List Event) (keeper : K) : Type 0 where
-  pub first : SeenOf K
-  pub opened : Opens before rows given false moment first
-  pub invalid : Valid new_kept events → ⊥
-  pub left : first.keeper ≡ keeper
-
--- the status of a journal that was not opened; where its first row was seen before and is not found, that row's
-abbrev pub status_for : ℤ → OpenKind → Status
-status_for row (kind.Recovery id why) = status.Recovery id why
-status_for row kind.KeeperFault = status.KeeperFault
-status_for row kind.NoZone = status.Recovery row NotBuilt
-status_for row kind.OutOfMemory = status.OutOfMemory
-
--- why the messages were not all settled: the journal was not opened, and is as before; the list is not valid; or memory
--- ran out
-abbrev pub SettlesNot : {K : Type 0} → (K → Option (List Row)) → (K → ℕ) → K → Option Contents → ℤ → ℕ → Access → List Event → Status → K → Type 0
-SettlesNot rows faults before given row moment access events s left =
-    ((kind : OpenKind) × OpensNot (rows before) (rows left) (faults before) (faults left) given kind × Keeps (rows before) (rows left) × (s ≡ status_for row kind))
-    ⊎ (((s ≡ status.NotValid) × SettlesNone rows (rows before) given moment events left)
-    ⊎ ((s ≡ status.OutOfMemory) × SettlesSome rows (rows before) given moment access events left))
-
--- writing a text: on Ok all of it was written, after an error a front of it; the count of faults never falls, and
--- `Failed` comes only where it rose
-pub record Writes (output : Around (List ℕ)) (text : List ℕ) (result : Result (Unit {0}) IoFault) : Type 0 where
-  pub ok : OnOk result (Grows output.before output.after text)
-  pub err : OnErr result ((rest : List ℕ) × GrowsByPrefix output.before output.after text rest)
-  pub cause : HasCause output.faults output.now result
-
--- the status of a text that was not written to its end
-abbrev pub unwritten : IoFault → Status
-unwritten Failed = status.WriteFault
-unwritten OutOfMemory = status.OutOfMemory
-
--- a status that was meant, where the text was written
-abbrev pub ended : Status → Result (Unit {0}) IoFault → Status
-ended meant (Ok done) = meant
-ended meant (Err fault) = unwritten fault
-
--- the end of a call that writes a text and means to end with a status
-abbrev pub EndsWriting : Around (List ℕ) → List ℕ → Status → Status → Type 0
-EndsWriting output text meant s = (result : Result (Unit {0}) IoFault) × Writes output text result × (s ≡ ended meant result)
-
--- the end of a refusal: want of memory is told by nothing more, any other by its line
-abbrev pub EndsRefusing : Around (List ℕ) → Status → Status → Type 0
-EndsRefusing output meant s = ((meant ≡ status.OutOfMemory) × (s ≡ status.OutOfMemory) × Grows output.before output.after []) ⊎ ((meant ≢ status.OutOfMemory) × EndsWriting output (refusal_line meant) meant s)
+-- why not every message was settled, and the keeper then: the journal was not opened, and its rows are as they were; or it
+-- was begun
+pub data SettlesNot {K : Type 0} (rows : K → Option (List Row)) (faults : K → ℕ) (keeper : K) (inputs : Inputs) (moment : ℕ) : Status → K → Type 0 where
+  not_opened : {s : Status} {left : K} → OpensNot (around rows faults keeper left) inputs.opening s → Keeps (rows keeper) (rows left)
+      → SettlesNot rows faults keeper inputs moment s left
+  not_settled : {s : Status} {left : K} → (first : SeenOf K) → BeginsBook rows (rows keeper) inputs.opening moment first
+      → SettlesPart (access_for inputs) first inputs.events.items s left
+      → SettlesNot rows faults keeper inputs moment s left

@@ -1,19 +1,23 @@
--- The steps of the command `events`, in the order of the work, and why each of them is refused.
-use Rattle.std.specs.Prelude.{◌≡◌, ◌≤◌, ℕ, ℤ, List, length, Option, Some, None, Ok, Err, ◌⊎◌}
+-- The steps of the command `events`, in the order of the work, and the causes for which each of them is refused.
+use Rattle.std.specs.Prelude.{◌≡◌, ◌≤◌, ℕ, ℤ, List, length, Some, None, Ok, Err}
 use Rattle.dns_journal.specs.declared.row.Row.{Row}
-use Rattle.dns_wire.specs.Edge.{Rose, Keeps}
+use Rattle.dns_io.specs.Around.{Around}
+use Rattle.dns_io.specs.Edge.{Rose, WasRead, WasLonger}
 use Rattle.dns_zone.specs.Zone.{Contents}
 use Rattle.dns_zone.specs.ZoneText.{zone_of}
+use Rattle.dns_zone.specs.declared.zone_text.ZoneTextKind.{ZoneTextKind}
 use Rattle.dns_zone.specs.declared.zone_text.ZoneTextFault.TheVariants.{Refused}
 use Rattle.dns_zone.specs.declared.replay.ReplayKind.TheVariants.{NotBuilt}
 use Rattle.dns_server_core.specs.declared.event.Event.{Event}
-use Rattle.dns_server_core.specs.Opening.{HadNoRow, HadFirst}
+use Rattle.dns_book.specs.Opening.{HadNoRow, HadFirst}
 use Rattle.dns_program.specs.declared.status.Status.{Status}
 use Rattle.dns_program.specs.declared.status.Status.TheVariants as status
-use Rattle.dns_program.specs.declared.words.Options.{Options}
-use Rattle.dns_program.specs.Words.{words_of}
+use Rattle.dns_program.specs.declared.run.Opening.{Opening}
+use Rattle.dns_program.specs.declared.run.Opening.TheVariants.{Begin, Recover}
+use Rattle.dns_program.specs.declared.command_line.Options.{Options}
+use Rattle.dns_program.specs.CommandLine.{options_of}
 use Rattle.dns_program.specs.EventText.{events_of}
-use Rattle.dns_program.specs.World.{Around, WasRead, WasLonger}
+use Rattle.dns_program.specs.World.{IsUntouched}
 
 -- the greatest lengths of a zone text and of an event text, in bytes
 abbrev pub zone_bound : ℕ
@@ -24,68 +28,70 @@ event_bound = 8388608
 
 -- the zone is that of the zone text, which was read to its end
 abbrev pub ReadsZone : Around (List ℕ) → List (List ℕ) → Contents → Type 0
-ReadsZone source origin zone = (zone.origin ≡ origin) × WasRead source.before source.after (λ text. (length text ≤ zone_bound) × (zone_of origin text ≡ Ok zone.records))
+ReadsZone source origin zone =
+    (zone.origin ≡ origin) × WasRead source.before source.after (λ text. (length text ≤ zone_bound) × (zone_of origin text ≡ Ok zone.records))
 
--- why there is no zone in the zone text
-abbrev pub ReadsNoZone : Around (List ℕ) → List (List ℕ) → Status → Type 0
-ReadsNoZone source origin status.ReadFault = Rose source.faults source.now
-ReadsNoZone source origin status.TooLong = WasLonger source.before source.after zone_bound
-ReadsNoZone source origin (status.ZoneText line kind) = WasRead source.before source.after (λ text. (length text ≤ zone_bound) × (zone_of origin text ≡ Err (Refused line kind)))
-ReadsNoZone source origin status.OutOfMemory = Unit {0}
-ReadsNoZone source origin status.Ok = ⊥
-ReadsNoZone source origin status.Usage = ⊥
-ReadsNoZone source origin (status.EventLine line) = ⊥
-ReadsNoZone source origin status.NotValid = ⊥
-ReadsNoZone source origin (status.Recovery row kind) = ⊥
-ReadsNoZone source origin status.WriteFault = ⊥
-ReadsNoZone source origin status.KeeperFault = ⊥
+-- why there is no zone in the zone text: it could not be read; it is longer than the bound, and one byte more than the
+-- bound was read; it was read to its end, and a line of it is faulty; or memory ran out
+pub data ReadsNoZone (source : Around (List ℕ)) (origin : List (List ℕ)) : Status → Type 0 where
+  zone_unread : Rose source.faults_before source.faults_after → ReadsNoZone source origin status.ReadFault
+  zone_too_long : WasLonger source.before source.after zone_bound → ReadsNoZone source origin status.TooLong
+  zone_faulty : (line : ℕ) (kind : ZoneTextKind)
+      → WasRead source.before source.after (λ text. (length text ≤ zone_bound) × (zone_of origin text ≡ Err (Refused line kind)))
+      → ReadsNoZone source origin (status.ZoneText line kind)
+  zone_without_memory : ReadsNoZone source origin status.OutOfMemory
 
--- the zone that is used: none where the journal has a row, whose id is this, and then nothing was read of the zone text;
--- else that of the zone text
-abbrev pub LoadsZone : Around (List Row) → Around (List ℕ) → List (List ℕ) → Option Contents → ℤ → Type 0
-LoadsZone journal source origin None row = HadFirst journal.before journal.after row × Keeps source.before source.after
-LoadsZone journal source origin (Some zone) row = HadNoRow journal.before journal.after × ReadsZone source origin zone
+-- how the journal is opened: one without rows is begun with the zone of the zone text; where there is a row, its rows are
+-- to be recovered, and the zone text is not read
+abbrev pub Finds : Around (List Row) → Around (List ℕ) → List (List ℕ) → Opening → Type 0
+Finds journal source origin (Begin zone) = HadNoRow journal.before journal.after × ReadsZone source origin zone
+Finds journal source origin (Recover row) = HadFirst journal.before journal.after row × IsUntouched source
 
--- why there is no zone to use: the journal could not be looked at, memory ran out, or there is no row and no zone
-abbrev pub LoadsNoZone : Around (List Row) → Around (List ℕ) → List (List ℕ) → Status → Type 0
-LoadsNoZone journal source origin s = ((s ≡ status.KeeperFault) × Rose journal.faults journal.now) ⊎ ((s ≡ status.OutOfMemory) ⊎ (HadNoRow journal.before journal.after × ReadsNoZone source origin s))
+-- why the journal's first row was not seen: the journal failed, or memory ran out
+pub data SeesNoRow (journal : Around (List Row)) : Status → Type 0 where
+  journal_unread : Rose journal.faults_before journal.faults_after → SeesNoRow journal status.KeeperFault
+  journal_without_memory : SeesNoRow journal status.OutOfMemory
 
--- the events are those of the event text, read to its end
+-- why it is not known how the journal is opened: its first row was not seen, and then the zone text was not read; or it
+-- has no row, and there is no zone
+pub data FindsNot (journal : Around (List Row)) (source : Around (List ℕ)) (origin : List (List ℕ)) : Status → Type 0 where
+  unseen : {s : Status} → SeesNoRow journal s → IsUntouched source → FindsNot journal source origin s
+  no_zone : {s : Status} → HadNoRow journal.before journal.after → ReadsNoZone source origin s → FindsNot journal source origin s
+
+-- the events are those of the event text, which was read to its end
 abbrev pub LoadsEvents : Around (List ℕ) → List Event → Type 0
-LoadsEvents source events = WasRead source.before source.after (λ text. (length text ≤ event_bound) × (events_of text ≡ Ok events))
+LoadsEvents source events =
+    WasRead source.before source.after (λ text. (length text ≤ event_bound) × (events_of text ≡ Ok events))
 
--- why there are no events
-abbrev pub LoadsNoEvents : Around (List ℕ) → Status → Type 0
-LoadsNoEvents source status.ReadFault = Rose source.faults source.now
-LoadsNoEvents source status.TooLong = WasLonger source.before source.after event_bound
-LoadsNoEvents source (status.EventLine line) = WasRead source.before source.after (λ text. (length text ≤ event_bound) × (events_of text ≡ Err line))
-LoadsNoEvents source status.OutOfMemory = Unit {0}
-LoadsNoEvents source status.Ok = ⊥
-LoadsNoEvents source status.Usage = ⊥
-LoadsNoEvents source (status.ZoneText line kind) = ⊥
-LoadsNoEvents source status.NotValid = ⊥
-LoadsNoEvents source (status.Recovery row kind) = ⊥
-LoadsNoEvents source status.WriteFault = ⊥
-LoadsNoEvents source status.KeeperFault = ⊥
+-- why there are no events: the event text could not be read; it is longer than the bound, and one byte more than the bound
+-- was read; it was read to its end, and this is its first faulty line; or memory ran out
+pub data LoadsNoEvents (source : Around (List ℕ)) : Status → Type 0 where
+  events_unread : Rose source.faults_before source.faults_after → LoadsNoEvents source status.ReadFault
+  events_too_long : WasLonger source.before source.after event_bound → LoadsNoEvents source status.TooLong
+  event_faulty : (line : ℕ) → WasRead source.before source.after (λ text. (length text ≤ event_bound) × (events_of text ≡ Err line))
+      → LoadsNoEvents source (status.EventLine line)
+  events_without_memory : LoadsNoEvents source status.OutOfMemory
 
--- why the journal was not opened
-abbrev pub OpensNot : Around (List Row) → Status → Type 0
-OpensNot journal (status.Recovery row kind) = HadFirst journal.before journal.after row × (kind ≡ NotBuilt)
-OpensNot journal status.KeeperFault = Rose journal.faults journal.now
-OpensNot journal status.OutOfMemory = Unit {0}
-OpensNot journal status.Ok = ⊥
-OpensNot journal status.Usage = ⊥
-OpensNot journal (status.ZoneText line kind) = ⊥
-OpensNot journal (status.EventLine line) = ⊥
-OpensNot journal status.NotValid = ⊥
-OpensNot journal status.ReadFault = ⊥
-OpensNot journal status.WriteFault = ⊥
-OpensNot journal status.TooLong = ⊥
+-- why the journal was not opened: it has a row, which is the first one that is refused, since no rows are read back yet; it
+-- failed when it was to be begun; or memory ran out
+pub data OpensNot (journal : Around (List Row)) : Opening → Status → Type 0 where
+  has_rows : {opening : Opening} → (row : ℤ) → HadFirst journal.before journal.after row → OpensNot journal opening (status.Recovery row NotBuilt)
+  begins_not : {zone : Contents} → Rose journal.faults_before journal.faults_after → OpensNot journal (Begin zone) status.KeeperFault
+  begins_without_memory : {zone : Contents} → OpensNot journal (Begin zone) status.OutOfMemory
 
--- a refusal, by the first step in the order of the work that was refused
-pub data IsRefused (words : List (List ℕ)) (zone_text event_text : Around (List ℕ)) (journal : Around (List Row)) : Status → Type 0 where
-  at_words : words_of words ≡ None → IsRefused words zone_text event_text journal status.Usage
-  at_zone : {s : Status} → (options : Options) → words_of words ≡ Some options → LoadsNoZone journal zone_text options.origin s → IsRefused words zone_text event_text journal s
-  at_events : {s : Status} → (options : Options) (zone : Option Contents) (row : ℤ) → words_of words ≡ Some options → LoadsZone journal zone_text options.origin zone row → LoadsNoEvents event_text s → IsRefused words zone_text event_text journal s
-  at_opening : {s : Status} → (options : Options) (zone : Option Contents) (row : ℤ) (events : List Event) → words_of words ≡ Some options → LoadsZone journal zone_text options.origin zone row → LoadsEvents event_text events → OpensNot journal s → IsRefused words zone_text event_text journal s
-  without_memory : IsRefused words zone_text event_text journal status.OutOfMemory
+-- A refusal, by the first step in the order of the work that was refused. What comes after that step was not done: the
+-- sources that it reads and the journal are as they were.
+pub data IsRefused (words : List (List ℕ)) (zone_text event_text : Around (List ℕ)) (journal : Around (List Row))
+    : Status → Type 0 where
+  at_words : options_of words ≡ None → IsUntouched zone_text → IsUntouched event_text → IsUntouched journal
+      → IsRefused words zone_text event_text journal status.Usage
+  without_memory : IsUntouched zone_text → IsUntouched event_text → IsUntouched journal
+      → IsRefused words zone_text event_text journal status.OutOfMemory
+  at_finding : {s : Status} → (options : Options) → options_of words ≡ Some options
+      → FindsNot journal zone_text options.origin s → IsUntouched event_text
+      → IsRefused words zone_text event_text journal s
+  at_events : {s : Status} → (options : Options) (opening : Opening) → options_of words ≡ Some options
+      → Finds journal zone_text options.origin opening → LoadsNoEvents event_text s
+      → IsRefused words zone_text event_text journal s
+  at_opening : {s : Status} → (options : Options) (opening : Opening) (events : List Event) → options_of words ≡ Some options
+      → Finds journal zone_text options.origin opening → LoadsEvents event_text events → OpensNot journal opening s → IsRefused words zone_text event_text journal s

@@ -2,12 +2,12 @@
 
 ghost use Rattle.std.specs.Prelude.{◌≡◌, ◌<◌, ◌≤◌, ◌==◌, ◌+◌, ◌^◌, List, ℕ, ◌∷◌, IfOk, IfErr, OnOk, IfSome, MatchOption, [], length, position};
 ghost use Rattle.dns_program.specs.declared.event_text.EventFault.TheVariants.{OutOfMemory as NoMemory};
-ghost use Rattle.dns_program.specs.EventText.{digits_behind, below, number_of, ip_of, bytes_of, peer_of, milliseconds_of, connection_of, datagram_of, piece_of, accepted_of, end_of, tick_of, stop_of, plain_of, event_of, words_in, is_skipped, events_of};
+ghost use Rattle.dns_program.specs.EventText.{digits_behind, below, decimal_of, ip_of, bytes_of, peer_of, milliseconds_of, connection_of, datagram_of, piece_of, accepted_of, end_of, tick_of, stop_of, plain_of, event_of, words_in, is_skipped, events_of};
 ghost use Rattle.dns_program.specs.EventReading.{Tells, Gives, given_by};
 
+use dns_io::{Ip, Octets, OutOfMemory, Peer};
+use dns_presentation::split_line;
 use dns_server_core::Event;
-use dns_wire::{Ip, Octets, OutOfMemory, Peer};
-use dns_zone::split_line;
 use hex::FromHexError;
 use std::alloc::{AllocFailed, Global};
 
@@ -28,11 +28,12 @@ impl From<OutOfMemory> for EventFault {
     }
 }
 
-/// What was read of an event text: the lines so far.
+/// The lines of an event text that were read so far.
 #[derive(Debug, Drop)]
-struct Reading {
+struct LinesRead {
+    /// Their events.
     events: Vec<Event>,
-    /// How many lines were read.
+    /// How many they are, with those that stand for no event.
     lines: u64,
 }
 
@@ -52,7 +53,7 @@ struct Reading {
 pub fn events_of(alloc: Global, text: &[u8]) -> Result<Vec<Event>, EventFault>
     ensures value { Gives result (events_of text.now) }
 {
-    let mut state = Reading {
+    let mut state = LinesRead {
         events: Vec::new(alloc),
         lines: 0,
     };
@@ -64,7 +65,7 @@ pub fn events_of(alloc: Global, text: &[u8]) -> Result<Vec<Event>, EventFault>
     Ok(state.events)
 }
 
-fn take_line(alloc: Global, state: &mut Reading, line: &[u8]) -> Result<(), EventFault>
+fn take_line(alloc: Global, state: &mut LinesRead, line: &[u8]) -> Result<(), EventFault>
     requires room { state.old.lines + 1 < 2 ^ 64 }
     ensures ok { OnOk result ((lines : List (List ℕ)) → given_by state.new lines ≡ given_by state.old (line.now ∷ lines)) }
     ensures err { IfErr result (λ fault. (lines : List (List ℕ)) → Tells fault (given_by state.old (line.now ∷ lines))) }
@@ -94,7 +95,7 @@ fn is_skipped(line: &[u8]) -> bool
     }
 }
 
-#[tactic(auto, using(crate::proofs::FirstWord::event_behind), unfolding(crate::specs::EventText::event_of))]
+#[tactic(auto, using(crate::proofs::EventWords::event_behind), unfolding(crate::specs::EventText::event_of))]
 fn event_of(alloc: Global, line: &[u8]) -> Result<Option<Event>, OutOfMemory>
     ensures { IfOk result (λ event. event ≡ event_of (words_in line.now)) }
 {
@@ -129,7 +130,7 @@ fn plain_of(letter: &[u8], words: &[u8]) -> Option<Event>
     None
 }
 
-#[tactic(auto, using(crate::proofs::FirstWord::no_datagram), unfolding(crate::specs::EventText::datagram_of))]
+#[tactic(auto, using(crate::proofs::EventWords::no_datagram), unfolding(crate::specs::EventText::datagram_of))]
 fn datagram_of(alloc: Global, words: &[u8]) -> Result<Option<Event>, OutOfMemory>
     ensures { IfOk result (λ event. event ≡ datagram_of (words_in words.now)) }
 {
@@ -157,7 +158,7 @@ fn datagram_of(alloc: Global, words: &[u8]) -> Result<Option<Event>, OutOfMemory
     Ok(Some(Event::Datagram { at, peer, bytes }))
 }
 
-#[tactic(auto, using(crate::proofs::FirstWord::no_piece), unfolding(crate::specs::EventText::piece_of))]
+#[tactic(auto, using(crate::proofs::EventWords::no_piece), unfolding(crate::specs::EventText::piece_of))]
 fn piece_of(alloc: Global, words: &[u8]) -> Result<Option<Event>, OutOfMemory>
     ensures { IfOk result (λ event. event ≡ piece_of (words_in words.now)) }
 {
@@ -182,7 +183,7 @@ fn piece_of(alloc: Global, words: &[u8]) -> Result<Option<Event>, OutOfMemory>
     Ok(Some(Event::Bytes { at, conn, piece }))
 }
 
-#[tactic(auto, using(crate::proofs::FirstWord::no_accepted), unfolding(crate::specs::EventText::accepted_of))]
+#[tactic(auto, using(crate::proofs::EventWords::no_accepted), unfolding(crate::specs::EventText::accepted_of))]
 fn accepted_of(words: &[u8]) -> Option<Event>
     ensures { result ≡ accepted_of (words_in words.now) }
 {
@@ -213,7 +214,7 @@ fn accepted_of(words: &[u8]) -> Option<Event>
     })
 }
 
-#[tactic(auto, using(crate::proofs::FirstWord::no_end), unfolding(crate::specs::EventText::end_of))]
+#[tactic(auto, using(crate::proofs::EventWords::no_end), unfolding(crate::specs::EventText::end_of))]
 fn end_of(words: &[u8]) -> Option<Event>
     ensures { result ≡ end_of (words_in words.now) }
 {
@@ -228,7 +229,7 @@ fn end_of(words: &[u8]) -> Option<Event>
     Some(Event::Ended { at, conn })
 }
 
-#[tactic(auto, using(crate::proofs::FirstWord::no_tick), unfolding(crate::specs::EventText::tick_of))]
+#[tactic(auto, using(crate::proofs::EventWords::no_tick), unfolding(crate::specs::EventText::tick_of))]
 fn tick_of(words: &[u8]) -> Option<Event>
     ensures { result ≡ tick_of (words_in words.now) }
 {
@@ -239,7 +240,7 @@ fn tick_of(words: &[u8]) -> Option<Event>
     Some(Event::Tick { at })
 }
 
-#[tactic(auto, using(crate::proofs::FirstWord::no_stop), unfolding(crate::specs::EventText::stop_of))]
+#[tactic(auto, using(crate::proofs::EventWords::no_stop), unfolding(crate::specs::EventText::stop_of))]
 fn stop_of(words: &[u8]) -> Option<Event>
     ensures { result ≡ stop_of (words_in words.now) }
 {
@@ -254,21 +255,21 @@ fn stop_of(words: &[u8]) -> Option<Event>
 fn milliseconds_of(word: &[u8]) -> Option<u64>
     ensures { result ≡ milliseconds_of word.now }
 {
-    number_of(u64::MAX as u128 + 1, word)
+    decimal_of(u64::MAX as u128 + 1, word)
 }
 
 /// The number of a connection.
 fn connection_of(word: &[u8]) -> Option<u32>
     ensures { result ≡ connection_of word.now }
 {
-    let number = number_of(u32::MAX as u128 + 1, word)?;
+    let number = decimal_of(u32::MAX as u128 + 1, word)?;
     Some(number as u32)
 }
 
 fn split_word(line: &[u8]) -> (&[u8], Option<&[u8]>)
     ensures { MatchOption result.1 (words_in line.now ≡ result.0.now ∷ []) (λ rest. words_in line.now ≡ result.0.now ∷ words_in rest.now) }
 {
-    let Some(place) = first_space(line) else {
+    let Some(place) = first_place(b' ', line) else {
         return (line, None);
     };
     let (word, _) = line.split_at(place);
@@ -276,11 +277,12 @@ fn split_word(line: &[u8]) -> (&[u8], Option<&[u8]>)
     (word, Some(rest))
 }
 
-fn first_space(line: &[u8]) -> Option<usize>
-    ensures value { result ≡ position (λ b. b == 32) line.now }
-    ensures inside { IfSome result (λ place. place < length line.now) }
+/// The place of the first such byte.
+pub(crate) fn first_place(byte: u8, bytes: &[u8]) -> Option<usize>
+    ensures value { result ≡ position (λ b. b == byte) bytes.now }
+    ensures inside { IfSome result (λ place. place < length bytes.now) }
 {
-    line.iter().position(|byte| *byte == b' ')
+    bytes.iter().position(|one| *one == byte)
 }
 
 #[tactic(auto, unfolding(crate::specs::EventText::peer_of))]
@@ -288,7 +290,7 @@ fn peer_of(ip: &[u8], port: &[u8]) -> Option<Peer>
     ensures { result ≡ peer_of ip.now port.now }
 {
     let ip = ip_of(ip)?;
-    let port = number_of(65536, port)?;
+    let port = decimal_of(65536, port)?;
     Some(Peer {
         ip,
         port: port as u16,
@@ -335,11 +337,11 @@ fn bytes_of(alloc: Global, word: &[u8]) -> Result<Option<Octets>, OutOfMemory>
 }
 
 /// The decimal number of a word, where it is below the limit and has no zero before another digit.
-#[tactic(auto, unfolding(crate::specs::EventText::number_of))]
-pub(crate) fn number_of(limit: u128, word: &[u8]) -> Option<u64>
+#[tactic(auto, unfolding(crate::specs::EventText::decimal_of))]
+pub(crate) fn decimal_of(limit: u128, word: &[u8]) -> Option<u64>
     requires some { 0 < limit }
     requires fits { limit ≤ 2 ^ 64 }
-    ensures value { result ≡ number_of limit word.now }
+    ensures value { result ≡ decimal_of limit word.now }
     ensures below { IfSome result (λ n. n < limit) }
 {
     match word {

@@ -1,14 +1,5 @@
 //! What the program says of itself.
 
-ghost use Rattle.std.specs.Prelude.{◌≡◌};
-ghost use Rattle.dns_program.specs.World.{around};
-ghost use Rattle.dns_program.specs.Parts.{Writes, ended};
-ghost use Rattle.dns_program.specs.declared.status.Status.TheVariants as status;
-
-use crate::run::unwritten;
-use crate::status::Status;
-use dns_wire::{IoFault, Sink, write_all};
-
 /// The answer to `--version`.
 pub const VERSION: &str = "dns 0.1.0\n";
 
@@ -62,23 +53,3 @@ Exit status, and the one line that is written in place of the output:
 
 example: dns events example.com. --zone=examples/example.com.zone <examples/www.events
 ";
-
-/// Writes a text that is the whole output.
-pub fn put_text<W: Sink>(text: &str, out: &mut W) -> Result<(), IoFault>
-    ensures { Writes (around (W.taken out.old) (W.taken out.new) (W.faults out.old) (W.faults out.new)) text.now result }
-{
-    match write_all(out, text.as_bytes()) {
-        Ok(()) => out.flush(),
-        Err(fault) => Err(fault),
-    }
-}
-
-/// How the program ends where this came of writing its output.
-pub fn status_of(outcome: Result<(), IoFault>) -> Status
-    ensures { result ≡ ended status.Ok outcome }
-{
-    match outcome {
-        Ok(()) => Status::Ok,
-        Err(fault) => unwritten(fault),
-    }
-}

@@ -1,32 +1,31 @@
 //! The program: it does what the words of its command line say.
 #![tactic(auto)]
 
+mod command_line;
 mod event_text;
 mod help;
 mod lines;
 mod network_text;
-mod reading;
+mod output;
 mod run;
 mod status;
-#[cfg(test)]
-mod tests;
-mod words;
 
-use crate::help::{HELP, VERSION, put_text, status_of};
+use crate::command_line::{Action, ZONE, action_of, path_of, unread_words};
+use crate::help::{HELP, VERSION};
+use crate::output::put_text;
 use crate::run::run;
-use crate::status::{Ended, Status};
-use crate::words::{is_help, is_version, path_of};
+use crate::status::{Ended, Status, after_writing};
+use dns_io::{FileSource, OutOfMemory, Reading, SystemClock, Writing};
 use dns_journal::MemoryKeeper;
-use dns_wire::{FileSource, IoFault, OutOfMemory, Reading, SystemClock, Writing};
 use std::env;
 use std::fs::{self, File};
-use std::io::{self, BufWriter, ErrorKind, Write};
+use std::io::{self, BufWriter, Write};
 use std::process::ExitCode;
 
 /// Does what the words of the command line say, and ends with the status's number. Nothing is written but to standard
 /// output.
 fn main(rt: HostRuntime) -> ExitCode {
-    ExitCode::from(perform(&rt).number())
+    perform(&rt).exit_code()
 }
 
 /// Does what the words say, over standard output.
@@ -40,33 +39,30 @@ fn perform(rt: &HostRuntime) -> Status {
     }
 }
 
-/// The words of the command line, without the program's name. Where one of them is not UTF-8 they are no command, as
-/// where there is none.
+/// The words of the command line, without the program's name.
 fn words_in(rt: &HostRuntime) -> Result<Vec<String>, OutOfMemory> {
+    let all = match env::args(rt) {
+        Ok(all) => all,
+        Err(error) => return unread_words(rt.alloc(), error.kind()),
+    };
     let mut words = Vec::new(rt.alloc());
-    match env::args(rt) {
-        Ok(all) => {
-            for word in all.skip(1) {
-                words.push(word)?;
-            }
-        }
-        Err(error) => {
-            if error.kind() == ErrorKind::OutOfMemory {
-                return Err(OutOfMemory);
-            }
-        }
+    for word in all.skip(1) {
+        words.push(word)?;
     }
     Ok(words)
 }
 
 /// Does what the words say: tells of the program, or runs the command over the objects that the words name.
 fn obey<W: Write + Drop>(rt: &HostRuntime, words: &Vec<String>, out: &mut Writing<W>) -> Status {
-    if is_help(words) {
-        return status_of(put_text(HELP, out));
+    match action_of(words.as_slice()) {
+        Action::Help => after_writing(Status::Ok, put_text(HELP, out)),
+        Action::Version => after_writing(Status::Ok, put_text(VERSION, out)),
+        Action::Command => command(rt, words, out),
     }
-    if is_version(words) {
-        return status_of(put_text(VERSION, out));
-    }
+}
+
+/// Runs the command over the file that the words name, standard input, a journal in memory and the system's clock.
+fn command<W: Write + Drop>(rt: &HostRuntime, words: &Vec<String>, out: &mut Writing<W>) -> Status {
     let mut zone = zone_source(rt, words);
     let mut events = Reading::new(rt.reader());
     let mut clock = SystemClock::new(rt);
@@ -85,18 +81,6 @@ fn obey<W: Write + Drop>(rt: &HostRuntime, words: &Vec<String>, out: &mut Writin
 
 /// The zone text: that of the file that `--zone=` names, or none.
 fn zone_source(rt: &HostRuntime, words: &Vec<String>) -> FileSource<File> {
-    let Some(path) = path_of(words, "--zone=") else {
-        return FileSource::empty();
-    };
-    match fs::open(rt, path) {
-        Ok(file) => FileSource::open(file),
-        Err(error) => FileSource::refused(fault_of(error.kind())),
-    }
-}
-
-fn fault_of(kind: ErrorKind) -> IoFault {
-    match kind {
-        ErrorKind::OutOfMemory => IoFault::OutOfMemory,
-        _ => IoFault::Failed,
-    }
+    let opening = path_of(words.as_slice(), ZONE).map(|path| fs::open(rt, path));
+    FileSource::new(opening)
 }

@@ -1,10 +1,10 @@
 //! Networks in text.
 
-ghost use Rattle.std.specs.Prelude.{◌≡◌, ◌==◌, ◌<◌, List, ℕ, IfSome, length, position};
+ghost use Rattle.std.specs.Prelude.{◌≡◌};
 ghost use Rattle.dns_program.specs.NetworkText.{network_of};
 
-use crate::event_text::{ip_of, number_of};
-use dns_server_core::IpNet;
+use crate::event_text::{decimal_of, first_place, ip_of};
+use dns_book::IpNet;
 
 /// The network of a text: an address in 8 (IPv4) or 32 (IPv6) hex digits, `/`, and how many of its first bits count, as
 /// a decimal number with no zero before another digit, at most 32 or 128 (RFC 4632 3.1). None for any other text.
@@ -12,17 +12,10 @@ use dns_server_core::IpNet;
 pub fn network_of(text: &[u8]) -> Option<IpNet>
     ensures { result ≡ network_of text.now }
 {
-    let place = first_slash(text)?;
+    let place = first_place(b'/', text)?;
     let (ip, _) = text.split_at(place);
     let (_, prefix) = text.split_at(place + 1);
     let ip = ip_of(ip)?;
-    let prefix = number_of(256, prefix)?;
+    let prefix = decimal_of(256, prefix)?;
     IpNet::new(ip, prefix as u8)
-}
-
-fn first_slash(text: &[u8]) -> Option<usize>
-    ensures value { result ≡ position (λ b. b == 47) text.now }
-    ensures inside { IfSome result (λ place. place < length text.now) }
-{
-    text.iter().position(|byte| *byte == b'/')
 }

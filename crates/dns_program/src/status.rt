@@ -1,18 +1,20 @@
 //! How a run of the program ends.
 
 ghost use Rattle.std.specs.Prelude.{◌≡◌, IfOk, string_bytes};
+ghost use Rattle.std.specs.Process.{exit_status};
 ghost use Rattle.dns_program.specs.Status.{status_number, zone_kind_text, replay_kind_text, refusal_line, read_status};
+ghost use Rattle.dns_program.specs.Writing.{after_writing};
 
-use crate::reading::ReadFault;
-use dns_wire::OutOfMemory;
+use dns_io::{IoFault, OutOfMemory, ReadFault};
 use dns_zone::{ReplayKind, ZoneTextKind};
 use std::alloc::Global;
+use std::process::ExitCode;
 
 /// How a run ended. Of several causes the first in the order of the work is told: the words, the first look at the
 /// journal, the zone text, the event text, the opening of the journal, the list of events, the output.
 #[derive(Clone, Copy, Debug, PartialEq, Eq)]
 pub enum Status {
-    /// The output was written.
+    /// The output was written, and handed on.
     Ok,
     /// The words of the command line are no command.
     Usage,
@@ -39,7 +41,7 @@ pub enum Status {
     },
     /// The zone text or the event text could not be read.
     ReadFault,
-    /// The output could not be written.
+    /// The output could not be written, or not handed on.
     WriteFault,
     /// The journal could not be read or opened.
     KeeperFault,
@@ -68,6 +70,13 @@ impl Status {
             Status::OutOfMemory => 10,
         }
     }
+
+    /// What the process ends with: the status's number.
+    pub fn exit_code(&self) -> ExitCode
+        ensures { exit_status result ≡ status_number self.now }
+    {
+        ExitCode::from(self.number())
+    }
 }
 
 impl From<ReadFault> for Status {
@@ -79,6 +88,17 @@ impl From<ReadFault> for Status {
             ReadFault::TooLong => Status::TooLong,
             ReadFault::OutOfMemory => Status::OutOfMemory,
         }
+    }
+}
+
+/// The status that was meant, where writing the output came to its end.
+pub fn after_writing(meant: Status, outcome: Result<(), IoFault>) -> Status
+    ensures { result ≡ after_writing meant outcome }
+{
+    match outcome {
+        Ok(()) => meant,
+        Err(IoFault::Failed) => Status::WriteFault,
+        Err(IoFault::OutOfMemory) => Status::OutOfMemory,
     }
 }
 

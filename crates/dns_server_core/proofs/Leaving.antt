@@ -10,7 +10,7 @@ use Rattle.dns_server_core.specs.Events.{has_stop, is_stop}
 use Rattle.dns_server_core.specs.Valid.{StopIsLast}
 use Rattle.dns_server_core.specs.Connections.{byte_events, is_ended, base, is_within, in_time, left_by, Start, accepted, starts_in, starts, left_at, Kept}
 use Rattle.dns_server_core.specs.Order.{IsKept, IsRest, IsUpTo, Climbs, closed}
-use Rattle.dns_server_core.proofs.Order.{all_kept, climbs_kept}
+use Rattle.dns_server_core.proofs.KeptOrder.{all_kept, climbs_kept}
 use Rattle.dns_server_core.proofs.Pieces.{pending}
 
 abbrev pub alive_at : ℕ → Connection → Option Connection

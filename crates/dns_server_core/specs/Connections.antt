@@ -2,14 +2,14 @@
 -- (RFC 1035 4.2.2, RFC 7766 6.2, 8).
 use Rattle.std.specs.Prelude.{ℕ, ◌+◌, List, [], ◌∷◌, ◌++◌, length, take, drop, map, nat_lt, nat_le, if◌then◌else◌, zero, suc, Bool, true, false, not, is_err, ◌==◌, ◌&&◌, ◌||◌, Option, Some, None, slice_index}
 use Rattle.std.specs.List.{flat_map, filter_map}
-use Rattle.dns_wire.specs.declared.peer.Peer.{Peer}
-use Rattle.dns_wire.specs.declared.peer.Protocol.TheVariants.{Udp, Tcp}
+use Rattle.dns_io.specs.declared.peer.Peer.{Peer}
+use Rattle.dns_io.specs.declared.peer.Protocol.TheVariants.{Udp, Tcp}
 use Rattle.dns_net.specs.Frames.{frames}
 use Rattle.dns_server_core.specs.declared.event.Event.{Event}
 use Rattle.dns_server_core.specs.declared.event.Event.TheVariants.{Accepted, Bytes, Ended, Datagram, Tick, Stop}
 use Rattle.dns_server_core.specs.declared.event.Receiver.TheVariants as to
 use Rattle.dns_server_core.specs.declared.connection.Connection.{Connection}
-use Rattle.dns_server_core.specs.Sources.{sanitized}
+use Rattle.dns_book.specs.Sources.{sanitized}
 use Rattle.dns_server_core.specs.Events.{moment, last_moment, number_in, last_number, has_stop}
 use Rattle.dns_server_core.specs.Runs.{Completed}
 
@@ -90,7 +90,7 @@ starts_in (e ∷ es) = map (λ c. record { connection = c; later = es }) (accept
 abbrev pub starts : List Connection → List Event → List Start
 starts connections events = map (λ c. record { connection = c; later = events }) connections ++ starts_in events
 
--- a connection's bytes through its first pieces, so many: what was left of earlier ones, and then these
+-- a connection's bytes through its first i pieces: what was left of earlier ones, and then these
 unfoldable pub total : Connection → List Arrival → ℕ → List ℕ
 total c pieces i = c.rest ++ flat_map (λ p. p.piece) (take i pieces)
 
@@ -98,7 +98,7 @@ total c pieces i = c.rest ++ flat_map (λ p. p.piece) (take i pieces)
 unfoldable pub whole : Connection → List Arrival → ℕ → ℕ
 whole c pieces i = length (frames (total c pieces i)).messages
 
--- the moment of the piece behind the first ones, so many
+-- the moment of the piece behind the first i
 unfoldable pub moment_at : List Arrival → ℕ → ℕ
 moment_at pieces i = slice_index (map (λ p. p.at) pieces) i
 

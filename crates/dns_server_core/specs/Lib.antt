@@ -1,10 +1,3 @@
-pub mod Bits
-pub mod Access
-pub mod Sources
-pub mod Owed
-pub mod Counted
-pub mod Book
-pub mod Opening
 pub mod Runs
 pub mod Events
 pub mod Connections

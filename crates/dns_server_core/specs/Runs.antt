@@ -1,8 +1,8 @@
 -- Runs over the messages that a list of events completes.
 use Rattle.std.specs.Prelude.{◌≡◌, ℕ, List, [], ◌∷◌, ◌++◌, length, Option, Some, None}
 use Rattle.std.specs.Int.{w16, to_be_bytes}
-use Rattle.dns_server_core.specs.declared.ask.Ask.{Ask}
-use Rattle.dns_server_core.specs.declared.ask.Settled.{Settled}
+use Rattle.dns_book.specs.declared.ask.Ask.{Ask}
+use Rattle.dns_book.specs.declared.ask.Settled.{Settled}
 use Rattle.dns_server_core.specs.declared.event.Out.{Out}
 use Rattle.dns_server_core.specs.declared.event.Receiver.{Receiver}
 use Rattle.dns_server_core.specs.declared.event.Receiver.TheVariants.{Conn, Peer}

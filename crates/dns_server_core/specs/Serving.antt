@@ -1,13 +1,13 @@
 -- What contracts see of a server, and what a list of events leaves where it was not served to its end.
 use Rattle.std.specs.Prelude.{◌≡◌, ◌≤◌, ℕ, List, [], ◌++◌, length, take, true, false}
 use Rattle.std.specs.List.{flat_map}
-use Rattle.dns_server_core.specs.declared.ask.Ask.{Ask}
-use Rattle.dns_server_core.specs.declared.ask.Settled.{Settled}
+use Rattle.dns_book.specs.declared.ask.Ask.{Ask}
+use Rattle.dns_book.specs.declared.ask.Settled.{Settled}
 use Rattle.dns_server_core.specs.declared.event.Event.{Event}
 use Rattle.dns_server_core.specs.declared.event.Out.{Out}
 use Rattle.dns_server_core.specs.declared.fault.RunFault.{RunFault}
 use Rattle.dns_server_core.specs.declared.fault.RunFault.TheVariants.{Stopped, OutOfMemory}
-use Rattle.dns_server_core.specs.Access.{Access}
+use Rattle.dns_book.specs.Access.{Access}
 use Rattle.dns_server_core.specs.Events.{number_in, last_moment, last_number}
 use Rattle.dns_server_core.specs.Connections.{Kept, done}
 use Rattle.dns_server_core.specs.Runs.{Answers}
@@ -29,7 +29,7 @@ pub record IsCutOff (before : Kept) (events : List Event) (after : Kept) : Type 
   pub running : after.stopped ≡ false
   pub none : after.connections ≡ []
 
--- memory ran out behind the first messages of a list, so many: a run over these, and nothing more
+-- memory ran out behind the first messages of a list, count of them: a run over these, and nothing more
 pub record StopsAt {H : Type 0} (serves : H → Ask → Settled → H → Type 0) (before : ServerOf H) (events : List Event) (after : ServerOf H) (old new : List Out) (count : ℕ) : Type 0 where
   pub running : before.kept.stopped ≡ false
   pub some : count ≤ length (done before.kept events)

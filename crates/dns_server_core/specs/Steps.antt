@@ -1,12 +1,12 @@
--- The same one event at a time.
-use Rattle.std.specs.Prelude.{ℕ, List, [], ◌∷◌, ◌++◌, length, map, if◌then◌else◌, Bool, Option, Some, None, nat_lt}
+-- What one event makes of the open connections, and the messages that it completes.
+use Rattle.std.specs.Prelude.{ℕ, List, [], ◌∷◌, ◌++◌, map, if◌then◌else◌, Option, Some, None}
 use Rattle.std.specs.List.{flat_map, filter_map}
 use Rattle.dns_server_core.specs.declared.event.Event.{Event}
 use Rattle.dns_server_core.specs.Runs.{Completed}
 use Rattle.dns_server_core.specs.declared.connection.Connection.{Connection}
 use Rattle.dns_net.specs.Frames.{frames, Cut}
 use Rattle.dns_server_core.specs.Events.{moment}
-use Rattle.dns_server_core.specs.Connections.{Arrival, Turn, Piece, Over, Other, turn_of, is_within, message_of, datagram_by, accepted}
+use Rattle.dns_server_core.specs.Connections.{Turn, Piece, Over, Other, turn_of, is_within, message_of, datagram_by, accepted}
 
 abbrev pub base_by : ℕ → ℕ → List (List ℕ) → ℕ
 base_by base at [] = base
@@ -27,6 +27,18 @@ abbrev pub heard : Connection → Turn → List (List ℕ)
 heard conn (Piece a) = if is_within conn.limit conn.base a.at then (frames (conn.rest ++ a.piece)).messages else []
 heard conn Over = []
 heard conn Other = []
+
+-- a piece that comes at a moment
+abbrev pub piece_at : ℕ → List ℕ → Turn
+piece_at at piece = Piece (record { at = at; piece = piece })
+
+-- the messages that a connection's unread bytes have
+abbrev pub unread_messages : ℕ → Connection → List Completed
+unread_messages at conn = map (message_of at conn) (frames conn.rest).messages
+
+-- the messages that a turn completes
+abbrev pub heard_messages : ℕ → Connection → Turn → List Completed
+heard_messages at conn turn = map (message_of at conn) (heard conn turn)
 
 abbrev pub completed_now : Event → List Connection → List Completed
 completed_now e connections = datagram_by e ++ flat_map (λ conn. map (message_of (moment e) conn) (heard conn (turn_of conn.number e))) connections

@@ -8,9 +8,9 @@ ghost use Rattle.dns_server_core.specs.Order.{Climbs};
 ghost use Rattle.dns_server_core.specs.declared.connection.Connection.{Connection as Entry};
 ghost use Rattle.dns_server_core.specs.declared.event.Event.TheVariants as event;
 
-use crate::ask::sanitize_src_address;
+use dns_book::sanitize_src_address;
+use dns_io::{OutOfMemory, Peer};
 use dns_net::Frames;
-use dns_wire::{OutOfMemory, Peer};
 use std::alloc::Global;
 
 /// An open connection.

@@ -1,6 +1,6 @@
 //! What happens to a server, and what it sends.
 
-use dns_wire::{Octets, Peer};
+use dns_io::{Octets, Peer};
 
 /// One thing that happens to a server, with its moment in milliseconds, below 2^47. Events of a connection that is not
 /// open do nothing.

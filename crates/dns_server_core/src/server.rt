@@ -1,29 +1,32 @@
 //! A server over lists of events.
 
-ghost use Rattle.std.specs.Prelude.{◌≡◌, ◌↔◌, length, [], OnOk, IfErr, true, false};
+ghost use Rattle.std.specs.Prelude.{◌≡◌, ◌↔◌, ◌++◌, ◌∷◌, ℕ, List, length, [], OnOk, IfErr, true, false};
 ghost use Rattle.dns_zone.specs.Zone.{serial_of};
-ghost use Rattle.dns_server_core.specs.Book.{Settles};
+ghost use Rattle.dns_book.specs.Book.{SeenOf, Settles, HasRows};
 ghost use Rattle.dns_server_core.specs.Valid.{Valid};
 ghost use Rattle.dns_server_core.specs.Connections.{new_kept, done, after};
 ghost use Rattle.dns_server_core.specs.Runs.{Answers};
+ghost use Rattle.dns_server_core.specs.Order.{IsKept};
 ghost use Rattle.dns_server_core.specs.Serving.{Leaves};
+ghost use Rattle.dns_server_core.specs.declared.event.Event.{Event as Happening};
+ghost use Rattle.dns_server_core.specs.declared.event.Event.TheVariants.{Bytes as Piece};
+ghost use Rattle.dns_server_core.specs.declared.event.Out.{Out as Sent};
 
-use crate::access::{AccessControl, IpNet};
-use crate::book::Book;
 use crate::event::{Event, Out};
 use crate::fault::RunFault;
+use crate::responder::Responder;
 use crate::sessions::Sessions;
+use dns_book::{AccessControl, Book, IpNet};
 use dns_counts::Counts;
+use dns_io::OutOfMemory;
 use dns_journal::Keeper;
-use dns_wire::OutOfMemory;
 use std::alloc::Global;
 use std::marker::Model;
 
 /// A server: it hands the messages that events complete to a handler, in order, and keeps what they leave.
 #[derive(Drop)]
 pub struct Server<T> {
-    handler: T,
-    access: AccessControl,
+    responder: Responder<T>,
     sessions: Sessions,
 }
 
@@ -32,7 +35,7 @@ impl<T> Model for Server<T> {
 
     ghost Value = { ServerOf T };
 
-    ghost view = { λ s. record { handler = s.handler; access = s.access; kept = s.sessions } };
+    ghost view = { λ s. record { handler = s.responder.handler; access = s.responder.access; kept = s.sessions } };
 }
 
 impl<T> Server<T> {
@@ -41,8 +44,7 @@ impl<T> Server<T> {
         ensures { result ≡ record { handler = handler; access = record { allowed = []; denied = [] }; kept = new_kept } }
     {
         Server {
-            handler,
-            access: AccessControl::new(alloc),
+            responder: Responder::new(alloc, handler, AccessControl::new(alloc)),
             sessions: Sessions::new(alloc),
         }
     }
@@ -57,9 +59,9 @@ impl<T> Server<T> {
     ) -> Server<T>
         ensures { result ≡ record { handler = handler; access = record { allowed = allowed.items; denied = denied.items }; kept = new_kept } }
     {
+        let access = AccessControl::from_networks(denied, allowed);
         Server {
-            handler,
-            access: AccessControl::from_networks(denied, allowed),
+            responder: Responder::new(alloc, handler, access),
             sessions: Sessions::new(alloc),
         }
     }
@@ -71,6 +73,15 @@ impl<T> Server<T> {
         ensures { (result ≡ true) ↔ Valid self.now.kept events.now.items }
     {
         self.sessions.is_valid(events.as_slice())
+    }
+
+    /// A law: this call does nothing. After any number of lists the open connections stand in the order of their numbers,
+    /// none above the greatest that was accepted, and none has a whole message unread; this is what the laws on lists of
+    /// events ask of what a server keeps.
+    pub fn keeps_order(&self)
+        ensures { IsKept self.now.kept }
+    {
+        self.sessions.keeps_order();
     }
 
     /// How many connections are open: accepted from safe peers, not ended, and not late by the last moment that was
@@ -97,37 +108,51 @@ impl<K: Keeper> Server<Book<K>> {
         if self.sessions.is_stopped() {
             return Err(RunFault::Stopped);
         }
-        let mut done = 0u64;
-        let events = events.as_slice();
-        match self
-            .sessions
-            .serve(&mut self.handler, &self.access, events, out, &mut done)
-        {
-            Ok(()) => {}
-            Err(OutOfMemory) => return Err(RunFault::OutOfMemory { done }),
+        self.responder.begin(out);
+        match self.sessions.serve(&mut self.responder, events.as_slice()) {
+            Ok(()) => {
+                self.responder.finish(out);
+                Ok(())
+            }
+            Err(OutOfMemory) => {
+                let done = self.responder.finish(out);
+                Err(RunFault::OutOfMemory { done })
+            }
         }
-        Ok(())
+    }
+
+    /// A law: this call does nothing. A piece of a connection may be cut in two pieces of its moment, after any number of
+    /// lists: whatever run over the one list's messages leaves of the book and adds to what is sent, a run over the other's
+    /// may, and the other way round. So the replies are those of the bytes, however the bytes were cut.
+    pub fn cut_pieces(&self)
+        ensures { (front back : List Happening) (at number : ℕ) (piece more : List ℕ) (later : SeenOf K) (old new : List Sent)
+            → Valid self.now.kept (front ++ Piece at number (piece ++ more) ∷ back)
+            → Answers (Settles self.now.access) self.now.handler (done self.now.kept (front ++ Piece at number (piece ++ more) ∷ back)) later old new
+            ↔ Answers (Settles self.now.access) self.now.handler (done self.now.kept (front ++ Piece at number piece ∷ Piece at number more ∷ back)) later old new }
+    {
+        self.sessions.keeps_order();
     }
 
     /// The serial of the zone's SOA.
     pub fn serial(&self) -> u32
         ensures { result ≡ serial_of self.now.handler.zone.records }
     {
-        self.handler.serial()
+        self.responder.handler().serial()
     }
 
     /// How many rows the journal has.
     pub fn journal_len(&self) -> u64
-        ensures { result ≡ self.now.handler.row_count }
+        ensures is { result ≡ self.now.handler.row_count }
+        ensures rows { HasRows (K.rows self.now.handler.keeper) result }
     {
-        self.handler.journal_len()
+        self.responder.handler().journal_len()
     }
 
     /// What was counted since the book was opened.
     pub fn counts(&self) -> &Counts
         ensures { result.now ≡ self.now.handler.counts }
     {
-        self.handler.counts()
+        self.responder.handler().counts()
     }
 
     /// Gives the book back.
@@ -135,10 +160,9 @@ impl<K: Keeper> Server<Book<K>> {
         ensures { result ≡ self.handler }
     {
         let Server {
-            handler,
-            access: _,
+            responder,
             sessions: _,
         } = self;
-        handler
+        responder.into_handler()
     }
 }

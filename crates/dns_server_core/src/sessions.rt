@@ -4,20 +4,19 @@ ghost use Rattle.std.specs.Prelude.{◌≡◌, ◌↔◌, ◌<◌, ◌≤◌, �
 ghost use Rattle.std.specs.List.{filter_map};
 ghost use Rattle.dns_server_core.specs.Events.{number_in};
 ghost use Rattle.dns_server_core.specs.Valid.{Valid, Fits, Rises};
-ghost use Rattle.dns_server_core.specs.Connections.{new_kept, datagram_by, done, after};
+ghost use Rattle.dns_server_core.specs.Connections.{new_kept, done, after};
 ghost use Rattle.dns_server_core.specs.Steps.{step, completed_now, open_next};
-ghost use Rattle.dns_server_core.specs.Order.{Climbs, next, closed};
+ghost use Rattle.dns_server_core.specs.Order.{Climbs, IsKept, next, closed};
 ghost use Rattle.dns_server_core.specs.Handing.{Hands, Breaks};
 ghost use Rattle.dns_server_core.specs.Serving.{IsCutOff};
 ghost use Rattle.dns_server_core.specs.declared.event.Event.TheVariants as event;
 
-use crate::access::AccessControl;
-use crate::ask::Ask;
 use crate::connection::{Connection, accept, end, is_within, place_of};
-use crate::event::{Event, Out, Receiver};
-use crate::handler::{RequestHandler, hand, hear};
+use crate::event::Event;
+use crate::handler::RequestHandler;
+use crate::responder::Responder;
 use crate::valid::are_valid;
-use dns_wire::{Octets, OutOfMemory, Peer, Protocol};
+use dns_io::{Octets, OutOfMemory};
 use std::alloc::Global;
 use std::marker::Model;
 
@@ -71,6 +70,14 @@ impl Sessions {
         self.stopped
     }
 
+    /// The open connections stand in the order of their numbers, none above the greatest that was accepted, and none has
+    /// a whole message unread.
+    pub(crate) fn keeps_order(&self)
+        ensures { IsKept self.now }
+    {
+        let _stopped = self.stopped;
+    }
+
     /// Whether a list may be served.
     pub(crate) fn is_valid(&self, events: &[Event]) -> bool
         ensures { (result ≡ true) ↔ Valid self.now events.now }
@@ -78,25 +85,22 @@ impl Sessions {
         (events.len() as u64) < 0x1_0000_0000 && are_valid(self.last, self.greatest, events)
     }
 
-    /// Serves a list: each message that an event completes is handed over, in that order. `count` counts them.
+    /// Serves a list: each message that an event completes is settled, in that order.
     pub(crate) fn serve<H: RequestHandler>(
         &mut self,
-        handler: &mut H,
-        access: &AccessControl,
+        responder: &mut Responder<H>,
         events: &[Event],
-        out: &mut Vec<Out>,
-        count: &mut u64,
     ) -> Result<(), OutOfMemory>
         requires running { self.old.stopped ≡ false }
         requires valid { Valid self.old events.now }
-        ensures ran { OnOk result (Hands (H.serves access.now) handler.old (done self.old events.now) handler.new out.old.items out.new.items count.old count.new) }
+        ensures ran { OnOk result (Hands H.serves responder.old (done self.old events.now) responder.new) }
         ensures after { OnOk result (self.new ≡ after self.old events.now) }
-        ensures err { OnErr result (Breaks (H.serves access.now) H.skips handler.old (done self.old events.now) handler.new out.old.items out.new.items count.old count.new) }
+        ensures err { OnErr result (Breaks H.serves H.skips responder.old (done self.old events.now) responder.new) }
         ensures cut_off { OnErr result (IsCutOff self.old events.now self.new) }
     {
         let _stopped = self.stopped;
         for event in events {
-            match self.take(handler, access, event, out, count) {
+            match self.take_event(responder, event) {
                 Ok(()) => {}
                 Err(fault) => return Err(fault),
             }
@@ -106,30 +110,19 @@ impl Sessions {
     }
 
     /// One event. After an `Err` no connection is open, and nothing else that is kept has changed.
-    fn take<H: RequestHandler>(
+    fn take_event<H: RequestHandler>(
         &mut self,
-        handler: &mut H,
-        access: &AccessControl,
+        responder: &mut Responder<H>,
         event: &Event,
-        out: &mut Vec<Out>,
-        count: &mut u64,
     ) -> Result<(), OutOfMemory>
         requires rises { Rises self.old.greatest (number_in event.now) }
         requires fits { Fits event.now }
         ensures ok { OnOk result (self.new ≡ next self.old event.now) }
-        ensures ran { OnOk result (Hands (H.serves access.now) handler.old (completed_now event.now self.old.connections) handler.new out.old.items out.new.items count.old count.new) }
-        ensures err { OnErr result (Breaks (H.serves access.now) H.skips handler.old (completed_now event.now self.old.connections) handler.new out.old.items out.new.items count.old count.new) }
+        ensures ran { OnOk result (Hands H.serves responder.old (completed_now event.now self.old.connections) responder.new) }
+        ensures err { OnErr result (Breaks H.serves H.skips responder.old (completed_now event.now self.old.connections) responder.new) }
         ensures closed { OnErr result (self.new ≡ record { last = self.old.last; greatest = self.old.greatest; stopped = self.old.stopped; connections = [] }) }
     {
-        match apply(
-            self.alloc,
-            handler,
-            access,
-            &mut self.connections,
-            event,
-            out,
-            count,
-        ) {
+        match apply(self.alloc, responder, &mut self.connections, event) {
             Ok(()) => {}
             Err(fault) => {
                 self.connections.clear();
@@ -162,18 +155,15 @@ impl Sessions {
 /// What one event does to the connections, and the messages that it completes.
 fn apply<H: RequestHandler>(
     alloc: Global,
-    handler: &mut H,
-    access: &AccessControl,
+    responder: &mut Responder<H>,
     connections: &mut Vec<Connection>,
     event: &Event,
-    out: &mut Vec<Out>,
-    count: &mut u64,
 ) -> Result<(), OutOfMemory>
     requires climbs { Climbs connections.old.items }
     requires fits { Fits event.now }
     ensures ok { OnOk result (connections.new.items ≡ open_next event.now connections.old.items) }
-    ensures ran { OnOk result (Hands (H.serves access.now) handler.old (completed_now event.now connections.old.items) handler.new out.old.items out.new.items count.old count.new) }
-    ensures err { OnErr result (Breaks (H.serves access.now) H.skips handler.old (completed_now event.now connections.old.items) handler.new out.old.items out.new.items count.old count.new) }
+    ensures ran { OnOk result (Hands H.serves responder.old (completed_now event.now connections.old.items) responder.new) }
+    ensures err { OnErr result (Breaks H.serves H.skips responder.old (completed_now event.now connections.old.items) responder.new) }
 {
     match event {
         Event::Accepted {
@@ -183,74 +173,39 @@ fn apply<H: RequestHandler>(
             limit,
         } => accept(alloc, connections, *at, *conn, *peer, *limit),
         Event::Bytes { at, conn, piece } => {
-            hear_at(handler, access, connections, *at, *conn, piece, out, count)
+            receive_bytes(responder, connections, *at, *conn, piece)
         }
         Event::Ended { at, conn } => {
             end(connections, *at, *conn);
             Ok(())
         }
-        Event::Datagram { at, peer, bytes } => {
-            hand_datagram(handler, access, *at, *peer, bytes, out, count)
-        }
+        Event::Datagram { at, peer, bytes } => { responder.settle_datagram(*at, *peer, bytes) }
         Event::Tick { at: _ } => Ok(()),
         Event::Stop { at: _ } => Ok(()),
     }
 }
 
-/// A piece of the bytes of the connection of a number; one that came too late closes it.
-fn hear_at<H: RequestHandler>(
-    handler: &mut H,
-    access: &AccessControl,
+/// Receives a piece of the bytes of the connection of a number; one that came too late closes it.
+fn receive_bytes<H: RequestHandler>(
+    responder: &mut Responder<H>,
     connections: &mut Vec<Connection>,
     at: u64,
     number: u32,
     piece: &Octets,
-    out: &mut Vec<Out>,
-    count: &mut u64,
 ) -> Result<(), OutOfMemory>
     requires climbs { Climbs connections.old.items }
     requires moment { at < 2 ^ 47 }
     ensures ok { OnOk result (connections.new.items ≡ filter_map (step (event.Bytes at number piece.now)) connections.old.items) }
-    ensures ran { OnOk result (Hands (H.serves access.now) handler.old (completed_now (event.Bytes at number piece.now) connections.old.items) handler.new out.old.items out.new.items count.old count.new) }
-    ensures err { OnErr result (Breaks (H.serves access.now) H.skips handler.old (completed_now (event.Bytes at number piece.now) connections.old.items) handler.new out.old.items out.new.items count.old count.new) }
+    ensures ran { OnOk result
+        (Hands H.serves responder.old (completed_now (event.Bytes at number piece.now) connections.old.items) responder.new) }
+    ensures err { OnErr result
+        (Breaks H.serves H.skips responder.old (completed_now (event.Bytes at number piece.now) connections.old.items) responder.new) }
 {
     if let Some(i) = place_of(connections, number) {
-        let stays = hear(
-            handler,
-            access,
-            &mut connections[i],
-            at,
-            piece.as_slice(),
-            out,
-            count,
-        )?;
+        let stays = responder.receive_piece(&mut connections[i], at, piece.as_slice())?;
         if !stays {
             connections.remove(i);
         }
     }
     Ok(())
-}
-
-fn hand_datagram<H: RequestHandler>(
-    handler: &mut H,
-    access: &AccessControl,
-    at: u64,
-    peer: Peer,
-    bytes: &Octets,
-    out: &mut Vec<Out>,
-    count: &mut u64,
-) -> Result<(), OutOfMemory>
-    requires moment { at < 2 ^ 47 }
-    requires bytes { length bytes.now ≤ 65535 }
-    ensures ran { OnOk result (Hands (H.serves access.now) handler.old (datagram_by (event.Datagram at peer bytes.now)) handler.new out.old.items out.new.items count.old count.new) }
-    ensures err { OnErr result (Breaks (H.serves access.now) H.skips handler.old (datagram_by (event.Datagram at peer bytes.now)) handler.new out.old.items out.new.items count.old count.new) }
-{
-    let ask = Ask {
-        bytes: bytes.copy()?,
-        source: peer,
-        protocol: Protocol::Udp,
-        at,
-        client: 0,
-    };
-    hand(handler, access, Receiver::Peer(peer), ask, out, count)
 }

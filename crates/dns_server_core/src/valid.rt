@@ -5,12 +5,13 @@ ghost use Rattle.dns_server_core.specs.Events.{moment, number_in, last_number, i
 ghost use Rattle.dns_server_core.specs.ValidTest.{fits, are_above, is_next, are_valid};
 
 use crate::event::Event;
+use dns_wire::limits::MAX_MESSAGE_LEN;
 
-/// Moments and limits are below it.
-const MOMENTS: u64 = 0x8000_0000_0000;
+/// Moments and limits, in milliseconds, are below it.
+const MOMENT_BOUND: u64 = 1 << 47;
 
 /// The most bytes of a piece or a datagram.
-const MOST: usize = 65_535;
+const MAX_PIECE_LEN: usize = MAX_MESSAGE_LEN as usize;
 
 impl Event {
     /// Its moment, in milliseconds.
@@ -47,12 +48,12 @@ impl Event {
         ensures { result ≡ fits self.now }
     {
         match self {
-            Event::Accepted { at, limit, .. } => *at < MOMENTS && *limit < MOMENTS,
-            Event::Bytes { at, piece, .. } => *at < MOMENTS && piece.len() <= MOST,
-            Event::Ended { at, .. } => *at < MOMENTS,
-            Event::Datagram { at, bytes, .. } => *at < MOMENTS && bytes.len() <= MOST,
-            Event::Tick { at } => *at < MOMENTS,
-            Event::Stop { at } => *at < MOMENTS,
+            Event::Accepted { at, limit, .. } => *at < MOMENT_BOUND && *limit < MOMENT_BOUND,
+            Event::Bytes { at, piece, .. } => *at < MOMENT_BOUND && piece.len() <= MAX_PIECE_LEN,
+            Event::Ended { at, .. } => *at < MOMENT_BOUND,
+            Event::Datagram { at, bytes, .. } => *at < MOMENT_BOUND && bytes.len() <= MAX_PIECE_LEN,
+            Event::Tick { at } => *at < MOMENT_BOUND,
+            Event::Stop { at } => *at < MOMENT_BOUND,
         }
     }
 

@@ -1,8 +1,3 @@
-pub mod Name
-pub mod NameBuffer
-pub mod NameInMessage
-pub mod NameEquality
-pub mod Octets
 pub mod Texts
 pub mod Forms
 pub mod Standing
@@ -14,8 +9,3 @@ pub mod WireFormat
 pub mod MessageBytes
 pub mod Written
 pub mod ReadBack
-pub mod Edge
-pub mod Memory
-pub mod Fault
-pub mod NameText
-pub mod NameParsing

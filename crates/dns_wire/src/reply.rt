@@ -2,17 +2,20 @@
 
 ghost use Rattle.std.specs.Prelude.{◌≡◌, ◌+◌, ◌-◌, ◌≤◌, ◌++◌, length, take, IfOk, nat_lt};
 ghost use Rattle.dns_wire.specs.declared.reply.Reply.{Reply};
+ghost use Rattle.dns_wire.specs.Standing.{word_at};
 ghost use Rattle.dns_wire.specs.WireFormat.{records_bytes, questions_bytes};
 ghost use Rattle.dns_wire.specs.Written.{all_of, question_list, reply_header, reply_bytes, Fits, Written};
 
 use crate::edns::Edns;
-use crate::fault::OutOfMemory;
 use crate::header::Header;
-use crate::octets::Octets;
 use crate::question::Question;
 use crate::record::{Record, Records};
-use crate::writing::{opt_len, put_message, question_len, record_len};
+use crate::writing::{flag_word, opt_len, put_message, question_len, record_len};
+use dns_io::{Octets, OutOfMemory};
 use std::alloc::Global;
+
+/// How many bytes the length takes that goes before a message in a stream (RFC 1035 4.2.2).
+const LENGTH_LEN: usize = 2;
 
 /// What a message is answered with.
 #[derive(Clone, Debug, Drop)]
@@ -41,30 +44,60 @@ pub struct Reply {
     pub edns: Option<Edns>,
 }
 
+/// A reply that was written, and what its header says of it (RFC 1035 4.1.1).
+#[derive(Debug, Drop)]
+pub struct WrittenReply {
+    /// The written form.
+    pub bytes: Octets,
+    /// Its third and fourth byte, read as one number: the flags, the opcode and the lowest four bits of the code.
+    pub flags: u16,
+    /// How many records its answer section has.
+    pub answers: usize,
+}
+
 impl Reply {
     /// The written form in at most `limit` bytes: as many of the records, in order, as go beside the header, the
-    /// question and the OPT, with TC where one was left out (RFC 2181 9).
+    /// question and the OPT, with TC where one was left out (RFC 2181 9). The buffer has room for two bytes more, so that
+    /// the length can be put in front of the reply (RFC 1035 4.2.2) without growing the buffer.
     pub fn encode(&self, alloc: Global, limit: u16) -> Result<Octets, OutOfMemory>
         requires { 512 ≤ limit }
         ensures { IfOk result (Written self.now limit) }
     {
+        let written = self.write(alloc, limit)?;
+        Ok(written.bytes)
+    }
+
+    /// The written form that `encode` gives, with the flags and the number of answers that its header has.
+    pub fn write(&self, alloc: Global, limit: u16) -> Result<WrittenReply, OutOfMemory>
+        requires { 512 ≤ limit }
+        ensures bytes { IfOk result (λ written. Written self.now limit written.bytes) }
+        ensures flags { IfOk result (λ written. written.flags ≡ word_at written.bytes 2) }
+        ensures answers { IfOk result (λ written. written.answers ≡ word_at written.bytes 6) }
+    {
         let limit = usize::from(limit);
         let fixed = 12 + asked_len(&self.question) + opt_len(&self.edns);
         let (count, left) = cut(self, limit - fixed);
-        encode_first(alloc, self, count, limit - left)
+        let bytes = encode_first(alloc, self, count, limit - left + LENGTH_LEN)?;
+        let flags = flag_word(&header_of(self, count));
+        let answers = count.min(self.answers.len());
+        Ok(WrittenReply {
+            bytes,
+            flags,
+            answers,
+        })
     }
 }
 
-/// The reply with its first records, so many, in a buffer of that size.
+/// The reply with the first `count` of its records, in a buffer with room for `room` bytes.
 fn encode_first(
     alloc: Global,
     reply: &Reply,
     count: usize,
-    size: usize,
+    room: usize,
 ) -> Result<Octets, OutOfMemory>
     ensures { IfOk result (λ o. o ≡ reply_bytes reply.now count) }
 {
-    let mut out = Vec::with_capacity(alloc, size)?;
+    let mut out = Vec::with_capacity(alloc, room)?;
     let second = count.saturating_sub(reply.answers.len());
     let third = second.saturating_sub(reply.authority.len());
     put_message(
@@ -79,7 +112,7 @@ fn encode_first(
     Ok(Octets::from_vec(out))
 }
 
-/// The header where the first records, so many, are written.
+/// The header where the first `count` records are written.
 fn header_of(reply: &Reply, count: usize) -> Header
     ensures { result ≡ reply_header reply.now count }
 {
@@ -101,7 +134,7 @@ fn header_of(reply: &Reply, count: usize) -> Header
     }
 }
 
-/// Whether there are more records than so many.
+/// Whether there are more than `count` records.
 #[tactic(auto, using(crate::proofs::Fitting::size_all_of))]
 fn is_cut(reply: &Reply, count: usize) -> bool
     ensures { result ≡ nat_lt count (length (all_of reply.now)) }
@@ -130,7 +163,7 @@ fn asked_len(question: &Option<Question>) -> usize
     }
 }
 
-/// The first records of a list, so many.
+/// The first `count` records of a list.
 #[tactic(auto, using(crate::proofs::Fitting::first_of))]
 fn first(records: &[Record], count: usize) -> &[Record]
     ensures { result.now ≡ take count records.now }
@@ -139,7 +172,7 @@ fn first(records: &[Record], count: usize) -> &[Record]
     front
 }
 
-/// How many of the records go into so many bytes, and how many bytes are left then.
+/// How many of the reply's records, from the first on, go into `room` bytes, and how many bytes are left then.
 fn cut(reply: &Reply, room: usize) -> (usize, usize)
     ensures fits { Fits room (all_of reply.now) result.0 }
     ensures few { result.0 + result.1 ≤ room }
@@ -152,7 +185,7 @@ fn cut(reply: &Reply, room: usize) -> (usize, usize)
     (count + more, left)
 }
 
-/// The same for the records of the last two sections.
+/// How many records of the last two sections go into `room` bytes, and how many bytes are left then.
 fn cut_rest(reply: &Reply, room: usize) -> (usize, usize)
     ensures fits { Fits room (reply.now.authority ++ reply.now.additional) result.0 }
     ensures few { result.0 + result.1 ≤ room }
@@ -165,7 +198,7 @@ fn cut_rest(reply: &Reply, room: usize) -> (usize, usize)
     (count + more, left)
 }
 
-/// The same for the records of one section.
+/// How many records of one section go into `room` bytes, and how many bytes are left then.
 fn fitting_of(records: &Records, room: usize) -> (usize, usize)
     ensures fits { Fits room records.now result.0 }
     ensures left { result.1 + length (records_bytes (take result.0 records.now)) ≡ room }

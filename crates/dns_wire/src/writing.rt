@@ -1,8 +1,8 @@
 //! Writing the parts of messages, all names uncompressed (RFC 1035 4.1).
 
 ghost use Rattle.std.specs.Prelude.{◌≡◌, ◌++◌, ◌+◌, ◌*◌, ◌≤◌, ◌<◌, ◌^◌, length, OnOk, IfSome};
-ghost use Rattle.std.specs.Int.{w16, w32, to_be_bytes};
-ghost use Rattle.dns_wire.specs.Name.{IsName, name_bytes};
+ghost use Rattle.std.specs.Int.{w16, w32, to_be_bytes, from_be_bytes};
+ghost use Rattle.dns_name.specs.Name.{IsName, name_bytes};
 ghost use Rattle.dns_wire.specs.Header.{unit, flag_bytes, header_bytes};
 ghost use Rattle.dns_wire.specs.Edns.{opt_record, opt_records};
 ghost use Rattle.dns_wire.specs.WireFormat.{data_bytes, record_bytes, records_bytes, question_bytes, questions_bytes};
@@ -11,12 +11,13 @@ ghost use Rattle.dns_wire.specs.ReadBack.{IsQuestion, IsRecord, IsEdns};
 ghost use Rattle.dns_wire.specs.declared.message.Message.{Message};
 
 use crate::edns::Edns;
-use crate::fault::OutOfMemory;
 use crate::header::Header;
-use crate::name::Name;
 use crate::question::Question;
 use crate::record::Record;
+use crate::record_type;
 use crate::writing_data::{data_len, put_data};
+use dns_io::OutOfMemory;
+use dns_name::Name;
 
 /// Writes a message, the OPT last; the counts are those of what is written, whatever the header says.
 pub(crate) fn put_message(
@@ -56,6 +57,15 @@ fn put_flags(out: &mut Vec<u8>, header: &Header) -> Result<(), OutOfMemory>
     ensures { OnOk result (out.new.items ≡ out.old.items ++ (to_be_bytes w16 header.now.id ++ flag_bytes header.now)) }
 {
     let [first, second] = header.id.to_be_bytes();
+    let [high, low] = flag_bytes(header);
+    out.extend_from_slice(&[first, second, high, low])?;
+    Ok(())
+}
+
+/// The two bytes of the flags, the opcode and the code, the last two modulo 16 (RFC 1035 4.1.1).
+fn flag_bytes(header: &Header) -> [u8; 2]
+    ensures { result ≡ flag_bytes header.now }
+{
     let high = 128 * u8::from(header.qr)
         + 8 * (header.opcode % 16)
         + 4 * u8::from(header.aa)
@@ -65,8 +75,14 @@ fn put_flags(out: &mut Vec<u8>, header: &Header) -> Result<(), OutOfMemory>
         + 32 * u8::from(header.ad)
         + 16 * u8::from(header.cd)
         + header.code % 16;
-    out.extend_from_slice(&[first, second, high, low])?;
-    Ok(())
+    [high, low]
+}
+
+/// These two bytes as one number.
+pub(crate) fn flag_word(header: &Header) -> u16
+    ensures { result ≡ from_be_bytes w16 (flag_bytes header.now) }
+{
+    u16::from_be_bytes(flag_bytes(header))
 }
 
 /// Writes the four counts of a header.
@@ -77,7 +93,8 @@ fn put_counts(
     authority: u128,
     additional: u128,
 ) -> Result<(), OutOfMemory>
-    ensures { OnOk result (out.new.items ≡ out.old.items ++ (to_be_bytes w16 questions ++ (to_be_bytes w16 answers ++ (to_be_bytes w16 authority ++ to_be_bytes w16 additional)))) }
+    ensures { OnOk result (out.new.items ≡ out.old.items ++ (to_be_bytes w16 questions
+        ++ (to_be_bytes w16 answers ++ (to_be_bytes w16 authority ++ to_be_bytes w16 additional)))) }
 {
     put_count(out, questions)?;
     put_count(out, answers)?;
@@ -146,7 +163,8 @@ pub(crate) fn put_record(out: &mut Vec<u8>, one: &Record) -> Result<(), OutOfMem
 }
 
 fn put_head(out: &mut Vec<u8>, one: &Record) -> Result<(), OutOfMemory>
-    ensures { OnOk result (out.new.items ≡ out.old.items ++ name_bytes one.now.name ++ to_be_bytes w16 one.now.rtype ++ to_be_bytes w16 one.now.class ++ to_be_bytes w32 one.now.ttl) }
+    ensures { OnOk result (out.new.items ≡ out.old.items ++ name_bytes one.now.name
+        ++ to_be_bytes w16 one.now.rtype ++ to_be_bytes w16 one.now.class ++ to_be_bytes w32 one.now.ttl) }
 {
     one.name.write(out)?;
     put_u16(out, one.rtype)?;
@@ -158,9 +176,10 @@ fn put_head(out: &mut Vec<u8>, one: &Record) -> Result<(), OutOfMemory>
 fn put_opt(out: &mut Vec<u8>, edns: &Edns) -> Result<(), OutOfMemory>
     ensures { OnOk result (out.new.items ≡ out.old.items ++ record_bytes (opt_record edns.now)) }
 {
+    let [type_high, type_low] = record_type::OPT.to_be_bytes();
     let [high, low] = edns.payload.to_be_bytes();
     let [a, b, c, d] = opt_ttl(edns).to_be_bytes();
-    out.extend_from_slice(&[0, 0, 41, high, low, a, b, c, d, 0, 0])?;
+    out.extend_from_slice(&[0, type_high, type_low, high, low, a, b, c, d, 0, 0])?;
     Ok(())
 }
 
@@ -212,7 +231,6 @@ fn present_opt_len(edns: Edns) -> usize
 }
 
 /// How many bytes a name takes.
-#[tactic(auto, using(crate::proofs::Lengths::length_name_bytes))]
 pub(crate) fn name_len(name: &Name) -> usize
     ensures is { result ≡ length (name_bytes name.now) }
     ensures name { IsName name.now }

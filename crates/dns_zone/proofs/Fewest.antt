@@ -1,7 +1,7 @@
 -- What the walks along the labels of a name find: the fewest labels, and the most.
-use Rattle.std.proofs.Common.{◌≡◌, ℕ, ◌<◌, ◌≤◌, List, [], ◌∷◌, ◌++◌, length, refl, sym, ap, ◌∙◌, arith, Bool, true, false, length-append, inl, inr}
-use Rattle.std.specs.Prelude.{None, Some, Option, ◌⊎◌}
-use Rattle.dns_zone.specs.Look.{topmost, nearest, IsTopmost, IsNearest, or_else, only_if}
+use Rattle.std.proofs.Common.{◌≡◌, ℕ, ◌<◌, ◌≤◌, List, [], ◌∷◌, ◌++◌, length, drop, refl, sym, ap, ◌∙◌, arith, Bool, true, false, length-append, inl, inr}
+use Rattle.std.specs.Prelude.{None, Some, Option, ◌⊎◌, ◌↔◌}
+use Rattle.dns_zone.specs.Look.{topmost, nearest, IsTopmost, IsNearest, PassesNowhere, PassesNowhereAbove, or_else, only_if}
 
 -- a name at or above a name is that name or one at or above the name without its first label
 ends : (l : List ℕ) (ls others more : List (List ℕ)) → l ∷ ls ≡ others ++ more → (more ≡ l ∷ ls) ⊎ ((rest : List (List ℕ)) × (ls ≡ rest ++ more))
@@ -99,3 +99,36 @@ if_nearest test l ls near false is ih e =
 pub nearest_is : (test : List (List ℕ) → Bool) (name near : List (List ℕ)) → nearest test name ≡ Some near → IsNearest test name near
 nearest_is test [] near is = absurd (cc)
 nearest_is test (l ∷ ls) near is = if_nearest test l ls near (test ls) refl (λ t e. nearest_is test ls t e) is
+
+-- there is no topmost name exactly where no name at or above passes
+pub topmost_none : (test : List (List ℕ) → Bool) (name : List (List ℕ)) → test [] ≡ false → (topmost test name ≡ None) ↔ PassesNowhere test name
+topmost_none test name root = (none_passes test name root, λ nowhere. absent (topmost test name) refl nowhere)
+  where
+    absent : (found : Option (List (List ℕ))) → topmost test name ≡ found → PassesNowhere test name → topmost test name ≡ None
+    absent None is nowhere = is
+    absent (Some top) is nowhere =
+        let i : IsTopmost test name top = topmost_is test name top root is in
+        absurd (true_false (test top) i.passes (nowhere i.front top i.above))
+
+-- where nothing is nearest, no name strictly above passes
+none_above : (test : List (List ℕ) → Bool) (name : List (List ℕ)) → nearest test name ≡ None → PassesNowhereAbove test name
+none_above test [] none front more is shorter = absurd (omega arith)
+none_above test (l ∷ ls) none [] more is shorter = absurd (omega (arith, ap length is))
+none_above test (l ∷ ls) none (f ∷ front) more is shorter =
+    let n = else_none (only_if (test ls) ls) (nearest test ls) none in
+    let rest : ls ≡ front ++ more = ap (drop 1) is in
+    below front rest (only_none (test ls) ls n.0) (λ fs e s. none_above test ls n.1 fs more e s)
+  where
+    below : (fs : List (List ℕ)) → ls ≡ fs ++ more → test ls ≡ false → ((gs : List (List ℕ)) → ls ≡ gs ++ more → length more < length ls → test more ≡ false) → test more ≡ false
+    below [] e here above = rw (← e) here
+    below (g ∷ gs) e here above = above (g ∷ gs) e (omega (arith, ap length e, length-append (g ∷ gs) more))
+
+-- there is no nearest name exactly where no name strictly above passes
+pub nearest_none : (test : List (List ℕ) → Bool) (name : List (List ℕ)) → (nearest test name ≡ None) ↔ PassesNowhereAbove test name
+nearest_none test name = (none_above test name, λ nowhere. absent (nearest test name) refl nowhere)
+  where
+    absent : (found : Option (List (List ℕ))) → nearest test name ≡ found → PassesNowhereAbove test name → nearest test name ≡ None
+    absent None is nowhere = is
+    absent (Some near) is nowhere =
+        let i : IsNearest test name near = nearest_is test name near is in
+        absurd (true_false (test near) i.passes (nowhere i.front near i.above i.strictly))

@@ -1,6 +1,4 @@
 pub mod Short
-pub mod Wording
-pub mod Parts
 pub mod SameData
 pub mod Putting
 pub mod Rivals

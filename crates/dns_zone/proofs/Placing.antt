@@ -3,11 +3,11 @@ use Rattle.std.proofs.Common.{◌≡◌, ℕ, List, [], ◌∷◌, Bool, true, f
 use Rattle.std.specs.List.{AllByRecursion, IsDistinct, list_any}
 use Rattle.std.proofs.lemmas.Bool.Decides.{Decides-eqb}
 use Rattle.dns_wire.specs.declared.record.Record.{Record}
-use Rattle.dns_wire.specs.Name.{is_same_name, is_at_or_below}
+use Rattle.dns_name.specs.Name.{is_same_name, is_at_or_below}
 use Rattle.dns_zone.specs.Folds.{data_eq}
 use Rattle.dns_zone.specs.Zone.{is_type, is_equal, is_rival, IsEntry, IsSoFar}
 use Rattle.dns_zone.specs.declared.zone_text.ZoneTextKind.TheVariants.{OutOfZone, NotOneSoa, AliasBesideOther}
-use Rattle.dns_zone.specs.Entries.{entry_of}
+use Rattle.dns_presentation.specs.Entries.{entry_of}
 use Rattle.dns_zone.specs.ZoneText.{is_beside_alias, put_in, placed, placed_entry}
 use Rattle.dns_zone.proofs.Readings.{IsRead, IsRead-entry_of}
 use Rattle.dns_zone.proofs.Rivals.{put_over, distinct_put}

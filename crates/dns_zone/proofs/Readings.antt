@@ -5,22 +5,22 @@ use Rattle.std.specs.List.{flat_map}
 use Rattle.std.specs.Char.{to_ascii_lowercase}
 use Rattle.std.proofs.lemmas.Str.Ascii.{lowercase-lowercase}
 use lib.Chars.{codes}
-use Rattle.dns_wire.specs.declared.fault.ProtoError.{ProtoError}
-use Rattle.dns_wire.specs.declared.fault.ProtoError.TheVariants.{NameLong}
+use Rattle.dns_name.specs.declared.fault.ProtoError.{ProtoError}
+use Rattle.dns_name.specs.declared.fault.ProtoError.TheVariants.{NameLong}
 use Rattle.dns_wire.specs.declared.rdata.Data.{Data}
 use Rattle.dns_wire.specs.declared.rdata.Data.TheVariants.{A, Ns, Cname, Soa, Txt}
 use Rattle.dns_wire.specs.declared.record.Record.{Record}
 use Rattle.dns_wire.specs.Forms.{form_of, variant_of}
-use Rattle.dns_wire.specs.Name.{fold_of, name_len, name_bytes, labels_bytes}
-use Rattle.dns_wire.specs.NameText.{name_of, short_name, labels_from, symbols_of}
+use Rattle.dns_name.specs.Name.{fold_of, name_len, name_bytes, labels_bytes}
+use Rattle.dns_name.specs.NameText.{name_of, short_name, labels_from, symbols_of}
 use Rattle.dns_wire.specs.Texts.{texts_bytes}
 use Rattle.dns_wire.specs.WireFormat.{data_bytes, IsShort}
-use Rattle.dns_wire.proofs.Below.{length-fold_of}
-use Rattle.dns_wire.proofs.Lengths.{length_name_bytes}
+use Rattle.dns_name.proofs.Below.{length-fold_of}
+use Rattle.dns_name.proofs.Lengths.{length_name_bytes}
 use Rattle.dns_zone.specs.Folds.{fold_data}
 use Rattle.dns_zone.specs.Zone.{is_meta}
-use Rattle.dns_zone.specs.Words.{Word, words_of}
-use Rattle.dns_zone.specs.Entries.{◌>>=◌, plain_text, folded, ends_in_dot, absolute_name, string_of, is_too_long, strings_from, txt_of, only_word, only_name, only_address, word_number, word_name, times_of, soa_of, is_word, data_of, record_of, begins_apart, entry_of}
+use Rattle.dns_presentation.specs.Words.{Word, words_of}
+use Rattle.dns_presentation.specs.Entries.{◌>>=◌, plain_text, folded, ends_in_dot, absolute_name, string_of, is_too_long, strings_from, txt_of, only_word, only_name, only_address, word_number, word_name, times_of, soa_of, is_word, data_of, record_of, begins_apart, entry_of}
 
 -- what holds of such a record, wherever it stands
 pub record IsRead (r : Record) : Type 0 where
@@ -51,7 +51,7 @@ taken : {X Y : Type 0} (found : Option X) (next : X → Option Y) (y : Y) → (f
 taken None next y is = absurd cc
 taken (Some x) next y is = (x, refl, is)
 
--- two values that are there are the same
+-- two values that are there are equal
 some_same : {X : Type 0} (x y : X) → Some x ≡ Some y → x ≡ y
 some_same x y is = cc
 

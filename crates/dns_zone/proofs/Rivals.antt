@@ -4,7 +4,7 @@ use Rattle.std.specs.List.{AllByRecursion, IsDistinct}
 use Rattle.std.proofs.lemmas.Bool.Decides.{same_from_decides, Decides-eqb}
 use Rattle.dns_wire.specs.declared.rdata.Data.{Data}
 use Rattle.dns_wire.specs.declared.record.Record.{Record}
-use Rattle.dns_wire.specs.Name.{fold_of, is_same_name}
+use Rattle.dns_name.specs.Name.{fold_of, is_same_name}
 use Rattle.dns_zone.specs.Folds.{data_eq}
 use Rattle.dns_zone.specs.Zone.{is_rival}
 use Rattle.dns_zone.proofs.SameData.{lists_eq-Decides, data_eq-Decides}
@@ -14,13 +14,13 @@ abbrev pub put_over : (Record → Bool) → Record → List Record → List Reco
 put_over test r [] = r ∷ []
 put_over test r (s ∷ records) = if test s then r ∷ records else s ∷ put_over test r records
 
--- names are the same either way round
+-- that two names are equal can be said either way round
 same_turned : (a b : List (List ℕ)) → is_same_name a b ≡ is_same_name b a
 same_turned a b =
     same_from_decides (is_same_name a b) (is_same_name b a) (lists_eq-Decides (fold_of a) (fold_of b))
     (λ passed. sym ((lists_eq-Decides (fold_of b) (fold_of a)).0 passed), λ same. (lists_eq-Decides (fold_of b) (fold_of a)).1 (sym same))
 
--- what is the same as the one of two equal names is the same as the other
+-- what equals the one of two equal names equals the other
 same_on : (a b c : List (List ℕ)) → is_same_name a b ≡ true → is_same_name b c ≡ is_same_name a c
 same_on a b c passed =
     let same : fold_of a ≡ fold_of b = (lists_eq-Decides (fold_of a) (fold_of b)).0 passed in

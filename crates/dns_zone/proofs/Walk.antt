@@ -3,10 +3,10 @@ use Rattle.std.proofs.Common.{◌≡◌, ℕ, zero, suc, ◌+◌, ◌-◌, ◌<�
 use Rattle.std.specs.Prelude.{None, Some, ◌&&◌, nat_lt, nat_le}
 use Rattle.std.proofs.lemmas.List.{drop-drop}
 use Rattle.std.proofs.lemmas.Bool.Decides.{nat_tests}
-use Rattle.dns_wire.specs.Name.{is_at_or_below}
+use Rattle.dns_name.specs.Name.{is_at_or_below, is_strictly_below}
 use Rattle.dns_wire.specs.declared.record.Record.{Record}
 use Rattle.dns_zone.specs.Zone.{Contents}
-use Rattle.dns_zone.specs.Look.{is_cut, is_strictly_below, owns_type, topmost, nearest, given}
+use Rattle.dns_zone.specs.Look.{is_cut, owns_type, topmost, nearest, given}
 
 -- records that are given no other owner
 pub given_none : (rs : List Record) → map (given None) rs ≡ rs
@@ -27,20 +27,20 @@ le-not : (a b : ℕ) → b ≤ a → nat_lt a b ≡ false
 le-not a b h = grind (arith, nat_tests)
 
 -- what stands above a name below the origin is below it too, as long as it has more labels
-above-below : (name origin : List (List ℕ)) (passed : ℕ) → is_at_or_below name origin ≡ true → length origin + passed < length name
-    → is_strictly_below (drop passed name) origin ≡ true
-above-below name origin passed within more =
-    let size : length (drop passed name) ≡ length name - passed = length-drop passed name in
-    let a : nat_lt (length origin) (length (drop passed name)) ≡ true = lt-test _ _ (omega (arith, size)) in
-    let b : nat_le (length origin) (length (drop passed name)) ≡ true = le-test _ _ (omega (arith, size)) in
-    let d : drop (length (drop passed name) - length origin) (drop passed name) ≡ drop (length name - length origin) name =
-    drop-drop (length (drop passed name) - length origin) passed name
-    ∙ ap (λ n. drop n name) (let e : passed + (length (drop passed name) - length origin) ≡ length name - length origin = omega (arith, size) in e) in
+above-below : (name origin : List (List ℕ)) (labels_dropped : ℕ) → is_at_or_below name origin ≡ true → length origin + labels_dropped < length name
+    → is_strictly_below (drop labels_dropped name) origin ≡ true
+above-below name origin labels_dropped within more =
+    let size : length (drop labels_dropped name) ≡ length name - labels_dropped = length-drop labels_dropped name in
+    let a : nat_lt (length origin) (length (drop labels_dropped name)) ≡ true = lt-test _ _ (omega (arith, size)) in
+    let b : nat_le (length origin) (length (drop labels_dropped name)) ≡ true = le-test _ _ (omega (arith, size)) in
+    let d : drop (length (drop labels_dropped name) - length origin) (drop labels_dropped name) ≡ drop (length name - length origin) name =
+    drop-drop (length (drop labels_dropped name) - length origin) labels_dropped name
+    ∙ ap (λ n. drop n name) (let e : labels_dropped + (length (drop labels_dropped name) - length origin) ≡ length name - length origin = omega (arith, size) in e) in
     rw (a, b, d) (and-second (nat_le (length origin) (length name)) _ within)
 
-pub cut_below : (zone : Contents) (name : List (List ℕ)) (passed : ℕ) → is_at_or_below name zone.origin ≡ true → length zone.origin + passed < length name
-    → is_cut zone (drop passed name) ≡ owns_type zone.records (drop passed name) 2
-cut_below zone name passed within more = rw (above-below name zone.origin passed within more) refl
+pub cut_below : (zone : Contents) (name : List (List ℕ)) (labels_dropped : ℕ) → is_at_or_below name zone.origin ≡ true → length zone.origin + labels_dropped < length name
+    → is_cut zone (drop labels_dropped name) ≡ owns_type zone.records (drop labels_dropped name) 2
+cut_below zone name labels_dropped within more = rw (above-below name zone.origin labels_dropped within more) refl
 
 -- a name with no more labels than the origin has no cut
 pub no_cut_above : (zone : Contents) (name : List (List ℕ)) → length name ≤ length zone.origin → topmost (is_cut zone) name ≡ None

@@ -1,8 +1,5 @@
 pub mod Folds
 pub mod Zone
-pub mod Lines
-pub mod Words
-pub mod Entries
 pub mod ZoneText
 pub mod View
 pub mod Look

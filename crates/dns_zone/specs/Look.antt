@@ -1,11 +1,12 @@
 -- One look at a zone: the cut of a name, its closest encloser, and the records that answer for it (RFC 1034 4.3.2,
 -- RFC 4592 3.3).
-use Rattle.std.specs.Prelude.{◌≡◌, ◌≤◌, ◌<◌, ◌++◌, ℕ, ◌+◌, nat_lt, zero, suc, Bool, true, false, not, ◌==◌, ◌&&◌, ◌||◌, if◌then◌else◌, List, [], ◌∷◌, length, map, Option, Some, None}
+use Rattle.std.specs.Prelude.{◌≡◌, ◌≤◌, ◌<◌, ◌++◌, ℕ, ◌+◌, zero, suc, Bool, true, false, not, ◌==◌, ◌&&◌, ◌||◌, if◌then◌else◌, List, [], ◌∷◌, length, map, Option, Some, None}
 use Rattle.std.specs.List.{list_any, flat_map}
-use Rattle.dns_wire.specs.Name.{fold_of, is_same_name, is_at_or_below}
+use Rattle.dns_name.specs.Name.{fold_of, is_same_name, is_at_or_below, is_strictly_below}
 use Rattle.dns_wire.specs.declared.record.Record.{Record}
+use Rattle.dns_wire.specs.declared.record_type.TheConstants.{NS, CNAME, DS, ANY}
 use Rattle.dns_zone.specs.Zone.{Contents, is_in_set, set_of}
-use Rattle.dns_zone.specs.declared.sets.Source.{Source}
+use Rattle.dns_zone.specs.declared.sets.Owner.{Owner}
 use Rattle.dns_zone.specs.declared.look.Look.{Look}
 use Rattle.dns_zone.specs.declared.look.Look.TheVariants.{Referral, NoName, Alias, Found, NoData}
 
@@ -21,13 +22,9 @@ is_at_or_under name r = is_at_or_below r.name name
 abbrev pub exists : List Record → List (List ℕ) → Bool
 exists records name = list_any (is_at_or_under name) records
 
--- a name is below the other and has more labels
-abbrev pub is_strictly_below : List (List ℕ) → List (List ℕ) → Bool
-is_strictly_below name other = nat_lt (length other) (length name) && is_at_or_below name other
-
 -- a name strictly below the origin that owns NS (RFC 1034 4.2)
 abbrev pub is_cut : Contents → List (List ℕ) → Bool
-is_cut zone name = is_strictly_below name zone.origin && owns_type zone.records name 2
+is_cut zone name = is_strictly_below name zone.origin && owns_type zone.records name NS
 
 -- a value where a test passed
 abbrev pub only_if : {A : Type 0} → Bool → A → Option A
@@ -49,9 +46,9 @@ abbrev pub nearest : (List (List ℕ) → Bool) → List (List ℕ) → Option (
 nearest test [] = None
 nearest test (label ∷ above) = or_else (only_if (test above) above) (nearest test above)
 
--- DS (43) of the cut itself is not below the cut: it belongs to this zone (RFC 4035 3.1.4.1)
+-- DS of the cut itself is not below the cut: it belongs to this zone (RFC 4035 3.1.4.1)
 abbrev pub unless_ds : List (List ℕ) → ℕ → List (List ℕ) → Option (List (List ℕ))
-unless_ds name rtype cut = only_if (not ((rtype == 43) && is_same_name name cut)) cut
+unless_ds name rtype cut = only_if (not ((rtype == DS) && is_same_name name cut)) cut
 
 abbrev pub cut_under : List (List ℕ) → ℕ → Option (List (List ℕ)) → Option (List (List ℕ))
 cut_under name rtype None = None
@@ -69,15 +66,15 @@ star_under name = (42 ∷ []) ∷ name
 abbrev pub closest_encloser : List Record → List (List ℕ) → Option (List (List ℕ))
 closest_encloser records name = nearest (exists records) name
 
-abbrev pub wildcard_under : List Record → List (List ℕ) → Option (List (List ℕ)) → Option Source
+abbrev pub wildcard_under : List Record → List (List ℕ) → Option (List (List ℕ)) → Option Owner
 wildcard_under records name None = None
 wildcard_under records name (Some encloser) =
-    only_if (exists records (star_under encloser)) (record { name = star_under encloser; owner = Some (fold_of name) })
+    only_if (exists records (star_under encloser)) (record { name = star_under encloser; synthesized = Some (fold_of name) })
 
 -- a name that exists answers for itself; for another the wildcard under its closest encloser does, if that exists
-abbrev pub source_of : List Record → List (List ℕ) → Option Source
-source_of records name =
-    if exists records name then Some (record { name = name; owner = None })
+abbrev pub owner_of : List Record → List (List ℕ) → Option Owner
+owner_of records name =
+    if exists records name then Some (record { name = name; synthesized = None })
     else wildcard_under records name (closest_encloser records name)
 
 -- the record with the owner, if one is given (RFC 4592 3.3.2)
@@ -86,33 +83,33 @@ given None r = r
 given (Some owner) r = record { name = owner; rtype = r.rtype; class = r.class; ttl = r.ttl; rdata = r.rdata }
 
 -- the records of one type that answer
-abbrev pub found_set : List Record → Source → ℕ → List Record
-found_set records source rtype = map (given source.owner) (set_of records source.name rtype)
+abbrev pub found_set : List Record → Owner → ℕ → List Record
+found_set records owner rtype = map (given owner.synthesized) (set_of records owner.name rtype)
 
--- so many numbers, from one on
+-- `more` numbers, from `first` on
 abbrev pub numbers_from : ℕ → ℕ → List ℕ
 numbers_from first zero = []
 numbers_from first (suc more) = first ∷ numbers_from (first + 1) more
 
--- the records of so many types, from one on, that answer, by ascending type
-unfoldable pub found_from : List Record → Source → ℕ → ℕ → List Record
-found_from records source first more = flat_map (found_set records source) (numbers_from first more)
+-- the records that answer of `more` types, from `first` on, by ascending type
+unfoldable pub found_from : List Record → Owner → ℕ → ℕ → List Record
+found_from records owner first more = flat_map (found_set records owner) (numbers_from first more)
 
 -- the records of all types that answer
-abbrev pub found_all : List Record → Source → List Record
-found_all records source = found_from records source 0 65536
+abbrev pub found_all : List Record → Owner → List Record
+found_all records owner = found_from records owner 0 65536
 
--- the records that answer a question of this type: for ANY (255) those of all types
-abbrev pub found_of : List Record → Source → ℕ → List Record
-found_of records source rtype = if rtype == 255 then found_all records source else found_set records source rtype
+-- the records that answer a question of this type: for ANY those of all types
+abbrev pub found_of : List Record → Owner → ℕ → List Record
+found_of records owner rtype = if rtype == ANY then found_all records owner else found_set records owner rtype
 
 abbrev pub first_of : List Record → Option Record
 first_of [] = None
 first_of (r ∷ rs) = Some r
 
--- the alias that answers, unless CNAME (5) or ANY was asked
-abbrev pub alias_of : List Record → Source → ℕ → Option Record
-alias_of records source rtype = if (rtype == 5) || (rtype == 255) then None else first_of (found_set records source 5)
+-- the alias that answers, unless CNAME or ANY was asked
+abbrev pub alias_of : List Record → Owner → ℕ → Option Record
+alias_of records owner rtype = if (rtype == CNAME) || (rtype == ANY) then None else first_of (found_set records owner CNAME)
 
 abbrev pub found_or_none : List Record → Look
 found_or_none [] = NoData
@@ -122,13 +119,13 @@ abbrev pub alias_or : Option Record → List Record → Look
 alias_or (Some r) found = Alias r
 alias_or None found = found_or_none found
 
-abbrev pub look_at : List Record → Option Source → ℕ → Look
+abbrev pub look_at : List Record → Option Owner → ℕ → Look
 look_at records None rtype = NoName
-look_at records (Some source) rtype = alias_or (alias_of records source rtype) (found_of records source rtype)
+look_at records (Some owner) rtype = alias_or (alias_of records owner rtype) (found_of records owner rtype)
 
 abbrev pub look_under : Contents → List (List ℕ) → ℕ → Option (List (List ℕ)) → Look
-look_under zone name rtype (Some cut) = Referral (set_of zone.records cut 2)
-look_under zone name rtype None = look_at zone.records (source_of zone.records name) rtype
+look_under zone name rtype (Some cut) = Referral (set_of zone.records cut NS)
+look_under zone name rtype None = look_at zone.records (owner_of zone.records name) rtype
 
 -- what a look for a name and a type finds
 unfoldable pub look_of : Contents → List (List ℕ) → ℕ → Look
@@ -148,3 +145,11 @@ pub record IsNearest (test : List (List ℕ) → Bool) (name near : List (List �
   pub strictly : length near < length name
   pub passes : test near ≡ true
   pub most : (others more : List (List ℕ)) → name ≡ others ++ more → length more < length name → test more ≡ true → length more ≤ length near
+
+-- the test fails at the name and at all names above it
+abbrev pub PassesNowhere : (List (List ℕ) → Bool) → List (List ℕ) → Type 0
+PassesNowhere test name = (front more : List (List ℕ)) → name ≡ front ++ more → test more ≡ false
+
+-- the test fails at all names above the name
+abbrev pub PassesNowhereAbove : (List (List ℕ) → Bool) → List (List ℕ) → Type 0
+PassesNowhereAbove test name = (front more : List (List ℕ)) → name ≡ front ++ more → length more < length name → test more ≡ false

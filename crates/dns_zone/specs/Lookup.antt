@@ -1,10 +1,12 @@
 -- What a question is answered with: a chain of looks along aliases (RFC 1034 4.3.2, RFC 2308 3, RFC 6604).
 use Rattle.std.specs.Prelude.{ℕ, ◌-◌, ◌==◌, if◌then◌else◌, length, min, zero, suc, Bool, true, false, not, ◌&&◌, List, [], ◌∷◌, ◌++◌, map, Option, Some, None, option_map, option_to_list}
 use Rattle.std.specs.List.{list_any, flat_map}
-use Rattle.dns_wire.specs.Name.{is_same_name, is_at_or_below}
+use Rattle.dns_name.specs.Name.{is_same_name, is_at_or_below}
 use Rattle.dns_wire.specs.declared.rdata.Data.{Data}
 use Rattle.dns_wire.specs.declared.rdata.Data.TheVariants.{Cname, Soa}
 use Rattle.dns_wire.specs.declared.record.Record.{Record}
+use Rattle.dns_wire.specs.declared.record_type.TheConstants.{SOA}
+use Rattle.dns_wire.specs.declared.response_code.TheConstants.{NO_ERROR, NX_DOMAIN}
 use Rattle.dns_zone.specs.Zone.{Contents, set_of}
 use Rattle.dns_zone.specs.Look.{only_if, look_of}
 use Rattle.dns_zone.specs.declared.look.Look.{Look}
@@ -23,7 +25,7 @@ negative r = record { name = r.name; rtype = r.rtype; class = r.class; ttl = neg
 
 -- the authority of a negative reply
 abbrev pub negative_soa : Contents → List Record
-negative_soa zone = map negative (set_of zone.records zone.origin 6)
+negative_soa zone = map negative (set_of zone.records zone.origin SOA)
 
 -- where an alias leads
 abbrev pub target_of : Data → Option (List (List ℕ))
@@ -50,7 +52,7 @@ asked_along first aliases = first ∷ targets aliases
 abbrev pub ahead : List Record → Chain → Chain
 ahead aliases rest = record { code = rest.code; answers = aliases ++ rest.answers; authority = rest.authority }
 
--- what a look for the target of an alias finds, where so many more names may be asked
+-- what a look for the target of an alias finds, where `more` further names may be asked
 abbrev pub next_look : ℕ → Contents → ℕ → List (List (List ℕ)) → Record → Option Look
 next_look zero zone rtype asked r = None
 next_look (suc more) zone rtype asked r = option_map (λ target. look_of zone target rtype) (next_of zone asked r)
@@ -59,23 +61,23 @@ next_look (suc more) zone rtype asked r = option_map (λ target. look_of zone ta
 abbrev pub behind : Record → Chain → Chain
 behind r rest = record { code = rest.code; answers = r ∷ rest.answers; authority = rest.authority }
 
--- an alias alone, with NoError (0)
+-- an alias alone, with NoError
 abbrev pub alone : Record → Chain
-alone r = record { code = 0; answers = r ∷ []; authority = [] }
+alone r = record { code = NO_ERROR; answers = r ∷ []; authority = [] }
 
--- the answer where a look ends the chain, and what follows an alias; a name that is not there is NXDomain (3)
+-- the answer where a look ends the chain, and what follows an alias; a name that is not there is NXDomain
 abbrev pub answered : Contents → Look → (Record → Chain) → Chain
-answered zone (Referral ns) follow = record { code = 0; answers = []; authority = ns }
-answered zone NoName follow = record { code = 3; answers = []; authority = negative_soa zone }
+answered zone (Referral ns) follow = record { code = NO_ERROR; answers = []; authority = ns }
+answered zone NoName follow = record { code = NX_DOMAIN; answers = []; authority = negative_soa zone }
 answered zone (Alias r) follow = follow r
-answered zone (Found found) follow = record { code = 0; answers = found; authority = [] }
-answered zone NoData follow = record { code = 0; answers = []; authority = negative_soa zone }
+answered zone (Found found) follow = record { code = NO_ERROR; answers = found; authority = [] }
+answered zone NoData follow = record { code = NO_ERROR; answers = []; authority = negative_soa zone }
 
 abbrev pub onward : Record → Option (List (List ℕ)) → (List (List ℕ) → Chain) → Chain
 onward r None go = alone r
 onward r (Some target) go = behind r (go target)
 
--- an alias and what follows it, where so many more names may be asked
+-- an alias and what follows it, where `more` further names may be asked
 abbrev pub followed : ℕ → Contents → ℕ → List (List (List ℕ)) → Record → Chain
 followed zero zone rtype asked r = alone r
 followed (suc more) zone rtype asked r =
@@ -99,7 +101,7 @@ lookup_of zone name rtype = record {
   authority = (chain_of 7 zone name rtype (name ∷ [])).authority;
 }
 
--- the same chain, with its limit said of the names that were asked
+-- the chain of looks from a name on, with its limit said of the names that were asked (RFC 6604 2)
 abbrev pub chain_from : Contents → List (List ℕ) → ℕ → List (List (List ℕ)) → Chain
 chain_from zone name rtype asked = chain_of (8 - length asked) zone name rtype asked
 

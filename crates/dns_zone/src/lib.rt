@@ -1,20 +1,16 @@
 //! A zone, what questions are answered with from it, and the text that it is read from.
 #![tactic(auto)]
 
-mod entry;
 pub mod laws;
-mod lines;
 mod look;
 mod lookup;
 mod replay;
 mod sets;
-mod values;
 mod view;
-mod words;
 mod zone;
 mod zone_text;
 
-pub use lines::split_line;
+pub use dns_presentation::split_line;
 pub use lookup::Looked;
 pub use replay::ReplayKind;
 pub use zone::Zone;

@@ -2,7 +2,7 @@
 
 ghost use Rattle.std.specs.Prelude.{◌≡◌, ◌≤◌, ◌&&◌, not, true, [], IfOk, option_to_list};
 ghost use Rattle.std.specs.List.{list_any};
-ghost use Rattle.dns_wire.specs.Name.{is_same_name, is_at_or_below};
+ghost use Rattle.dns_name.specs.Name.{is_same_name, is_at_or_below};
 ghost use Rattle.dns_zone.specs.Look.{look_of};
 ghost use Rattle.dns_zone.specs.Lookup.{negative_ttl, negative, negative_soa, target_of, targets, asked_along, next_look, ahead, answered, followed, is_own, lookup_of};
 
@@ -10,14 +10,12 @@ use crate::look::{Look, look_of};
 use crate::sets::is_in_set;
 use crate::view::NameView;
 use crate::zone::Zone;
-use dns_wire::{Data, Name, OutOfMemory, Question, Record, Records};
+use dns_io::OutOfMemory;
+use dns_name::Name;
+use dns_wire::record_type::SOA;
+use dns_wire::response_code::{NO_ERROR, NX_DOMAIN};
+use dns_wire::{Data, Question, Record, Records};
 use std::alloc::Global;
-
-const SOA: u16 = 6;
-
-const NO_ERROR: u16 = 0;
-
-const NX_DOMAIN: u16 = 3;
 
 /// How many names may be asked along aliases, behind the first.
 const MORE_NAMES: u32 = 7;
@@ -35,7 +33,7 @@ struct Chain {
 pub struct Looked {
     /// NoError (0), or NXDomain (3) where the last name that was asked is not there.
     pub code: u16,
-    /// Whether the first name that was asked is this zone's own, and not at a cut or below one (RFC 6604 2.1).
+    /// Whether the first look found no cut: the name that was asked is this zone's own (RFC 6604 2.1).
     pub aa: bool,
     /// The aliases that were followed, and then the records that were found.
     pub answers: Records,
@@ -77,7 +75,7 @@ fn is_own(look: &Look) -> bool
     }
 }
 
-/// The answer behind aliases, where so many more names may be asked.
+/// The answer behind aliases, where `more` further names may be asked.
 fn follow(
     alloc: Global,
     more: u32,
@@ -87,7 +85,8 @@ fn follow(
     look: Look,
     mut aliases: Records,
 ) -> Result<Chain, OutOfMemory>
-    ensures is { IfOk result (λ chain. chain ≡ ahead aliases (answered zone.now look (followed more zone.now rtype (asked_along first.now aliases)))) }
+    ensures is { IfOk result (λ chain. chain
+        ≡ ahead aliases (answered zone.now look (followed more zone.now rtype (asked_along first.now aliases)))) }
     ensures code { IfOk result (λ chain. chain.code ≤ 3) }
 {
     match look {
@@ -162,7 +161,8 @@ fn next_look(
 
 /// Whether a target is inside the zone and was not asked yet.
 fn is_next(zone: &Zone, first: &Name, aliases: &[Record], target: &Name) -> bool
-    ensures { result ≡ (is_at_or_below target.now zone.now.origin && not (list_any (is_same_name target.now) (asked_along first.now aliases.now))) }
+    ensures { result ≡ (is_at_or_below target.now zone.now.origin
+        && not (list_any (is_same_name target.now) (asked_along first.now aliases.now))) }
 {
     target.at_or_below(zone.origin()) && !is_asked(first, aliases, target)
 }
@@ -226,6 +226,3 @@ fn negative_ttl(rdata: &Data, ttl: u32) -> u32
         _ => ttl,
     }
 }
-
-#[cfg(test)]
-mod tests;

@@ -5,17 +5,20 @@ ghost use Rattle.dns_zone.specs.Zone.{is_in_set, set_of};
 ghost use Rattle.dns_zone.specs.Look.{is_at_or_under, owns_type, exists, given, first_of, found_set, found_all};
 
 use crate::view::NameView;
-use dns_wire::{Name, OutOfMemory, Record, Records};
+use dns_io::OutOfMemory;
+use dns_name::Name;
+use dns_wire::{Record, Records};
 use std::alloc::Global;
 
 /// How many types there are (RFC 1035 3.2.2).
 const TYPES: u32 = 65536;
 
-/// Where the records stand that answer for a name, and the owner that they are given where it is another.
+/// The owner of the records that answer for a name, and the name that they are given as their owner where they are a
+/// wildcard's (RFC 4592 3.3.2).
 #[derive(Drop)]
-pub(crate) struct Source<'a> {
+pub(crate) struct Owner<'a> {
     pub(crate) name: NameView<'a>,
-    pub(crate) owner: Option<Name>,
+    pub(crate) synthesized: Option<Name>,
 }
 
 /// Whether a record is of a name and a type.
@@ -69,17 +72,17 @@ fn copy_as(one: &Record, owner: &Option<Name>) -> Result<Record, OutOfMemory>
 pub(crate) fn found_set(
     alloc: Global,
     records: &[Record],
-    source: &Source<'_>,
+    owner: &Owner<'_>,
     rtype: u16,
 ) -> Result<Records, OutOfMemory>
-    ensures { IfOk result (λ set. set ≡ found_set records.now source.now rtype) }
+    ensures { IfOk result (λ set. set ≡ found_set records.now owner.now rtype) }
 {
     let mut set = Records::new(alloc);
     for one in records {
-        if !is_in_set(one, &source.name, rtype) {
+        if !is_in_set(one, &owner.name, rtype) {
             continue;
         }
-        set.push(copy_as(one, &source.owner)?)?;
+        set.push(copy_as(one, &owner.synthesized)?)?;
     }
     Ok(set)
 }
@@ -87,14 +90,14 @@ pub(crate) fn found_set(
 /// A copy of the first record of one type that answers.
 pub(crate) fn first_found(
     records: &[Record],
-    source: &Source<'_>,
+    owner: &Owner<'_>,
     rtype: u16,
 ) -> Result<Option<Record>, OutOfMemory>
-    ensures { IfOk result (λ first. first ≡ first_of (found_set records.now source.now rtype)) }
+    ensures { IfOk result (λ first. first ≡ first_of (found_set records.now owner.now rtype)) }
 {
     for one in records {
-        if is_in_set(one, &source.name, rtype) {
-            return Ok(Some(copy_as(one, &source.owner)?));
+        if is_in_set(one, &owner.name, rtype) {
+            return Ok(Some(copy_as(one, &owner.synthesized)?));
         }
     }
     Ok(None)
@@ -104,18 +107,18 @@ pub(crate) fn first_found(
 pub(crate) fn found_all(
     alloc: Global,
     records: &[Record],
-    source: &Source<'_>,
+    owner: &Owner<'_>,
 ) -> Result<Records, OutOfMemory>
-    ensures { IfOk result (λ all. all ≡ found_all records.now source.now) }
+    ensures { IfOk result (λ all. all ≡ found_all records.now owner.now) }
 {
     let mut all = Records::new(alloc);
     let mut first = 0;
     while first < TYPES {
-        let rtype = next_type(records, &source.name, first);
+        let rtype = next_type(records, &owner.name, first);
         if rtype >= TYPES {
             return Ok(all);
         }
-        all.append(found_set(alloc, records, source, rtype as u16)?)?;
+        all.append(found_set(alloc, records, owner, rtype as u16)?)?;
         first = rtype + 1;
     }
     Ok(all)

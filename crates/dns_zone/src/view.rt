@@ -3,17 +3,17 @@
 ghost use Rattle.std.specs.Prelude.{◌≡◌, length, drop, map};
 ghost use Rattle.std.specs.Str.{bytes_eq};
 ghost use Rattle.std.specs.Char.{to_ascii_lowercase};
-ghost use Rattle.dns_wire.specs.Name.{is_same_name, is_at_or_below};
+ghost use Rattle.dns_name.specs.Name.{is_same_name, is_at_or_below};
 ghost use Rattle.dns_zone.specs.Look.{star_under};
 
-use dns_wire::{Labels, Name};
+use dns_name::{Labels, Name};
 use std::marker::Model;
 
 /// A name without its first labels, or with the label `*` in their place.
 #[derive(Drop)]
 pub(crate) struct NameView<'a> {
     name: &'a Name,
-    passed: usize,
+    labels_dropped: usize,
     star: bool,
 }
 
@@ -23,7 +23,7 @@ impl<'a> Model for NameView<'a> {
 
     ghost Value = { List (List ℕ) };
 
-    ghost view = { λ v. part_of v.name.now v.passed v.star };
+    ghost view = { λ v. part_of v.name.now v.labels_dropped v.star };
 }
 
 impl<'a> NameView<'a> {
@@ -33,29 +33,29 @@ impl<'a> NameView<'a> {
     {
         NameView {
             name,
-            passed: 0,
+            labels_dropped: 0,
             star: false,
         }
     }
 
-    /// The name without so many of its first labels.
-    pub(crate) fn above(name: &'a Name, passed: usize) -> NameView<'a>
-        ensures { result ≡ drop passed name.now }
+    /// The name without its first `labels_dropped` labels.
+    pub(crate) fn above(name: &'a Name, labels_dropped: usize) -> NameView<'a>
+        ensures { result ≡ drop labels_dropped name.now }
     {
         NameView {
             name,
-            passed,
+            labels_dropped,
             star: false,
         }
     }
 
-    /// The label `*` under the name without so many of its first labels.
-    pub(crate) fn star(name: &'a Name, passed: usize) -> NameView<'a>
-        ensures { result ≡ star_under (drop passed name.now) }
+    /// The label `*` under the name without its first `labels_dropped` labels.
+    pub(crate) fn star(name: &'a Name, labels_dropped: usize) -> NameView<'a>
+        ensures { result ≡ star_under (drop labels_dropped name.now) }
     {
         NameView {
             name,
-            passed,
+            labels_dropped,
             star: true,
         }
     }
@@ -66,7 +66,7 @@ impl<'a> NameView<'a> {
     {
         // A name takes at most 255 bytes, so there is room for one more in the count.
         let _bytes = self.name.len();
-        let count = self.name.label_count().saturating_sub(self.passed);
+        let count = self.name.label_count().saturating_sub(self.labels_dropped);
         if self.star { count + 1 } else { count }
     }
 
@@ -74,7 +74,7 @@ impl<'a> NameView<'a> {
     pub(crate) fn is_name(&self, other: &Name) -> bool
         ensures { result ≡ is_same_name other.now self.now }
     {
-        if self.passed == 0 && !self.star {
+        if self.labels_dropped == 0 && !self.star {
             return other.same(self.name);
         }
         self.is_labels(other.labels())
@@ -84,7 +84,7 @@ impl<'a> NameView<'a> {
     pub(crate) fn is_over(&self, other: &Name) -> bool
         ensures { result ≡ is_at_or_below other.now self.now }
     {
-        if self.passed == 0 && !self.star {
+        if self.labels_dropped == 0 && !self.star {
             return other.at_or_below(self.name);
         }
         let count = self.label_count();
@@ -108,16 +108,16 @@ impl<'a> NameView<'a> {
                 }
             }
         }
-        same_labels(labels, labels_after(self.name, self.passed))
+        same_labels(labels, labels_after(self.name, self.labels_dropped))
     }
 }
 
-/// The labels of a name behind so many of its first ones.
-fn labels_after(name: &Name, passed: usize) -> Labels<'_>
-    ensures { result ≡ drop passed name.now }
+/// The labels of a name behind its first `labels_dropped` ones.
+fn labels_after(name: &Name, labels_dropped: usize) -> Labels<'_>
+    ensures { result ≡ drop labels_dropped name.now }
 {
     let mut labels = name.labels();
-    for _ in 0..passed {
+    for _ in 0..labels_dropped {
         pass(&mut labels);
     }
     labels

@@ -2,9 +2,11 @@
 
 ghost use Rattle.std.specs.Prelude.{◌≡◌, length, IfOk};
 ghost use Rattle.dns_wire.specs.WireFormat.{AreShort};
-ghost use Rattle.dns_zone.specs.Zone.{set_of, serial_of, is_in_set, IsZone};
+ghost use Rattle.dns_zone.specs.Zone.{serial_of, IsZone};
 
-use dns_wire::{Data, Name, OutOfMemory, Record, Records};
+use dns_io::OutOfMemory;
+use dns_name::Name;
+use dns_wire::{Data, Record, Records};
 use std::alloc::Global;
 use std::marker::Model;
 
@@ -74,14 +76,6 @@ impl Zone {
     {
         copied(alloc, &self.records)
     }
-
-    /// The records of this name, in whatever case, and type, in their order.
-    pub fn copy_set(&self, alloc: Global, name: &Name, rtype: u16) -> Result<Records, OutOfMemory>
-        ensures set { IfOk result (λ set. set ≡ set_of self.now.records name.now rtype) }
-        ensures short { IfOk result AreShort }
-    {
-        set_of(alloc, &self.records, name, rtype)
-    }
 }
 
 /// The serial of the first SOA, 0 where there is none.
@@ -105,30 +99,4 @@ fn copied(alloc: Global, records: &[Record]) -> Result<Records, OutOfMemory>
         copies.push(one.copy()?)?;
     }
     Ok(copies)
-}
-
-/// Copies of the records of a name and a type.
-fn set_of(
-    alloc: Global,
-    records: &[Record],
-    name: &Name,
-    rtype: u16,
-) -> Result<Records, OutOfMemory>
-    ensures { IfOk result (λ set. set ≡ set_of records.now name.now rtype) }
-{
-    let mut set = Records::new(alloc);
-    for one in records {
-        if !is_in_set(one, name, rtype) {
-            continue;
-        }
-        set.push(one.copy()?)?;
-    }
-    Ok(set)
-}
-
-/// Whether a record is of a name and a type.
-fn is_in_set(one: &Record, name: &Name, rtype: u16) -> bool
-    ensures { result ≡ is_in_set name.now rtype one.now }
-{
-    one.rtype == rtype && one.name.same(name)
 }

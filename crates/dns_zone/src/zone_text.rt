@@ -2,20 +2,21 @@
 
 ghost use Rattle.std.specs.Prelude.{◌≡◌, ◌&&◌, ◌||◌, not, Ok, OnOk, OnErr, IfOk, IfErr};
 ghost use Rattle.std.specs.List.{list_any};
-ghost use Rattle.dns_wire.specs.Name.{fold_of, is_same_name};
+ghost use Rattle.dns_name.specs.Name.{fold_of, is_same_name};
 ghost use Rattle.dns_zone.specs.declared.zone_text.LineFault.TheVariants.{Kind, OutOfMemory as NoMemory};
 ghost use Rattle.dns_zone.specs.declared.zone_text.ZoneTextFault.TheVariants as fault;
 ghost use Rattle.dns_zone.specs.Folds.{data_eq};
 ghost use Rattle.dns_zone.specs.Zone.{is_type, is_equal, IsSoFar};
-ghost use Rattle.dns_zone.specs.Entries.{entry_of};
+ghost use Rattle.dns_presentation.specs.Entries.{entry_of};
 ghost use Rattle.dns_zone.specs.ZoneText.{is_beside_alias, put_in, placed, placed_entry, finished, zone_of, TellsKind, Tells};
 
-use crate::entry::entry_of;
-use crate::lines::split_line;
-use crate::values::EntryFault;
 use crate::zone::Zone;
-use dns_wire::name_laws::folded_names;
-use dns_wire::{Data, Name, OutOfMemory, Record};
+use dns_io::OutOfMemory;
+use dns_name::Name;
+use dns_name::name_laws::folded_names;
+use dns_presentation::{EntryFault, entry_of, split_line};
+use dns_wire::record_type::{CNAME, SOA};
+use dns_wire::{Data, Record};
 use std::alloc::{AllocFailed, Global};
 use thiserror::Error;
 
@@ -168,9 +169,10 @@ fn place(origin: &Name, records: &mut Vec<Record>, one: Record) -> Result<(), Li
 
 /// Whether a record is an SOA away from the origin, or a second one.
 fn is_soa_too_many(origin: &Name, records: &[Record], one: &Record) -> bool
-    ensures { result ≡ (is_type 6 one.now && (not (is_same_name one.now.name origin.now) || list_any (is_type 6) records.now)) }
+    ensures { result ≡ (is_type 6 one.now
+        && (not (is_same_name one.now.name origin.now) || list_any (is_type 6) records.now)) }
 {
-    one.rtype == 6 && (!one.name.same(origin) || has_soa(records))
+    one.rtype == SOA && (!one.name.same(origin) || has_soa(records))
 }
 
 /// Whether there is an SOA among records.
@@ -178,7 +180,7 @@ fn has_soa(records: &[Record]) -> bool
     ensures { result ≡ list_any (is_type 6) records.now }
 {
     for other in records {
-        if other.rtype == 6 {
+        if other.rtype == SOA {
             return true;
         }
     }
@@ -200,7 +202,9 @@ fn has_alias_beside(records: &[Record], one: &Record) -> bool
 fn is_beside_alias(one: &Record, other: &Record) -> bool
     ensures { result ≡ is_beside_alias one.now other.now }
 {
-    (one.rtype == 5 || other.rtype == 5) && !is_equal(one, other) && one.name.same(&other.name)
+    (one.rtype == CNAME || other.rtype == CNAME)
+        && !is_equal(one, other)
+        && one.name.same(&other.name)
 }
 
 /// Puts a record in the place of the first that is equal to it, or else at the end.
@@ -230,6 +234,3 @@ fn same_data(one: &Data, other: &Data) -> bool
 {
     one.same_data(other)
 }
-
-#[cfg(test)]
-mod tests;

@@ -1,7 +1,7 @@
 -- A number past the limit stays past it.
 use Rattle.std.proofs.Common.{sym, ◌∙◌, arith}
 use Rattle.std.proofs.lemmas.List.{drop_more}
-use Rattle.dns_program.proofs.Digits.{below-digit}
+use Rattle.dns_program.proofs.Decimals.{below-digit}
 use Rattle.dns_program.proofs.event_text.digits_below.Goals as goal
 
 pub returns-then-next-limit-clause-value : goal.returns-then-next-limit-clause-value

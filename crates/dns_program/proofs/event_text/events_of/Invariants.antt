@@ -1,6 +1,6 @@
 -- The events so far are ahead of those of the lines that are left, which take fewer bytes with each line.
 use Rattle.std.proofs.Common.{◌≡◌, ◌+◌, ◌≤◌, length}
-use Rattle.dns_zone.specs.Lines.{lines_of}
+use Rattle.dns_presentation.specs.Lines.{lines_of}
 use Rattle.dns_program.specs.EventText.{events_of}
 use Rattle.dns_program.specs.EventReading.{given_by}
 use Rattle.dns_program.proofs.event_text.events_of.Given as goal

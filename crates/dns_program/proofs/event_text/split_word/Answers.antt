@@ -1,6 +1,6 @@
 -- A line's first word, and what is behind it.
 use Rattle.std.proofs.Common.{sym}
-use Rattle.dns_program.proofs.FirstWord.{words_in-split, words_in-whole}
+use Rattle.dns_program.proofs.EventWords.{words_in-split, words_in-whole}
 use Rattle.dns_program.proofs.event_text.split_word.Goals as goal
 
 pub returns : goal.returns

@@ -1,11 +1,18 @@
--- Memory ran out: a new server was not stopped.
-use Rattle.std.proofs.Common.{inr, refl}
-use Rattle.dns_program.proofs.Ending.{cut_short}
+-- Nothing was done, or memory ran out: a new server was not stopped.
+use Rattle.std.proofs.Common.{refl, sym}
+use Rattle.dns_program.specs.Parts.{of_invalid}
+use Rattle.dns_program.proofs.Endings.{cut_short}
 use Rattle.dns_program.proofs.run.settle_all.Goals as goal
+
+pub returns-then-not-valid_events-clause-err : goal.returns-then-not-valid_events-clause-err
+returns-then-not-valid_events-clause-err g c =
+    let test = rw c.with_access-server.ensures at c.if-not-valid_events.ensures in
+    let left = rw c.with_access-server.ensures at c.given_up.ensures.keeper in
+    rw c.given_up.ensures.status (of_invalid (λ valid. let never = test.1 valid in cc) (sym left))
 
 pub returns-in-Err-clause-err : goal.returns-in-Err-clause-err
 returns-in-Err-clause-err g c =
     let server = rw (c.into_vec.ensures, c.into_vec-2.ensures) at c.with_access-server.ensures in
     let leaves = rw server at c.in-Err.ensures.err in
     let valid = rw server at (c.valid_events.ensures.0 c.if-not-valid_events.false) in
-    inr (cut_short _ _ _ _ _ _ _ _ refl valid leaves c.given_up-in-Err.ensures.keeper c.given_up-in-Err.ensures.status)
+    rw c.given_up-in-Err.ensures.status (cut_short _ _ _ _ _ _ _ _ refl valid leaves c.given_up-in-Err.ensures.keeper)

@@ -1,5 +1,5 @@
 -- The connection of the number goes, and no other.
-use Rattle.dns_server_core.proofs.Turns.{ended_none, ended_goes}
+use Rattle.dns_server_core.proofs.ConnectionTurns.{ended_none, ended_goes}
 use Rattle.dns_server_core.proofs.connection.end.Goals as goal
 
 pub returns-in-Some : goal.returns-in-Some

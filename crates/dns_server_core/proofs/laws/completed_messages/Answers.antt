@@ -1,4 +1,4 @@
-use Rattle.dns_server_core.proofs.Recut.{cut_piece}
+use Rattle.dns_server_core.proofs.PieceCut.{cut_piece}
 use Rattle.dns_server_core.proofs.laws.completed_messages.Goals as goal
 
 pub returns : goal.returns

@@ -1,6 +1,6 @@
 use Rattle.std.proofs.Common.{◌≡◌, drop}
 use Rattle.std.specs.List.{list_any}
-use Rattle.dns_wire.specs.Name.{is_same_name}
+use Rattle.dns_name.specs.Name.{is_same_name}
 use Rattle.dns_zone.specs.Lookup.{targets}
 use Rattle.dns_zone.proofs.lookup.is_target.Given as goal
 

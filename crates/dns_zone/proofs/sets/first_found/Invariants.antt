@@ -4,4 +4,4 @@ use Rattle.dns_zone.proofs.sets.first_found.Given as goal
 
 abbrev pub invariant-loop-one : goal.invariant-loop-one
 invariant-loop-one l =
-    first_of (found_set (drop l.one-index l.records) l.source l.rtype) ≡ first_of (found_set l.records l.source l.rtype)
+    first_of (found_set (drop l.one-index l.records) l.owner l.rtype) ≡ first_of (found_set l.records l.owner l.rtype)

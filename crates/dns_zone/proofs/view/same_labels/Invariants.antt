@@ -1,5 +1,5 @@
 use Rattle.std.proofs.Common.{◌≡◌}
-use Rattle.dns_wire.specs.Name.{is_same_name}
+use Rattle.dns_name.specs.Name.{is_same_name}
 use Rattle.dns_zone.proofs.view.same_labels.Given as goal
 
 abbrev pub invariant-loop-label : goal.invariant-loop-label

@@ -1,6 +1,6 @@
 use Rattle.std.proofs.Common.{◌+◌, sym, ap, ◌∙◌, subst, arith}
 use Rattle.dns_zone.specs.Zone.{IsSoFar}
-use Rattle.dns_zone.specs.Lines.{lines_of}
+use Rattle.dns_presentation.specs.Lines.{lines_of}
 use Rattle.dns_zone.specs.ZoneText.{after_line, records_from}
 use Rattle.dns_zone.proofs.Placing.{IsSoFar-placed_entry, IsSoFar-none}
 use Rattle.dns_zone.proofs.zone_text.zone_under.Goals as goal

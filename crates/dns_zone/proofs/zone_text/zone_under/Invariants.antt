@@ -1,6 +1,6 @@
 use Rattle.std.proofs.Common.{◌≡◌, ◌+◌, ◌≤◌, length}
 use Rattle.dns_zone.specs.Zone.{IsSoFar}
-use Rattle.dns_zone.specs.Lines.{lines_of}
+use Rattle.dns_presentation.specs.Lines.{lines_of}
 use Rattle.dns_zone.specs.ZoneText.{records_from, zone_of}
 use Rattle.dns_zone.proofs.zone_text.zone_under.Given as goal
 

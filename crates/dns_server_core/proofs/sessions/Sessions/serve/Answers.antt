@@ -4,39 +4,39 @@ use Rattle.std.proofs.lemmas.List.{take_all}
 use Rattle.dns_server_core.specs.Connections.{Kept, done}
 use Rattle.dns_server_core.specs.Order.{IsKept, closed}
 use Rattle.dns_server_core.proofs.Running.{Front-none}
-use Rattle.dns_server_core.proofs.Listed.{listed-more, listed-broke}
-use Rattle.dns_server_core.proofs.Whole.{so_far, so_far-nil, rises-next, parts, kept-more, cut_off, after-is}
+use Rattle.dns_server_core.proofs.ListsHanded.{listed-more, listed-broke}
+use Rattle.dns_server_core.proofs.ListsKept.{so_far, so_far-nil, rises-next, parts, kept-more, cut_off, after-is}
 use Rattle.dns_server_core.proofs.sessions.Sessions.serve.Goals as goal
 
 pub loop-event-init : goal.loop-event-init
 loop-event-init g c =
     record {
       kept = sym (so_far-nil c.args.self.now (subst (λ (k : Kept). IsKept k) c.self.view_is c.self.invariant).rests);
-      front = Front-none _ _ _ _ _;
+      front = Front-none _ _ _;
     }
 
-pub take-requires-clause-rises : goal.take-requires-clause-rises
-take-requires-clause-rises g c =
+pub take_event-requires-clause-rises : goal.take_event-requires-clause-rises
+take_event-requires-clause-rises g c =
     rw c.loop-event.invariant.kept
     (rises-next c.args.self.now c.args.events.now _ _ c.event-item.result (parts c.args.events.now c.loop-event.event-index c.event-item.result c.loop-event-test.true c.event-item.is) c.requires.valid.numbers)
 
 pub returns-in-Err-clause-err : goal.returns-in-Err-clause-err
 returns-in-Err-clause-err g c =
-    listed-broke (g.H.RequestHandler.serves c.args.access.now) g.H.RequestHandler.skips c.args.self.now c.loop-event.self c.args.events.now c.loop-event.event-index c.event-item.result
-    c.args.handler.now c.loop-event.handler c.take.new.handler (done c.args.self.now c.args.events.now) c.args.out.now.items c.loop-event.out.items c.take.new.out.items c.args.count.now c.loop-event.count c.take.new.count
+    listed-broke g.H.RequestHandler.serves g.H.RequestHandler.skips c.args.self.now c.loop-event.self c.args.events.now c.loop-event.event-index c.event-item.result
+    c.args.responder.now c.loop-event.responder c.take_event.new.responder (done c.args.self.now c.args.events.now)
     c.loop-event-test.true c.event-item.is c.loop-event.invariant.kept c.loop-event.invariant.front c.in-Err.ensures.err
 
 pub returns-in-Err-clause-cut_off : goal.returns-in-Err-clause-cut_off
 returns-in-Err-clause-cut_off g c =
-    cut_off c.args.self.now c.loop-event.self c.take.new.self c.args.events.now c.loop-event.event-index c.event-item.result c.loop-event-test.true c.event-item.is
+    cut_off c.args.self.now c.loop-event.self c.take_event.new.self c.args.events.now c.loop-event.event-index c.event-item.result c.loop-event-test.true c.event-item.is
     c.requires.running c.requires.valid.stop c.loop-event.invariant.kept c.in-Err.ensures.closed
 
 pub loop-event-preserved : goal.loop-event-preserved
 loop-event-preserved g c =
     record {
-      kept = kept-more c.args.self.now c.loop-event.self c.take.new.self c.args.events.now c.loop-event.event-index c.event-item.result c.loop-event-test.true c.event-item.is c.loop-event.invariant.kept c.in-Ok.ensures.ok;
-      front = listed-more (g.H.RequestHandler.serves c.args.access.now) c.args.self.now c.loop-event.self c.args.events.now c.loop-event.event-index c.event-item.result
-          c.args.handler.now c.loop-event.handler c.take.new.handler (done c.args.self.now c.args.events.now) c.args.out.now.items c.loop-event.out.items c.take.new.out.items c.args.count.now c.loop-event.count c.take.new.count
+      kept = kept-more c.args.self.now c.loop-event.self c.take_event.new.self c.args.events.now c.loop-event.event-index c.event-item.result c.loop-event-test.true c.event-item.is c.loop-event.invariant.kept c.in-Ok.ensures.ok;
+      front = listed-more g.H.RequestHandler.serves c.args.self.now c.loop-event.self c.args.events.now c.loop-event.event-index c.event-item.result
+          c.args.responder.now c.loop-event.responder c.take_event.new.responder (done c.args.self.now c.args.events.now)
           c.loop-event-test.true c.event-item.is c.loop-event.invariant.kept c.loop-event.invariant.front c.in-Ok.ensures.ran;
     }
 

@@ -2,12 +2,12 @@
 use Rattle.std.proofs.Common.{◌≡◌, take, drop}
 use Rattle.dns_server_core.specs.Connections.{done, done_from}
 use Rattle.dns_server_core.specs.Handing.{HandsFront}
-use Rattle.dns_server_core.proofs.Whole.{so_far}
+use Rattle.dns_server_core.proofs.ListsKept.{so_far}
 use Rattle.dns_server_core.proofs.sessions.Sessions.serve.Given as goal
 
 abbrev pub invariant-loop-event : goal.invariant-loop-event
 invariant-loop-event g l =
     record {
       kept : l.self ≡ so_far l.fn.self (take l.event-index l.events);
-      front : HandsFront (g.H.RequestHandler.serves l.access) l.fn.handler (done l.fn.self l.events) l.handler l.fn.out.items l.out.items l.fn.count l.count (done_from l.fn.self.connections (take l.event-index l.events) (drop l.event-index l.events));
+      front : HandsFront g.H.RequestHandler.serves l.fn.responder (done l.fn.self l.events) l.responder (done_from l.fn.self.connections (take l.event-index l.events) (drop l.event-index l.events));
     }

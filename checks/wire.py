@@ -1,0 +1,52 @@
+"""Names, questions and records in text, and their bytes in a message (RFC 1035 3.1, 3.2.1, 4.1; 5.1 for the text)."""
+
+TYPES = {"A": 1, "NS": 2, "CNAME": 5, "SOA": 6, "MX": 15, "TXT": 16, "AAAA": 28, "SRV": 33, "DS": 43, "ANY": 255}
+CODES = {"NOERROR": 0, "FORMERR": 1, "SERVFAIL": 2, "NXDOMAIN": 3, "NOTIMP": 4, "REFUSED": 5}
+
+
+def name_bytes(text):
+    """A name whose labels have no escapes."""
+    labels = [label.encode() for label in text.rstrip(".").split(".") if label]
+    return b"".join(bytes([len(label)]) + label for label in labels) + b"\0"
+
+
+def number(text, size):
+    return int(text).to_bytes(size, "big")
+
+
+def data_bytes(kind, words):
+    """The data of a record of one of the types A, NS, CNAME, SOA, TXT."""
+    if kind == "A":
+        return bytes(int(part) for part in words[0].split("."))
+    if kind in ("NS", "CNAME"):
+        return name_bytes(words[0])
+    if kind == "SOA":
+        return name_bytes(words[0]) + name_bytes(words[1]) + b"".join(number(word, 4) for word in words[2:])
+    if kind == "TXT":
+        strings = [word.strip('"').encode() for word in words]
+        return b"".join(bytes([len(string)]) + string for string in strings)
+    raise ValueError(f"no data of type {kind}")
+
+
+def record_bytes(text):
+    """A record: owner, TTL, IN, type, data."""
+    owner, ttl, _, kind, *words = text.split()
+    data = data_bytes(kind, words)
+    return name_bytes(owner) + number(TYPES[kind], 2) + number(1, 2) + number(ttl, 4) + number(len(data), 2) + data
+
+
+def question_bytes(name, kind):
+    return name_bytes(name) + number(TYPES[kind], 2) + number(1, 2)
+
+
+def query(name, kind):
+    """A query with the id 1234 (hexadecimal) and RD."""
+    return bytes.fromhex("123401000001000000000000") + question_bytes(name, kind)
+
+
+def reply(name, kind, words, answers, authority):
+    """Its reply: a code, and perhaps aa; and records."""
+    flags = 0x8100 | (0x0400 if "aa" in words else 0) | CODES[words[0]]
+    counts = [1, len(answers), len(authority), 0]
+    head = bytes.fromhex("1234") + number(flags, 2) + b"".join(number(count, 2) for count in counts)
+    return head + question_bytes(name, kind) + b"".join(record_bytes(one) for one in answers + authority)

@@ -1,0 +1,106 @@
+-- What a message is owed (RFC 1034 4.3, RFC 6891 6.1).
+use Rattle.std.specs.Prelude.{◌≡◌, ℕ, ◌/◌, ◌≤◌, max, List, [], Option, Some, None, IfSome, Bool, true, false}
+use Rattle.std.specs.Option.{option_map}
+use Rattle.dns_io.specs.declared.peer.Protocol.{Protocol}
+use Rattle.dns_io.specs.declared.peer.Protocol.TheVariants.{Udp, Tcp, Tls, Https, Quic, H3}
+use Rattle.dns_wire.specs.declared.edns.Edns.{Edns}
+use Rattle.dns_wire.specs.declared.question.Question.{Question}
+use Rattle.dns_wire.specs.declared.record.Record.{Record}
+use Rattle.dns_wire.specs.declared.reply.Reply.{Reply}
+use Rattle.dns_wire.specs.Written.{Written}
+use Rattle.dns_name.specs.Name.{is_at_or_below}
+use Rattle.dns_zone.specs.declared.lookup.Looked.{Looked}
+use Rattle.dns_zone.specs.Lookup.{lookup_of}
+use Rattle.dns_zone.specs.Zone.{Contents}
+use Rattle.dns_book.specs.declared.ask.Ask.{Ask}
+use Rattle.dns_book.specs.declared.decision.Request.{Request}
+use Rattle.dns_book.specs.declared.decision.Case.{Case}
+use Rattle.dns_book.specs.declared.decision.Case.TheVariants.{ShutOut, Malformed, UnsupportedVersion, NotImplemented, NotOneQuestion, Foreign, Query}
+use Rattle.dns_book.specs.declared.decision.Decision.{Decision}
+use Rattle.dns_book.specs.Access.{Access}
+use Rattle.dns_book.specs.Cases.{Decides}
+
+-- the id of a reply: the request's, but 0 over QUIC (RFC 9250 4.2.1)
+abbrev pub id_for : Protocol → ℕ → ℕ
+id_for Udp id = id
+id_for Tcp id = id
+id_for Tls id = id
+id_for Https id = id
+id_for Quic id = 0
+id_for H3 id = id
+
+-- the OPT of a reply, where the request has one: at least 512 bytes, version 0, DO copied, the code's upper eight bits
+abbrev pub edns_for : ℕ → Option Edns → Option Edns
+edns_for code None = None
+edns_for code (Some e) = Some (record { payload = max 512 e.payload; extended = code / 16; version = 0; dnssec_ok = e.dnssec_ok })
+
+-- how many bytes a reply may take: a datagram's what its OPT says, 512 without one (RFC 1035 4.2.1, RFC 6891 6.2.3)
+abbrev pub limit_of : Protocol → Option Edns → ℕ
+limit_of Udp None = 512
+limit_of Udp (Some e) = e.payload
+limit_of Tcp edns = 65535
+limit_of Tls edns = 65535
+limit_of Https edns = 65535
+limit_of Quic edns = 65535
+limit_of H3 edns = 65535
+
+-- a reply to a request: opcode, RD and CD are the request's
+abbrev pub reply_to : Request → ℕ → Bool → Option Question → List Record → Reply
+reply_to r code aa question answers = record {
+  id = id_for r.protocol r.header.id;
+  opcode = r.header.opcode;
+  aa = aa;
+  rd = r.header.rd;
+  cd = r.header.cd;
+  code = code;
+  question = question;
+  answers = answers;
+  authority = [];
+  additional = [];
+  edns = edns_for code r.edns;
+}
+
+-- the reply of what the zone is looked up for (RFC 1034 4.3.2)
+abbrev pub looked_reply : Request → Question → Looked → Reply
+looked_reply request q looked = record (reply_to request looked.code looked.aa (Some q) looked.answers) { authority = looked.authority }
+
+-- the reply to a request, by its case: Refused (5), FormErr (1), BADVERS (16), NotImp (4), or what the look-up finds
+abbrev pub case_reply : Contents → Request → Case → Reply
+case_reply zone r (ShutOut q) = reply_to r 5 false q []
+case_reply zone r Malformed = reply_to r 1 false None []
+case_reply zone r (UnsupportedVersion q) = reply_to r 16 false q []
+case_reply zone r (NotImplemented q) = reply_to r 4 false q []
+case_reply zone r NotOneQuestion = reply_to r 1 false None []
+case_reply zone r (Foreign q) = reply_to r 5 false (Some q) []
+case_reply zone r (Query q) = looked_reply r q (lookup_of zone q.name q.qtype)
+
+abbrev pub reply_of : Contents → Decision → Reply
+reply_of zone d = case_reply zone d.request d.case
+
+-- the reply that a message is owed, or that it is owed none
+pub record Owes (zone : Contents) (access : Access) (ask : Ask) (reply : Option Reply) : Type 0 where
+  pub decision : Option Decision
+  pub decided : Decides zone access ask decision
+  pub is : reply ≡ option_map (reply_of zone) decision
+
+-- a reply in its written form, within its limit
+abbrev pub IsWritten : Protocol → Option Reply → Option (List ℕ) → Type 0
+IsWritten protocol None None = Unit {0}
+IsWritten protocol None (Some bytes) = ⊥
+IsWritten protocol (Some reply) None = ⊥
+IsWritten protocol (Some reply) (Some bytes) = Written reply (limit_of protocol reply.edns) bytes
+
+-- the bytes that a message is owed
+pub record OwesBytes (zone : Contents) (access : Access) (ask : Ask) (bytes : Option (List ℕ)) : Type 0 where
+  pub decision : Option Decision
+  pub decided : Decides zone access ask decision
+  pub written : IsWritten ask.protocol (option_map (reply_of zone) decision) bytes
+
+-- a reply whose OPT lets at least 512 bytes in
+abbrev pub HasRoom : Reply → Type 0
+HasRoom reply = IfSome reply.edns (λ e. 512 ≤ e.payload)
+
+-- a query that the zone is looked up for is for a name of the zone
+abbrev pub IsInside : Contents → Case → Type 0
+IsInside zone (Query q) = is_at_or_below q.name zone.origin ≡ true
+IsInside zone _ = Unit {0}

@@ -1,0 +1,10 @@
+pub mod Wire
+pub mod Walk
+pub mod Below
+pub mod SameNames
+pub mod NameRead
+pub mod Stands
+pub mod Lengths
+pub mod SameWire
+pub mod FirstLabel
+pub mod OpenNames

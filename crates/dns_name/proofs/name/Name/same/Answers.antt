@@ -1,0 +1,23 @@
+use Rattle.std.proofs.Common.{◌≡◌, List, ℕ, map, ap, ◌∙◌, sym}
+use Rattle.std.specs.Prelude.{◌↔◌}
+use Rattle.std.specs.Char.{to_ascii_lowercase}
+use Rattle.dns_name.specs.Name.{fold_of, labels_bytes}
+use Rattle.dns_name.specs.NameBuffer.{labels_of, IsWire}
+use Rattle.dns_name.proofs.SameNames.{is_same_name-is}
+use Rattle.dns_name.proofs.Wire.{folded_bytes, labels_bytes_same}
+use Rattle.dns_name.proofs.name.Name.same.Goals as goal
+
+-- two names are equal but for case where their bytes are
+same_bytes : (a b x y : List ℕ) → IsWire a → IsWire b → x ≡ a → y ≡ b → (P : Type 0) → (P ↔ (map to_ascii_lowercase x ≡ map to_ascii_lowercase y)) → P ↔ (fold_of (labels_of a) ≡ fold_of (labels_of b))
+same_bytes a b x y wa wb ea eb P h = (
+  λ p. labels_bytes_same _ _ (sym (folded_bytes a wa) ∙ sym (ap (map to_ascii_lowercase) ea) ∙ h.0 p ∙ ap (map to_ascii_lowercase) eb ∙ folded_bytes b wb),
+  λ e. h.1 (ap (map to_ascii_lowercase) ea ∙ folded_bytes a wa ∙ ap labels_bytes e ∙ sym (folded_bytes b wb) ∙ sym (ap (map to_ascii_lowercase) eb)),
+)
+
+pub returns-clause-meaning : goal.returns-clause-meaning
+returns-clause-meaning c =
+    rw (← c.self.view_is, ← c.other.view_is)
+    (same_bytes _ _ _ _ c.self.invariant c.other.invariant c.deref.ensures.value c.deref-2.ensures.value _ c.are_alike.ensures)
+
+pub returns-clause-test : goal.returns-clause-test
+returns-clause-test c = is_same_name-is _ _ _ (returns-clause-meaning c)

@@ -1,0 +1,8 @@
+use Rattle.std.proofs.Common.{◌∙◌, sym}
+use Rattle.dns_presentation.proofs.Wording.{quoted_past}
+use Rattle.dns_presentation.proofs.words.split_quoted.Goals as goal
+
+pub loop-place-preserved-then-escaped : goal.loop-place-preserved-then-escaped
+loop-place-preserved-then-escaped c =
+    sym (quoted_past c.args.line.now c.loop-place.place c.loop-place-test.true)
+    ∙ (rw c.if-escaped.true at c.loop-place.invariant)

@@ -1,5 +1,0 @@
-use Rattle.dns_server_core.proofs.Opened.{HasRows-begun}
-use Rattle.dns_server_core.proofs.book.begin.Goals as goal
-
-pub invariant_of-result : goal.invariant_of-result
-invariant_of-result g c = HasRows-begun _ _ _ _ _ _ _ c.requires.empty c.in-Ok-append.ensures.ok c.len.ensures

@@ -1,0 +1,194 @@
+//! Settling the messages of connections and datagrams by a handler.
+
+ghost use Rattle.std.specs.Prelude.{◌≡◌, ◌<◌, ◌≤◌, ◌^◌, ◌∷◌, [], ◌++◌, length, IfOk, OnOk, OnErr, Some, None, if◌then◌else◌, vec_len};
+ghost use Rattle.std.specs.Vec.{vec_capacity};
+ghost use Rattle.dns_net.specs.Frames.{frames};
+ghost use Rattle.dns_server_core.specs.Connections.{datagram_by};
+ghost use Rattle.dns_server_core.specs.Runs.{outs_of, sent_to};
+ghost use Rattle.dns_server_core.specs.Steps.{moved, fed_by, piece_at, unread_messages, heard_messages};
+ghost use Rattle.dns_server_core.specs.Handing.{Hands, Breaks};
+ghost use Rattle.dns_server_core.specs.declared.event.Event.TheVariants as event;
+
+use crate::connection::{Connection, is_within};
+use crate::event::{Out, Receiver};
+use crate::handler::RequestHandler;
+use dns_book::{AccessControl, Ask, ReplyBytes};
+use dns_io::{Octets, OutOfMemory, Peer, Protocol};
+use std::alloc::Global;
+use std::marker::Model;
+use std::mem;
+
+/// A handler, which sources are let in, the replies so far, and how many messages were settled.
+#[derive(Drop)]
+pub(crate) struct Responder<H> {
+    handler: H,
+    access: AccessControl,
+    out: Vec<Out>,
+    settled: u64,
+}
+
+impl<H> Model for Responder<H> {
+    ghost use Rattle.dns_server_core.specs.Handing.{ResponderOf};
+
+    ghost Value = { ResponderOf H };
+
+    ghost view = { λ r. record { handler = r.handler; access = r.access; outs = r.out.items; settled = r.settled } };
+}
+
+impl<H> Responder<H> {
+    /// Nothing was settled yet. Takes no memory.
+    pub(crate) fn new(alloc: Global, handler: H, access: AccessControl) -> Responder<H>
+        ensures { result ≡ record { handler = handler; access = access; outs = []; settled = 0 } }
+    {
+        Responder {
+            handler,
+            access,
+            out: Vec::new(alloc),
+            settled: 0,
+        }
+    }
+
+    /// Takes the replies that there are, until `finish` gives them back, and counts from 0. Takes no memory.
+    pub(crate) fn begin(&mut self, out: &mut Vec<Out>)
+        ensures { self.new ≡ record { handler = self.old.handler; access = self.old.access; outs = out.old.items; settled = 0 } }
+    {
+        self.settled = 0;
+        mem::swap(&mut self.out, out);
+    }
+
+    /// Gives the replies back, behind them those that were added, and says how many messages were settled.
+    pub(crate) fn finish(&mut self, out: &mut Vec<Out>) -> u64
+        ensures settled { result ≡ self.old.settled }
+        ensures outs { out.new.items ≡ self.old.outs }
+        ensures handler { self.new.handler ≡ self.old.handler }
+        ensures access { self.new.access ≡ self.old.access }
+    {
+        mem::swap(&mut self.out, out);
+        self.settled
+    }
+
+    /// The handler.
+    pub(crate) fn handler(&self) -> &H
+        ensures { result.now ≡ self.now.handler }
+    {
+        &self.handler
+    }
+
+    /// Gives the handler back.
+    pub(crate) fn into_handler(self) -> H
+        ensures { result ≡ self.handler }
+    {
+        let Responder {
+            handler,
+            access: _,
+            out: _,
+            settled: _,
+        } = self;
+        handler
+    }
+}
+
+impl<H: RequestHandler> Responder<H> {
+    /// Settles one message, once there is room for its reply, and counts it.
+    fn settle_message(&mut self, to: Receiver, ask: Ask) -> Result<(), OutOfMemory>
+        requires moment { ask.at < 2 ^ 47 }
+        requires bytes { length ask.bytes ≤ 65535 }
+        ensures ok { OnOk result (Hands H.serves self.old (record { to = to; ask = ask } ∷ []) self.new) }
+        ensures err { OnErr result (Breaks H.serves H.skips self.old (record { to = to; ask = ask } ∷ []) self.new) }
+    {
+        if self.settled == u64::MAX {
+            return Err(OutOfMemory);
+        }
+        self.out.reserve(1)?;
+        let settled = self.handler.handle_request(&self.access, &ask)?;
+        self.settled += 1;
+        send(to, settled.reply, &mut self.out);
+        Ok(())
+    }
+
+    /// Settles the message that a datagram is.
+    pub(crate) fn settle_datagram(
+        &mut self,
+        at: u64,
+        peer: Peer,
+        bytes: &Octets,
+    ) -> Result<(), OutOfMemory>
+        requires moment { at < 2 ^ 47 }
+        requires bytes { length bytes.now ≤ 65535 }
+        ensures ran { OnOk result (Hands H.serves self.old (datagram_by (event.Datagram at peer bytes.now)) self.new) }
+        ensures err { OnErr result (Breaks H.serves H.skips self.old (datagram_by (event.Datagram at peer bytes.now)) self.new) }
+    {
+        let ask = Ask {
+            bytes: bytes.copy()?,
+            source: peer,
+            protocol: Protocol::Udp,
+            at,
+            client: 0,
+        };
+        self.settle_message(Receiver::Peer(peer), ask)
+    }
+
+    /// Settles the whole messages that a connection has.
+    fn settle_frames(&mut self, connection: &mut Connection, at: u64) -> Result<(), OutOfMemory>
+        requires { at < 2 ^ 47 }
+        ensures left { OnOk result (connection.new ≡ fed_by connection.old at (frames connection.old.rest)) }
+        ensures ok { OnOk result (Hands H.serves self.old (unread_messages at connection.old) self.new) }
+        ensures err { OnErr result (Breaks H.serves H.skips self.old (unread_messages at connection.old) self.new) }
+    {
+        while let Some(bytes) = connection.rest.next()? {
+            let to = Receiver::Conn(connection.number);
+            let ask = Ask {
+                bytes,
+                source: connection.peer,
+                protocol: Protocol::Tcp,
+                at,
+                client: 0,
+            };
+            self.settle_message(to, ask)?;
+            connection.base = at;
+        }
+        Ok(())
+    }
+
+    /// Receives a piece of a connection's bytes: settles the messages that are whole now, and says whether the connection
+    /// stays open.
+    pub(crate) fn receive_piece(
+        &mut self,
+        connection: &mut Connection,
+        at: u64,
+        piece: &[u8],
+    ) -> Result<bool, OutOfMemory>
+        requires { at < 2 ^ 47 }
+        ensures ok { IfOk result (λ stays. moved connection.old (piece_at at piece.now) ≡ (if stays then Some connection.new else None)) }
+        ensures ran { OnOk result (Hands H.serves self.old (heard_messages at connection.old (piece_at at piece.now)) self.new) }
+        ensures err { OnErr result (Breaks H.serves H.skips self.old (heard_messages at connection.old (piece_at at piece.now)) self.new) }
+    {
+        if !is_within(connection.limit, connection.base, at) {
+            return Ok(false);
+        }
+        connection.rest.feed(piece)?;
+        self.settle_frames(connection, at)?;
+        Ok(true)
+    }
+}
+
+/// Adds a reply to what is sent.
+fn send(to: Receiver, reply: Option<ReplyBytes>, out: &mut Vec<Out>)
+    requires { vec_len out.old < vec_capacity out.old }
+    ensures { out.new.items ≡ out.old.items ++ outs_of to reply }
+{
+    if let Some(bytes) = reply {
+        let bytes = sent_to(to, bytes);
+        out.push(Out { to, bytes }).unwrap();
+    }
+}
+
+/// A reply as it is sent. Takes no memory.
+fn sent_to(to: Receiver, reply: ReplyBytes) -> Octets
+    ensures { result ≡ sent_to to reply }
+{
+    match to {
+        Receiver::Conn(_) => reply.framed(),
+        Receiver::Peer(_) => reply.plain(),
+    }
+}

@@ -1,7 +1,0 @@
-use Rattle.std.proofs.Common.{◌≡◌, ◌<◌, ◌^◌, drop}
-use Rattle.dns_zone.specs.Entries.{number_from}
-use Rattle.dns_zone.proofs.values.number_from.Given as goal
-
-abbrev pub invariant-loop-byte : goal.invariant-loop-byte
-invariant-loop-byte l =
-    (l.number < 2 ^ 32) × (number_from l.number (drop l.byte-index l.text) ≡ number_from 0 l.text)

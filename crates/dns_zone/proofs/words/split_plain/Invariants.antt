@@ -1,8 +1,0 @@
-use Rattle.std.proofs.Common.{◌≡◌, [], take, drop, if◌then◌else◌}
-use Rattle.dns_zone.specs.Words.{Plain, PlainEscape, words_from}
-use Rattle.dns_zone.proofs.words.split_plain.Given as goal
-
-abbrev pub invariant-loop-place : goal.invariant-loop-place
-invariant-loop-place l =
-    words_from (if l.escaped then PlainEscape (take l.place l.line) else Plain (take l.place l.line)) (drop l.place l.line)
-    ≡ words_from (Plain []) l.line

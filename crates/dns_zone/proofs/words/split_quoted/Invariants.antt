@@ -1,8 +1,0 @@
-use Rattle.std.proofs.Common.{◌≡◌, [], take, drop, if◌then◌else◌}
-use Rattle.dns_zone.specs.Words.{Quoted, QuotedEscape, words_from}
-use Rattle.dns_zone.proofs.words.split_quoted.Given as goal
-
-abbrev pub invariant-loop-place : goal.invariant-loop-place
-invariant-loop-place l =
-    words_from (if l.escaped then QuotedEscape (take l.place l.line) else Quoted (take l.place l.line)) (drop l.place l.line)
-    ≡ words_from (Quoted []) l.line
