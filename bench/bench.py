@@ -1,7 +1,7 @@
 #!/usr/bin/env python3
-"""Times the built program: one query to a zone of many names, many queries to the example zone, many connections with
-one query each in two pieces, and the messages of the tests over and over, whose instructions are counted too where
-valgrind is there.
+"""Times the built program: zones of few and of many names, many queries to the example zone, many connections with one
+query each in two pieces, and the messages of the tests over and over. Where valgrind is there the instructions are counted
+of a query for a name that is there, and of a message of the tests; that takes some minutes.
 
 Uses the standard library alone, and no network. Each run of the program is bounded in time.
 """
@@ -17,14 +17,15 @@ import time
 
 TOP = os.path.dirname(os.path.dirname(os.path.abspath(__file__)))
 PROGRAM = os.path.join(TOP, "crates", "dns_program", "out", "dns_program")
-NAMES = 10_000
+ZONES = (7, 50_000, 500_000)  # names
+COUNTED = (500, 2_500)  # queries whose instructions are counted, as a difference
 QUERIES = 20_000
 CONNECTIONS = 10_000
 MESSAGES = 100_000
 AT_ONCE = 20_000  # messages in one event text, which has a greatest length
 BOUND = 300  # seconds
 TABLE = os.path.join(TOP, "crates", "dns_tests", "src", "wire.rt")
-SOA = "example.com. 3600 IN SOA ns.example.com. hostmaster.example.com. 7 3600 600 86400 300"
+SOA = "z. 1 IN SOA ns.z. admin.z. 7 1 1 1 1"
 
 
 def query(labels, number):
@@ -44,9 +45,9 @@ def on_connection(number, labels):
     return f"A 0 {number} 7f000001 5300 0\nB 0 {number} {framed[:34]}\nB 0 {number} {framed[34:]}\n"
 
 
-def seconds_of(zone, events, due):
+def seconds_of(zone, events, due, origin="example.com."):
     """Runs the program, and gives how long it took. So many replies are due."""
-    command = [PROGRAM, "events", "example.com.", f"--zone={zone}"]
+    command = [PROGRAM, "events", origin, f"--zone={zone}"]
     start = time.perf_counter()
     run = subprocess.run(command, input=events.encode(), stdout=subprocess.PIPE, timeout=BOUND)
     seconds = time.perf_counter() - start
@@ -76,14 +77,40 @@ def lines_of(table, count):
     return "".join(f"D 0 7f000001 5300 {one}\n" for one in itertools.islice(itertools.cycle(table), count))
 
 
-def instructions(zone, events, folder):
+def instructions(zone, events, folder, origin="example.com."):
     """How many instructions the program takes."""
     counts = os.path.join(folder, "callgrind.out")
-    command = ["valgrind", "--tool=callgrind", f"--callgrind-out-file={counts}", PROGRAM, "events", "example.com."]
+    command = ["valgrind", "--tool=callgrind", f"--callgrind-out-file={counts}", PROGRAM, "events", origin]
     command.append(f"--zone={zone}")
     subprocess.run(command, input=events.encode(), capture_output=True, timeout=BOUND, check=True)
     with open(counts, encoding="ascii") as text:
         return int(re.search(r"^(?:summary|totals): (\d+)", text.read(), re.M).group(1))
+
+
+def write_zone(path, names):
+    """A zone of so many names, each with an address."""
+    with open(path, "w", encoding="ascii") as text:
+        text.write(SOA + "\n")
+        for number in range(names - 1):
+            text.write(f"h{number:x}.z. 1 IN A 10.{number >> 16}.{number >> 8 & 255}.{number & 255}\n")
+
+
+def asked_in(names, count):
+    """Queries for names that are there, all over the zone."""
+    return "".join(line(0, [f"h{number * 7919 % (names - 1):x}", "z"]) for number in range(count))
+
+
+def time_zones(folder):
+    for names in ZONES:
+        zone = os.path.join(folder, "zone")
+        write_zone(zone, names)
+        report(f"a zone of {names:,} names, one query", seconds_of(zone, asked_in(names, 1), 1, "z."), names, "zone lines")
+        if shutil.which("valgrind"):
+            few, many = (instructions(zone, asked_in(names, count), folder, "z.") for count in COUNTED)
+            used = (many - few) // (COUNTED[1] - COUNTED[0])
+            print(f"a zone of {names:,} names: {used:,} instructions a query for a name that is there, with its lines of text")
+        else:
+            print("valgrind is not there: no instructions are counted")
 
 
 def time_messages(zone, folder):
@@ -100,13 +127,7 @@ def main():
     # The first call builds the program where that is needed, outside the times.
     subprocess.run([os.path.join(TOP, "dns"), "--version"], stdout=subprocess.DEVNULL, check=True)
     with tempfile.TemporaryDirectory() as folder:
-        large = os.path.join(folder, "large.zone")
-        with open(large, "w", encoding="ascii") as text:
-            text.write(SOA + "\n")
-            for number in range(NAMES - 1):
-                text.write(f"h{number}.example.com. 3600 IN A 10.0.{number // 256 % 256}.{number % 256}\n")
-        last = line(0, [f"h{NAMES - 2}", "example", "com"])
-        report(f"a zone of {NAMES:,} names, one query", seconds_of(large, last, 1), NAMES, "zone lines")
+        time_zones(folder)
         small = os.path.join(TOP, "examples", "example.com.zone")
         many = "".join(line(moment, ["www", "example", "com"]) for moment in range(QUERIES))
         report(f"the example zone, {QUERIES:,} queries", seconds_of(small, many, QUERIES), QUERIES, "event lines")

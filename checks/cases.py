@@ -8,8 +8,9 @@ colon, and behind one space its value:
                  them
   text: TEXT     zone text as it is, with escapes as for raw
   case: TEXT     begins a case, with what it shows
-  words: WORDS   the words of the command line, parted by blanks, with @zone for the path of the zone text; before the first
-                 case, of every case of the file. Where there are none: events example.com. --zone=@zone
+  words: WORDS   the words of the command line, parted by blanks, with @zone for the path of the zone text and @top for that
+                 of the repository; before the first case, of every case of the file. Where there are none: events
+                 example.com. --zone=@zone
   add: WORDS     words behind these
   in: LINE       a line of the event text
   raw: TEXT      event text as it is, with \\n, \\r, \\t, \\\\ and \\xHH for bytes
@@ -141,7 +142,7 @@ def tried(case):
     with tempfile.TemporaryDirectory() as folder:
         zone = Path(folder) / "zone"
         zone.write_bytes(case.zone)
-        words = [word.replace("@zone", str(zone)) for word in case.words.split()] + case.more
+        words = [word.replace("@zone", str(zone)).replace("@top", str(TOP)) for word in case.words.split()] + case.more
         status, output = ran(words, input=case.events)
     lines = output.decode(errors="replace").split("\n")
     is_due = len(lines) == len(case.output) + 1 and lines[-1] == "" and all(map(is_line, lines, case.output))
@@ -208,7 +209,7 @@ def string_cases():
     for size, is_read in ((254, True), (255, False), (256, False)):
         case = Case(f"255 strings of 255 bytes, and one of {size}", b"z. 1 IN SOA a.z. b.z. 7 1 1 1 1\n", "events z. --zone=@zone")
         case.take("zone", f"z. 1 IN TXT {strings} {'s' * size}")
-        case.take(*(("end", "7 3 0") if is_read else ("out", "zone text line 2: Type")))
+        case.take(*(("end", "7 3 0") if is_read else ("out", "zone text line 2: Data")))
         case.take("status", "0" if is_read else "2")
         yield case
 

@@ -1,25 +1,40 @@
 """Names, questions and records in text, and their bytes in a message (RFC 1035 3.1, 3.2.1, 4.1; 5.1 for the text)."""
 
-TYPES = {"A": 1, "NS": 2, "CNAME": 5, "SOA": 6, "MX": 15, "TXT": 16, "AAAA": 28, "SRV": 33, "DS": 43, "ANY": 255}
+import re
+
+TYPES = {"A": 1, "NS": 2, "CNAME": 5, "SOA": 6, "PTR": 12, "MX": 15, "TXT": 16, "AAAA": 28, "SRV": 33, "DS": 43, "ANY": 255}
 CODES = {"NOERROR": 0, "FORMERR": 1, "SERVFAIL": 2, "NXDOMAIN": 3, "NOTIMP": 4, "REFUSED": 5}
 
 
 def name_bytes(text):
-    """A name whose labels have no escapes."""
-    labels = [label.encode() for label in text.rstrip(".").split(".") if label]
+    """A name; \\DDD in a label is the byte of that number, and there are no other escapes."""
+    labels = [re.sub(r"\\(\d{3})", byte_of, label).encode("latin-1") for label in text.rstrip(".").split(".") if label]
     return b"".join(bytes([len(label)]) + label for label in labels) + b"\0"
+
+
+def byte_of(escape):
+    return chr(int(escape[1]))
 
 
 def number(text, size):
     return int(text).to_bytes(size, "big")
 
 
+def type_number(kind):
+    """A type, by its name or as TYPEn (RFC 3597 5)."""
+    return TYPES[kind] if kind in TYPES else int(kind.removeprefix("TYPE"))
+
+
 def data_bytes(kind, words):
-    """The data of a record of one of the types A, NS, CNAME, SOA, TXT."""
+    """The data of a record: of the types A, NS, CNAME, PTR, MX, SRV, SOA, TXT, or of any type as \\# N HEX."""
+    if words[0] == "\\#":
+        return bytes.fromhex("".join(words[2:]))
     if kind == "A":
         return bytes(int(part) for part in words[0].split("."))
-    if kind in ("NS", "CNAME"):
+    if kind in ("NS", "CNAME", "PTR"):
         return name_bytes(words[0])
+    if kind in ("MX", "SRV"):
+        return b"".join(number(word, 2) for word in words[:-1]) + name_bytes(words[-1])
     if kind == "SOA":
         return name_bytes(words[0]) + name_bytes(words[1]) + b"".join(number(word, 4) for word in words[2:])
     if kind == "TXT":
@@ -32,11 +47,11 @@ def record_bytes(text):
     """A record: owner, TTL, IN, type, data."""
     owner, ttl, _, kind, *words = text.split()
     data = data_bytes(kind, words)
-    return name_bytes(owner) + number(TYPES[kind], 2) + number(1, 2) + number(ttl, 4) + number(len(data), 2) + data
+    return name_bytes(owner) + number(type_number(kind), 2) + number(1, 2) + number(ttl, 4) + number(len(data), 2) + data
 
 
 def question_bytes(name, kind):
-    return name_bytes(name) + number(TYPES[kind], 2) + number(1, 2)
+    return name_bytes(name) + number(type_number(kind), 2) + number(1, 2)
 
 
 def query(name, kind):

@@ -12,7 +12,7 @@ use Rattle.dns_counts.specs.Counters.{recorded}
 use Rattle.dns_wire.specs.Header.{header_of}
 use Rattle.dns_wire.specs.Messages.{MessageAt, OneQuestionAt}
 use Rattle.dns_wire.specs.Standing.{ReadsOne, word_at}
-use Rattle.dns_zone.specs.Zone.{Contents}
+use Rattle.dns_zone_map.specs.Zone.{Contents}
 use Rattle.dns_book.specs.declared.ask.Ask.{Ask}
 use Rattle.dns_book.specs.declared.decision.Decision.{Decision}
 use Rattle.dns_book.specs.declared.decision.Case.{Case}

@@ -2,9 +2,9 @@
 use Rattle.std.proofs.Common.{◌≡◌, ℕ, suc, ℤ, pos, ◌+ℤ◌, List, [], ◌∷◌, length, Option, Some, None, refl, sym, ap, ◌∙◌}
 use Rattle.std.proofs.lemmas.Option.{same_Some}
 use Rattle.dns_wire.specs.declared.record.Record.{Record}
-use Rattle.dns_journal.specs.declared.row.Row.{Row}
-use Rattle.dns_journal.specs.Rows.{rows_of, appended, stamp_of}
-use Rattle.dns_journal.specs.Keeping.{GrowsByBatch}
+use Rattle.dns_keeper.specs.declared.row.Row.{Row}
+use Rattle.dns_keeper.specs.Rows.{rows_of, appended, stamp_of}
+use Rattle.dns_keeper.specs.Keeping.{GrowsByBatch}
 use Rattle.dns_book.specs.Book.{HasRows}
 use Rattle.dns_book.specs.Opening.{HadNoRow}
 

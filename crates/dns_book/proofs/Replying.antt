@@ -11,7 +11,7 @@ use Rattle.dns_wire.specs.declared.reply.Reply.{Reply}
 use Rattle.dns_wire.specs.Header.{header_of}
 use Rattle.dns_wire.specs.Messages.{MessageAt}
 use Rattle.dns_wire.specs.Written.{Written}
-use Rattle.dns_zone.specs.Zone.{Contents}
+use Rattle.dns_zone_map.specs.Zone.{Contents}
 use Rattle.dns_book.specs.declared.ask.Ask.{Ask}
 use Rattle.dns_book.specs.declared.decision.Request.{Request}
 use Rattle.dns_book.specs.declared.decision.Case.{Case}

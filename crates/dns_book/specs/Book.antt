@@ -2,8 +2,8 @@
 use Rattle.std.specs.Prelude.{◌≡◌, ℕ, List, ◌∷◌, length, Option, Some, None, Bool}
 use Rattle.dns_wire.specs.declared.record.Record.{Record}
 use Rattle.dns_wire.specs.declared.rdata.Data.TheVariants.{Empty}
-use Rattle.dns_journal.specs.declared.row.Row.{Row}
-use Rattle.dns_zone.specs.Zone.{Contents}
+use Rattle.dns_keeper.specs.declared.row.Row.{Row}
+use Rattle.dns_zone_map.specs.Zone.{Contents}
 use Rattle.dns_book.specs.declared.ask.Ask.{Ask}
 use Rattle.dns_book.specs.declared.ask.Settled.{Settled}
 use Rattle.dns_book.specs.Access.{Access}

@@ -3,7 +3,7 @@ use Rattle.std.specs.Prelude.{ℕ, List, length, map, take, Option, Some, None}
 use Rattle.dns_wire.specs.declared.record.Record.{Record}
 use Rattle.dns_wire.specs.declared.reply.Reply.{Reply}
 use Rattle.dns_wire.specs.Standing.{word_at}
-use Rattle.dns_zone.specs.Zone.{Contents}
+use Rattle.dns_zone_map.specs.Zone.{Contents}
 use Rattle.dns_counts.specs.declared.asked.Asked.{Asked}
 use Rattle.dns_counts.specs.declared.asked.Replied.{Replied}
 use Rattle.dns_counts.specs.Counters.{no_counts, recorded, changed}

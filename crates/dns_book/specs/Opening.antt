@@ -1,12 +1,12 @@
 -- What opening a journal gives, and when it is refused.
 use Rattle.std.specs.Prelude.{◌≡◌, ℕ, ℤ, pos, neg_ℤ, ◌^◌, List, [], length, Option, Some, None, Bool, Result, Ok, Err}
 use Rattle.std.specs.Option.{option_map}
-use Rattle.dns_journal.specs.declared.row.Row.{Row}
-use Rattle.dns_journal.specs.Rows.{first_from}
-use Rattle.dns_journal.specs.Keeping.{GrowsByBatch}
+use Rattle.dns_keeper.specs.declared.row.Row.{Row}
+use Rattle.dns_keeper.specs.Rows.{first_from}
+use Rattle.dns_keeper.specs.Keeping.{GrowsByBatch}
 use Rattle.dns_io.specs.Edge.{Rose}
-use Rattle.dns_zone.specs.Zone.{Contents, serial_of}
-use Rattle.dns_zone.specs.declared.replay.ReplayKind.TheVariants.{NotBuilt}
+use Rattle.dns_zone_map.specs.Zone.{Contents, serial_of}
+use Rattle.dns_zone.specs.declared.not_built.ReplayKind.TheVariants.{NotBuilt}
 use Rattle.dns_book.specs.declared.book.OpenKind.{OpenKind}
 use Rattle.dns_book.specs.declared.book.OpenFault.{OpenFault}
 use Rattle.dns_book.specs.declared.book.OpenKind.TheVariants.{Recovery, KeeperFault, NoZone, OutOfMemory}

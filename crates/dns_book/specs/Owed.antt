@@ -11,7 +11,7 @@ use Rattle.dns_wire.specs.Written.{Written}
 use Rattle.dns_name.specs.Name.{is_at_or_below}
 use Rattle.dns_zone.specs.declared.lookup.Looked.{Looked}
 use Rattle.dns_zone.specs.Lookup.{lookup_of}
-use Rattle.dns_zone.specs.Zone.{Contents}
+use Rattle.dns_zone_map.specs.Zone.{Contents}
 use Rattle.dns_book.specs.declared.ask.Ask.{Ask}
 use Rattle.dns_book.specs.declared.decision.Request.{Request}
 use Rattle.dns_book.specs.declared.decision.Case.{Case}

@@ -1,7 +1,7 @@
 //! A zone beside the journal that it stands for.
 
 ghost use Rattle.std.specs.Prelude.{◌≡◌, ◌≤◌, ◌<◌, ◌^◌, length, ℕ, IfOk, OnErr, IfErr, IfSome, IsErrOf, None, Some, Option};
-ghost use Rattle.dns_zone.specs.Zone.{serial_of};
+ghost use Rattle.dns_zone_map.specs.Zone.{serial_of};
 ghost use Rattle.dns_io.specs.Edge.{Keeps};
 ghost use Rattle.dns_wire.specs.WireFormat.{AreShort};
 ghost use Rattle.dns_book.specs.Book.{HasRows, opening_of, Settles};
@@ -15,7 +15,7 @@ use crate::owed::{limit_of, reply_of};
 use crate::reply_bytes::ReplyBytes;
 use dns_counts::Counts;
 use dns_io::OutOfMemory;
-use dns_journal::{KeepFault, Keeper};
+use dns_keeper::{KeepFault, Keeper};
 use dns_name::Name;
 use dns_wire::{Data, Record, Records};
 use dns_zone::{ReplayKind, Zone};

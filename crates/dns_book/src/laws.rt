@@ -6,7 +6,7 @@ ghost use Rattle.dns_wire.specs.declared.message.Message.{Message as Read};
 ghost use Rattle.dns_wire.specs.declared.reply.Reply.{Reply as Replied};
 ghost use Rattle.dns_wire.specs.Header.{header_of};
 ghost use Rattle.dns_wire.specs.Messages.{MessageAt};
-ghost use Rattle.dns_zone.specs.Zone.{Contents};
+ghost use Rattle.dns_zone_map.specs.Zone.{Contents};
 ghost use Rattle.dns_book.specs.declared.ask.Ask.{Ask as Asked};
 ghost use Rattle.dns_book.specs.declared.decision.Decision.{Decision as Decided};
 ghost use Rattle.dns_book.specs.Cases.{Decides};

@@ -1,1 +1,6 @@
-pub mod Ascending
+pub mod Opening
+pub mod Order
+pub mod Telling
+pub mod Reading
+pub mod RecordsRead
+pub mod Iterating

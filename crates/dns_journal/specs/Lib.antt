@@ -1,3 +1,6 @@
-pub mod Rows
-pub mod Keeping
-pub mod Memory
+pub mod Told
+pub mod Crash
+pub mod Reads
+pub mod Records
+pub mod Opening
+pub mod Stored

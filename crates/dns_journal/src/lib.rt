@@ -1,10 +1,19 @@
-//! The journal of a zone: rows by ascending id, each the record of one change, and what keeps them.
+//! The journal of a zone in SQLite: a keeper of rows over one connection, the version of its schema, its records, and
+//! what a crash may leave of it.
 #![tactic(auto)]
 
-mod keeper;
-mod memory;
+mod error;
+mod file;
+mod inserts;
+mod iter;
+mod journal;
+pub mod laws;
+mod records;
 mod row;
+mod stamp;
 
-pub use keeper::{KeepFault, Keeper};
-pub use memory::MemoryKeeper;
-pub use row::Row;
+pub use dns_keeper::{KeepFault, Keeper, MemoryKeeper, Row};
+pub use error::{PersistenceError, RecoveryKind};
+pub use file::HostStore;
+pub use iter::JournalIter;
+pub use journal::{CURRENT_VERSION, Journal, select_schema_version};

@@ -1,18 +1,67 @@
-//! One row of a journal.
+//! The rows that a query shows, read.
+
+ghost use Rattle.std.specs.Prelude.{◌≡◌, IfOk};
+ghost use Rattle.sqlite.specs.declared.types.Value.TheVariants.{Int, Text, Blob};
+ghost use Rattle.sqlite.specs.Order.{column};
+ghost use Rattle.dns_journal.specs.Reads.{ReadsAs, FirstReadsAs};
 
 use dns_io::Octets;
+use dns_keeper::{KeepFault, Row};
+use sqlite::types::Value;
+use std::alloc::Global;
 
-/// One row of a journal.
-#[derive(Debug, Drop)]
-pub struct Row {
-    /// The key. Rows are kept by ascending id, and the first row of a journal has id 1.
-    pub id: i64,
-    /// Who made the change: below 2^32 where a keeper wrote it.
-    pub client: i64,
-    /// The zone's serial after the batch that the row belongs to (RFC 1035 3.3.13): below 2^32 where a keeper wrote it.
-    pub serial: i64,
-    /// When the row was written, as text.
-    pub stamp: Octets,
-    /// One record in uncompressed form (RFC 1035 4.1.3).
-    pub bytes: Octets,
+/// The number in a column; a fault where it holds something else.
+fn number_in(row: &sqlite::Row, at: usize) -> Result<i64, KeepFault>
+    ensures { IfOk result (λ n. column row.now at ≡ Int n) }
+{
+    match row.get::<Value>(at) {
+        Ok(Value::Int(number)) => Ok(number),
+        Ok(_) => Err(KeepFault::Failed),
+        Err(_) => Err(KeepFault::OutOfMemory),
+    }
+}
+
+/// The text in a column; a fault where it holds something else.
+fn text_in(alloc: Global, row: &sqlite::Row, at: usize) -> Result<Octets, KeepFault>
+    ensures { IfOk result (λ text. column row.now at ≡ Text text) }
+{
+    match row.get::<Value>(at) {
+        Ok(Value::Text(bytes)) => Ok(Octets::from_slice(alloc, bytes.as_slice())?),
+        Ok(_) => Err(KeepFault::Failed),
+        Err(_) => Err(KeepFault::OutOfMemory),
+    }
+}
+
+/// The bytes in a column; a fault where it holds something else.
+fn blob_in(alloc: Global, row: &sqlite::Row, at: usize) -> Result<Octets, KeepFault>
+    ensures { IfOk result (λ bytes. column row.now at ≡ Blob bytes) }
+{
+    match row.get::<Value>(at) {
+        Ok(Value::Blob(bytes)) => Ok(Octets::from_slice(alloc, bytes.as_slice())?),
+        Ok(_) => Err(KeepFault::Failed),
+        Err(_) => Err(KeepFault::OutOfMemory),
+    }
+}
+
+/// A row that a query shows; a fault where a column does not read as the type of its field.
+fn row_in(alloc: Global, row: &sqlite::Row) -> Result<Row, KeepFault>
+    ensures { IfOk result (ReadsAs row.now) }
+{
+    Ok(Row {
+        id: number_in(row, 0)?,
+        client: number_in(row, 1)?,
+        serial: number_in(row, 2)?,
+        stamp: text_in(alloc, row, 3)?,
+        bytes: blob_in(alloc, row, 4)?,
+    })
+}
+
+/// The first of the rows that a query shows, if it shows one; a fault where it does not read.
+pub(crate) fn first_in(alloc: Global, rows: &[sqlite::Row]) -> Result<Option<Row>, KeepFault>
+    ensures { IfOk result (FirstReadsAs rows.now) }
+{
+    match rows {
+        [] => Ok(None),
+        [row, ..] => Ok(Some(row_in(alloc, row)?)),
+    }
 }

@@ -1,1 +1,5 @@
-pub mod Cutting
+mod Cuts
+mod Numerals
+mod Fetching
+mod Faultless
+mod LetIn

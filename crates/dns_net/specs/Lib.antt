@@ -1,1 +1,8 @@
-pub mod Frames
+pub mod Faults
+pub mod Bodies
+pub mod Memory
+pub mod Checks
+pub mod Building
+pub mod Links
+pub mod Answers
+pub mod Clients

@@ -1,21 +1,26 @@
-//! What streams of messages obey: each law is a call that does nothing and whose contract is the law.
+//! Laws over what comes of requests and their bodies. A caller that wants one calls it.
 
-ghost use Rattle.std.specs.Prelude.{◌≡◌, ◌≤◌, ◌<◌, ◌+◌, ◌*◌, ◌++◌, ℕ, List, [], ◌∷◌, length, take, drop};
-ghost use Rattle.dns_net.specs.Frames.{frames, behind, ahead};
+ghost use Rattle.std.specs.Prelude.{◌≡◌, ℕ, List, Option, Result, Ok, IsErrOf, option_map};
+ghost use Rattle.http.specs.declared.request.Parts.{Parts as Head};
+ghost use Rattle.http_uri.specs.Grammar.{authority_host};
+ghost use Rattle.http_uri.specs.Uri.{uri_path, uri_authority};
+ghost use Rattle.dns_net.specs.Bodies.{joined, Fetches};
+ghost use Rattle.dns_net.specs.Building.{IsRequest, request_headers};
+ghost use Rattle.dns_net.specs.Checks.{verdict};
+ghost use Rattle.dns_net.specs.declared.error.NetError.{NetError as Fault};
+ghost use Rattle.dns_net.specs.declared.error.NetError.TheVariants.{Io, OutOfMemory};
+ghost use Rattle.dns_net.specs.declared.version.Version.{Version as Http};
 
-/// The frames of a stream, from its first bytes on (RFC 1035 4.2.2).
-pub fn framed_streams()
-    ensures empty { frames [] ≡ record { messages = []; rest = [] } }
-    ensures one { (a : ℕ) → frames (a ∷ []) ≡ record { messages = []; rest = a ∷ [] } }
-    ensures partial { (a b : ℕ) (bytes : List ℕ) → length bytes < a * 256 + b
-        → frames (a ∷ b ∷ bytes) ≡ record { messages = []; rest = a ∷ b ∷ bytes } }
-    ensures whole { (a b : ℕ) (bytes : List ℕ) → a * 256 + b ≤ length bytes
-        → frames (a ∷ b ∷ bytes) ≡ behind (take (a * 256 + b) bytes) (frames (drop (a * 256 + b) bytes)) }
+/// What comes of fetching a body depends on its bytes and the length that was said alone, however they are cut, where no
+/// piece is faulty and memory lasts.
+pub fn fetching()
+    ensures { (said : Option ℕ) (left rest : List (List ℕ)) (other_left other_rest : List (List ℕ)) (result other : Result (List ℕ) Fault)
+        → Fetches said result left rest → Fetches said other other_left other_rest → joined left ≡ joined other_left
+        → ¬ (IsErrOf result Io) → ¬ (IsErrOf other Io) → ¬ (IsErrOf result OutOfMemory) → ¬ (IsErrOf other OutOfMemory) → result ≡ other }
 {}
 
-/// It does not matter how a stream is cut: its messages are those of a front, and then those of what is left of the front
-/// with what follows.
-pub fn streams_that_go_on()
-    ensures more { (front later : List ℕ) → frames (front ++ later) ≡ ahead (frames front).messages (frames ((frames front).rest ++ later)) }
-    ensures rest { (bytes : List ℕ) → frames (frames bytes).rest ≡ record { messages = []; rest = (frames bytes).rest } }
+/// A request that is built without further header fields is let in, for its version, its host and its path.
+pub fn building()
+    ensures { (version : Http) (name path : List ℕ) (count : ℕ) (head : Head) → IsRequest version name path (request_headers count) head
+        → verdict version (option_map authority_host (uri_authority head.uri)) (uri_path head.uri) head ≡ Ok tt }
 {}

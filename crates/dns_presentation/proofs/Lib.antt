@@ -1,3 +1,4 @@
 pub mod Wording
-pub mod Parts
 pub mod Searches
+pub mod Parts
+pub mod Addresses

@@ -1,7 +1,7 @@
 -- The parts of a text round a separator.
 use Rattle.std.proofs.Common.{◌≡◌, ℕ, true, false, ◌==◌, if◌then◌else◌, List, [], ◌∷◌, ◌++◌, None, refl}
 use Rattle.dns_presentation.specs.Lines.{parts_from, parts_of}
-use Rattle.dns_presentation.specs.Entries.{address_from}
+use Rattle.dns_presentation.specs.Values.{address_from}
 
 -- five parts or more are no address
 many : (separator : ℕ) (a b c d part text : List ℕ) → address_from (a ∷ b ∷ c ∷ d ∷ parts_from separator part text) ≡ None

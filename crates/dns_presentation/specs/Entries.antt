@@ -1,181 +1,153 @@
--- One entry of a zone's text: owner, TTL, class, type and data (RFC 1035 5.1).
-use Rattle.std.specs.Prelude.{◌≡◌, ℕ, ◌+◌, ◌-◌, ◌*◌, ◌^◌, zero, suc, nat_lt, Bool, false, not, ◌==◌, ◌&&◌, ◌||◌, if◌then◌else◌, List, [], ◌∷◌, ◌++◌, length, Option, Some, None, Result, Ok, Err}
-use Rattle.std.specs.Str.{str_eq_ignore_ascii_case}
+-- The entries of a zone's text: directives and records, and what each means for those behind it (RFC 1035 5.1; RFC 2308 4).
+use Rattle.std.specs.Prelude.{◌≡◌, ℕ, ◌==◌, ◌&&◌, ◌||◌, nat_lt, Bool, false, not, if◌then◌else◌, List, [], ◌∷◌, Option, Some, None, Result, Ok, Err}
+use Rattle.std.specs.Option.{option_or}
 use lib.Chars.{codes}
-use Rattle.dns_name.specs.Name.{fold_of}
-use Rattle.dns_name.specs.Escapes.{is_digit, escape_of}
-use Rattle.dns_name.specs.NameText.{name_of}
-use Rattle.dns_name.specs.declared.fault.ProtoError.{ProtoError}
+use Rattle.dns_name.specs.Escapes.{is_digit}
 use Rattle.dns_wire.specs.declared.rdata.Data.{Data}
-use Rattle.dns_wire.specs.declared.rdata.Data.TheVariants.{A, Ns, Cname, Soa, Txt}
-use Rattle.dns_wire.specs.declared.record.Record.{Record}
-use Rattle.dns_wire.specs.declared.record_type.TheConstants as record_type
+use Rattle.dns_wire.specs.declared.rdata.Data.TheVariants.{Soa}
+use Rattle.dns_wire.specs.declared.record_type.TheConstants.{SOA}
 use Rattle.dns_wire.specs.declared.class.TheConstants.{IN}
-use Rattle.dns_wire.specs.Texts.{texts_bytes}
-use Rattle.dns_presentation.specs.declared.values.EntryFault.{EntryFault}
-use Rattle.dns_presentation.specs.declared.values.EntryFault.TheVariants.{Refused, OutOfMemory}
-use Rattle.dns_presentation.specs.Lines.{parts_of}
-use Rattle.dns_presentation.specs.Words.{Word, is_blank, words_of}
+use Rattle.dns_presentation.specs.declared.fault.EntryKind.{EntryKind}
+use Rattle.dns_presentation.specs.declared.fault.EntryKind.TheVariants as kind
+use Rattle.dns_presentation.specs.declared.fault.EntryFault.{EntryFault}
+use Rattle.dns_presentation.specs.declared.fault.EntryFault.TheVariants.{Refused, OutOfMemory}
+use Rattle.dns_presentation.specs.declared.data_text.WrittenType.{WrittenType}
+use Rattle.dns_presentation.specs.declared.entry.Context.{Context}
+use Rattle.dns_presentation.specs.declared.entry.Entry.{Entry}
+use Rattle.dns_presentation.specs.declared.entry.Entry.TheVariants as entry
+use Rattle.dns_presentation.specs.Words.{Word}
+use Rattle.dns_presentation.specs.LogicalLines.{LogicalLine}
+use Rattle.dns_presentation.specs.Values.{is_word}
+use Rattle.dns_presentation.specs.DataText.{word_name, word_seconds, only_name, only_seconds, type_of, data_of}
 
 -- what comes of a value, if there is one
 infixl 10 ◌>>=◌
-abbrev pub ◌>>=◌ : {X Y : Type 0} → Option X → (X → Option Y) → Option Y
-None >>= next = None
-(Some x) >>= next = next x
+abbrev pub ◌>>=◌ : {X Y : Type 0} → Result X EntryKind → (X → Result Y EntryKind) → Result Y EntryKind
+(Ok x) >>= next = next x
+(Err kind) >>= next = Err kind
 
--- the text of a word that stands in no quotes
-abbrev pub plain_text : Word → Option (List ℕ)
-plain_text word = if word.quoted then None else Some word.text
+-- a value, or what is wrong where there is none
+abbrev pub or_kind : {X : Type 0} → EntryKind → Option X → Result X EntryKind
+or_kind kind None = Err kind
+or_kind kind (Some x) = Ok x
 
--- the number that digits write behind others, if it is below 2^32
-abbrev pub number_from : ℕ → List ℕ → Option ℕ
-number_from number [] = Some number
-number_from number (byte ∷ bytes) =
-    if is_digit byte && nat_lt (10 * number + (byte - 48)) (2 ^ 32) then number_from (10 * number + (byte - 48)) bytes else None
+-- the text begins with a digit
+abbrev pub begins_digit : List ℕ → Bool
+begins_digit [] = false
+begins_digit (byte ∷ text) = is_digit byte
 
--- a decimal number below 2^32; zeros may lead it
-unfoldable pub number_of : List ℕ → Option ℕ
-number_of [] = None
-number_of (byte ∷ bytes) = number_from 0 (byte ∷ bytes)
+-- a word that begins with a dollar sign, out of quotes
+abbrev pub begins_dollar : List ℕ → Bool
+begins_dollar [] = false
+begins_dollar (byte ∷ text) = byte == 36
 
--- the text ends in a dot that no backslash escapes
-abbrev pub ends_in_dot : Bool → Bool → List ℕ → Bool
-ends_in_dot escaped dot [] = dot
-ends_in_dot escaped dot (byte ∷ bytes) = ends_in_dot (not escaped && (byte == 92)) (not escaped && (byte == 46)) bytes
+abbrev pub is_directive : Word → Bool
+is_directive word = not word.quoted && begins_dollar word.text
 
--- the labels that were read, in small letters
-abbrev pub folded : Result (List (List ℕ)) ProtoError → Option (List (List ℕ))
-folded (Ok labels) = Some (fold_of labels)
-folded (Err error) = None
+-- the TTL that a word states
+unfoldable pub time_of : Word → Result (Option ℕ) EntryKind
+time_of word = or_kind kind.Ttl (word_seconds word) >>= λ seconds. Ok (Some seconds)
 
--- an absolute name, which ends in a dot, in small letters
-unfoldable pub absolute_name : List ℕ → Option (List (List ℕ))
-absolute_name text = if ends_in_dot false false text then folded (name_of text) else None
+-- the TTL that these words begin with: a word that begins with a digit
+abbrev pub leading_ttl : List Word → Result (Option ℕ) EntryKind
+leading_ttl [] = Ok None
+leading_ttl (word ∷ words) = if begins_digit word.text then time_of word else Ok None
 
--- the byte that one byte before this text means, and how many bytes of the text belong to it
-abbrev pub character_of : ℕ → List ℕ → Option (ℕ × ℕ)
-character_of byte text = if byte == 92 then escape_of text else Some (byte, 0)
+-- the TTL that stands before the type, before or behind the class
+abbrev pub stated_ttl : List Word → Result (Option ℕ) EntryKind
+stated_ttl [] = Ok None
+stated_ttl (word ∷ words) = if is_word (codes "IN") word then leading_ttl words else leading_ttl (word ∷ words)
 
--- the bytes that a text means behind others, where this many bytes of the text belong to the character before it
-abbrev pub string_from : ℕ → List ℕ → List ℕ → Option (List ℕ)
-string_from passed bytes [] = Some bytes
-string_from (suc passed) bytes (byte ∷ text) = string_from passed bytes text
-string_from zero bytes (byte ∷ text) = character_of byte text >>= λ character. string_from character.1 (bytes ++ character.0 ∷ []) text
+-- words without a class before them, or without a TTL
+abbrev pub behind_class : List Word → List Word
+behind_class [] = []
+behind_class (word ∷ words) = if is_word (codes "IN") word then words else word ∷ words
 
--- the bytes that a text means
-unfoldable pub string_of : List ℕ → Option (List ℕ)
-string_of text = string_from 0 [] text
+abbrev pub behind_ttl : List Word → List Word
+behind_ttl [] = []
+behind_ttl (word ∷ words) = if begins_digit word.text then words else word ∷ words
 
--- a string that may come behind others: of at most 255 bytes, and with them of at most 65,535 bytes of data
-abbrev pub is_too_long : List (List ℕ) → List ℕ → Bool
-is_too_long strings string = nat_lt 255 (length string) || nat_lt 65535 (length (texts_bytes strings) + (length string + 1))
+-- the words from the type on: TTL and class may stand before it in either order
+abbrev pub from_type : List Word → List Word
+from_type [] = []
+from_type (word ∷ words) = if is_word (codes "IN") word then behind_ttl words else behind_class (behind_ttl (word ∷ words))
 
--- the strings of words, behind others
-abbrev pub strings_from : List (List ℕ) → List Word → Option (List (List ℕ))
-strings_from strings [] = Some strings
-strings_from strings (word ∷ words) = string_of word.text >>= λ string. if is_too_long strings string then None else strings_from (strings ++ string ∷ []) words
+-- the type is SOA
+abbrev pub is_soa : Option WrittenType → Bool
+is_soa None = false
+is_soa (Some type) = type.number == SOA
 
--- the data of a TXT record: one string or more (RFC 1035 3.3.14)
-unfoldable pub txt_of : List Word → Option Data
-txt_of [] = None
-txt_of (word ∷ words) = strings_from [] (word ∷ words) >>= λ strings. Some (Txt strings)
+-- the TTL of a record: the stated one, or else the default, or else the last that was stated
+abbrev pub known_ttl : Context → Option ℕ → Option ℕ
+known_ttl context stated = option_or stated (option_or context.default_ttl context.stated_ttl)
 
--- one of the four numbers of an address: at most 255, without leading zeros
-unfoldable pub part_number : List ℕ → Option ℕ
-part_number [] = None
-part_number (byte ∷ bytes) =
-    if (byte == 48) && not (length bytes == 0) then None
-    else number_from 0 (byte ∷ bytes) >>= λ number. if nat_lt 255 number then None else Some number
+-- an SOA alone needs no TTL
+abbrev pub needed_ttl : Option ℕ → Option WrittenType → Result (Option ℕ) EntryKind
+needed_ttl (Some ttl) type = Ok (Some ttl)
+needed_ttl None type = if is_soa type then Ok None else Err kind.Ttl
 
--- an IPv4 address, of four numbers with dots between them (RFC 1035 3.4.1)
-unfoldable pub address_from : List (List ℕ) → Option ℕ
-address_from (first ∷ second ∷ third ∷ fourth ∷ []) = do
-  a ← part_number first
-  b ← part_number second
-  c ← part_number third
-  d ← part_number fourth
-  Some (16777216 * a + 65536 * b + 256 * c + d)
-address_from parts = None
+-- the TTL, or else that of an SOA, its minimum
+abbrev pub ttl_or : Option ℕ → Data → ℕ
+ttl_or (Some ttl) rdata = ttl
+ttl_or None (Soa mname rname serial refresh retry expire minimum) = minimum
+ttl_or None rdata = 0
 
--- the number that a word writes
-unfoldable pub word_number : Word → Option ℕ
-word_number word = plain_text word >>= λ text. number_of text
+-- the record of this owner, type and TTL, with the data that the words write
+unfoldable pub record_with : Context → List (List ℕ) → Option ℕ → Option ℕ → Option WrittenType → List Word → Result Entry EntryKind
+record_with context owner stated ttl type words = do
+  written ← or_kind kind.RecordType type
+  rdata ← or_kind kind.Data (data_of context.origin written words)
+  Ok (entry.Record (record { name = owner; rtype = written.number; class = IN; ttl = ttl_or ttl rdata; rdata = rdata }) stated)
 
--- the name that a word writes
-unfoldable pub word_name : Word → Option (List (List ℕ))
-word_name word = plain_text word >>= λ text. absolute_name text
+-- the record of this owner and type
+unfoldable pub typed_record : Context → List (List ℕ) → Option ℕ → Option WrittenType → List Word → Result Entry EntryKind
+typed_record context owner stated type words =
+    needed_ttl (known_ttl context stated) type >>= λ ttl. record_with context owner stated ttl type words
 
--- the address that a word writes
-unfoldable pub word_address : Word → Option ℕ
-word_address word = plain_text word >>= λ text. address_from (parts_of 46 text)
+-- the record of this owner, of words that begin with the type
+abbrev pub record_from : Context → List (List ℕ) → Option ℕ → List Word → Result Entry EntryKind
+record_from context owner stated [] = typed_record context owner stated None []
+record_from context owner stated (type ∷ words) = typed_record context owner stated (type_of type) words
 
--- the one word of a list
-unfoldable pub only_word : List Word → Option Word
-only_word (word ∷ []) = Some word
-only_word words = None
+-- the record of this owner, of the words behind it
+unfoldable pub record_of : Context → List (List ℕ) → List Word → Result Entry EntryKind
+record_of context owner words = stated_ttl words >>= λ stated. record_from context owner stated (from_type words)
 
--- the name that the one word writes
-unfoldable pub only_name : List Word → Option (List (List ℕ))
-only_name words = only_word words >>= λ word. word_name word
+-- what a directive says: `$ORIGIN` and a name, or `$TTL` and a time
+unfoldable pub directive_of : Context → Word → List Word → Result Entry EntryKind
+directive_of context directive words =
+    if is_word (codes "$ORIGIN") directive then (or_kind kind.Name (only_name context.origin words) >>= λ origin. Ok (entry.Origin origin))
+    else if is_word (codes "$TTL") directive then (or_kind kind.Ttl (only_seconds words) >>= λ ttl. Ok (entry.DefaultTtl ttl))
+    else Err kind.Directive
 
--- the address that the one word writes
-unfoldable pub only_address : List Word → Option ℕ
-only_address words = only_word words >>= λ word. word_address word
+-- what the words of a logical line say: where it begins with a blank, the owner is the last one
+unfoldable pub words_entry : Context → Bool → List Word → Result Entry EntryKind
+words_entry context indented [] = Ok entry.Nothing
+words_entry context indented (word ∷ words) =
+    if is_directive word then directive_of context word words
+    else if indented then (or_kind kind.Name context.owner >>= λ owner. record_of context owner (word ∷ words))
+    else (or_kind kind.Name (word_name context.origin word) >>= λ owner. record_of context owner words)
 
--- the times of an SOA: refresh, retry, expire and minimum
-unfoldable pub times_of : List Word → Option (ℕ × ℕ × ℕ × ℕ)
-times_of (refresh ∷ retry ∷ expire ∷ minimum ∷ []) = do
-  a ← word_number refresh
-  b ← word_number retry
-  c ← word_number expire
-  d ← word_number minimum
-  Some (a, b, c, d)
-times_of words = None
+-- what a logical line says, or what is wrong with it first
+unfoldable pub entry_of : Context → LogicalLine → Result Entry EntryKind
+entry_of context line =
+    if line.stray || nat_lt 0 line.open_count then Err kind.Paren
+    else if line.unclosed then Err kind.Quote
+    else words_entry context line.indented line.words
 
--- the data of an SOA (RFC 1035 3.3.13)
-unfoldable pub soa_of : List Word → Option Data
-soa_of (primary ∷ mailbox ∷ version ∷ words) = do
-  mname ← word_name primary
-  rname ← word_name mailbox
-  serial ← word_number version
-  times ← times_of words
-  Some (Soa mname rname serial times.0 times.1 times.2 times.3)
-soa_of words = None
+-- what holds at the beginning of a text
+abbrev pub first_context : List (List ℕ) → Context
+first_context origin = record { origin = origin; owner = None; default_ttl = None; stated_ttl = None }
 
--- the word is this one, in capitals or not, and stands in no quotes (RFC 1035 2.3.3)
-abbrev pub is_word : List ℕ → Word → Bool
-is_word text word = not word.quoted && str_eq_ignore_ascii_case word.text text
+-- what holds behind an entry
+abbrev pub context_after : Context → Entry → Context
+context_after context entry.Nothing = context
+context_after context (entry.Origin origin) = record context { origin = origin }
+context_after context (entry.DefaultTtl ttl) = record context { default_ttl = Some ttl }
+context_after context (entry.Record r stated) = record context { owner = Some r.name; stated_ttl = option_or stated context.stated_ttl }
 
--- the number of a type and data of its form
-unfoldable pub data_of : Word → List Word → Option (ℕ × Data)
-data_of type words =
-    if is_word (codes "A") type then (only_address words >>= λ address. Some (record_type.A, A address))
-    else if is_word (codes "NS") type then (only_name words >>= λ host. Some (record_type.NS, Ns host))
-    else if is_word (codes "CNAME") type then (only_name words >>= λ target. Some (record_type.CNAME, Cname target))
-    else if is_word (codes "SOA") type then (soa_of words >>= λ soa. Some (record_type.SOA, soa))
-    else if is_word (codes "TXT") type then (txt_of words >>= λ txt. Some (record_type.TXT, txt))
-    else None
-
--- the record that the words of a line write
-unfoldable pub record_of : List Word → Option Record
-record_of (owner ∷ time ∷ class ∷ type ∷ words) = do
-  name ← word_name owner
-  ttl ← word_number time
-  typed ← (if is_word (codes "IN") class then data_of type words else None)
-  Some (record { name = name; rtype = typed.0; class = IN; ttl = ttl; rdata = typed.1 })
-record_of words = None
-
--- a line that begins with a blank, or with the dollar sign of a directive
-abbrev pub begins_apart : List ℕ → Bool
-begins_apart [] = false
-begins_apart (byte ∷ line) = is_blank byte || (byte == 36)
-
--- the record that a line writes, or none where it is no such line
-unfoldable pub entry_of : List ℕ → Option Record
-entry_of line = if begins_apart line then None else words_of line >>= λ words. record_of words
-
--- a reading gave what is meant, or refused where nothing is, unless memory ran out
-abbrev pub Gives : {X Y : Type 0} → (X → Y) → Result X EntryFault → Option Y → Type 0
-Gives view (Ok x) meant = meant ≡ Some (view x)
-Gives view (Err Refused) meant = meant ≡ None
-Gives view (Err OutOfMemory) meant = Unit {0}
+-- a reading gave what is meant, or told what is wrong, unless memory ran out
+abbrev pub ReadsAs : {X Y : Type 0} → (X → Y) → Result X EntryFault → Result Y EntryKind → Type 0
+ReadsAs view (Ok x) meant = meant ≡ Ok (view x)
+ReadsAs view (Err (Refused kind)) meant = meant ≡ Err kind
+ReadsAs view (Err OutOfMemory) meant = Unit {0}

@@ -1,3 +1,6 @@
 pub mod Lines
 pub mod Words
+pub mod LogicalLines
+pub mod Values
+pub mod DataText
 pub mod Entries

@@ -1,10 +1,17 @@
--- The words of one line of a zone's text (RFC 1035 5.1).
-use Rattle.std.specs.Prelude.{ℕ, Bool, true, false, ◌==◌, ◌||◌, not, if◌then◌else◌, List, [], ◌∷◌, ◌++◌, Option, Some, None}
+-- What stands in one line of a zone's text: words, brackets and a comment (RFC 1035 5.1).
+use Rattle.std.specs.Prelude.{ℕ, Bool, true, false, ◌==◌, ◌||◌, not, if◌then◌else◌, List, [], ◌∷◌, ◌++◌}
 
 -- a word, and whether it stands in quotes; a backslash and what it escapes stand in it as they were written
 pub record Word : Type 0 where
   pub quoted : Bool
   pub text : List ℕ
+
+-- what a line holds: words, brackets, and at its end perhaps a quote that is not closed in it
+pub data Token : Type 0 where
+  Worded : Word → Token
+  Opening : Token
+  Closing : Token
+  Unclosed : Token
 
 -- a space or a tab
 abbrev pub is_blank : ℕ → Bool
@@ -36,12 +43,6 @@ pub data Place : Type 0 where
   Quoted : List ℕ → Place
   QuotedEscape : List ℕ → Place
 
--- what one byte does: the line goes on at a place, after a word that ended here or within one; or it is refused
-pub data Step : Type 0 where
-  GoesOn : Place → Step
-  Ends : Word → Place → Step
-  Refused : Step
-
 -- a word out of quotes that goes on with a byte
 abbrev pub plain_with : List ℕ → ℕ → Place
 plain_with word byte = if byte == 92 then PlainEscape (word ++ byte ∷ []) else Plain (word ++ byte ∷ [])
@@ -50,54 +51,45 @@ plain_with word byte = if byte == 92 then PlainEscape (word ++ byte ∷ []) else
 abbrev pub quoted_with : List ℕ → ℕ → Place
 quoted_with word byte = if byte == 92 then QuotedEscape (word ++ byte ∷ []) else Quoted (word ++ byte ∷ [])
 
--- what a byte does at a place: a quote begins a word and ends it, a blank ends one, and behind a backslash any byte is
--- part of its word
-abbrev pub step : Place → ℕ → Step
-step Between byte =
-    if is_blank byte then GoesOn Between
-    else if byte == 34 then GoesOn (Quoted [])
-    else if is_mark byte then Refused
-    else GoesOn (plain_with [] byte)
-step (Plain word) byte =
-    if is_blank byte then Ends (record { quoted = false; text = word }) Between
-    else if byte == 34 then Ends (record { quoted = false; text = word }) (Quoted [])
-    else if is_mark byte then Refused
-    else GoesOn (plain_with word byte)
-step (PlainEscape word) byte = GoesOn (Plain (word ++ byte ∷ []))
-step (Quoted word) byte =
-    if byte == 34 then Ends (record { quoted = true; text = word }) Between
-    else GoesOn (quoted_with word byte)
-step (QuotedEscape word) byte = GoesOn (Quoted (word ++ byte ∷ []))
+-- a word out of quotes, or in them
+abbrev pub plain : List ℕ → Token
+plain text = Worded (record { quoted = false; text = text })
 
--- the words at a place where the line ends: a quote that is open is refused
-abbrev pub words_at_end : Place → Option (List Word)
-words_at_end Between = Some []
-words_at_end (Plain word) = Some (record { quoted = false; text = word } ∷ [])
-words_at_end (PlainEscape word) = Some (record { quoted = false; text = word } ∷ [])
-words_at_end (Quoted word) = None
-words_at_end (QuotedEscape word) = None
+abbrev pub quoted : List ℕ → Token
+quoted text = Worded (record { quoted = true; text = text })
 
--- a word before the words that follow it
-abbrev pub before : Word → Option (List Word) → Option (List Word)
-before word None = None
-before word (Some words) = Some (word ∷ words)
+-- what a byte between words begins, before what stands in the line from a place behind it on: a comment goes to the end
+-- of the line
+abbrev pub begun : ℕ → (Place → List Token) → List Token
+begun byte more =
+    if is_blank byte then more Between
+    else if byte == 34 then more (Quoted [])
+    else if byte == 59 then []
+    else if byte == 40 then Opening ∷ more Between
+    else if byte == 41 then Closing ∷ more Between
+    else more (plain_with [] byte)
 
--- the words from a step on, where those from a place on are given; none where the line is refused
-abbrev pub words_after : Step → (Place → Option (List Word)) → Option (List Word)
-words_after (GoesOn next) more = more next
-words_after (Ends word next) more = before word (more next)
-words_after Refused more = None
+-- what a byte at a place comes to: behind a backslash it is part of its word
+abbrev pub tokens_at : Place → ℕ → (Place → List Token) → List Token
+tokens_at Between byte more = begun byte more
+tokens_at (Plain word) byte more = if is_stop byte then plain word ∷ begun byte more else more (plain_with word byte)
+tokens_at (PlainEscape word) byte more = more (Plain (word ++ byte ∷ []))
+tokens_at (Quoted word) byte more = if byte == 34 then quoted word ∷ more Between else more (quoted_with word byte)
+tokens_at (QuotedEscape word) byte more = more (Quoted (word ++ byte ∷ []))
 
--- the words from a place in a line on
-abbrev pub words_from : Place → List ℕ → Option (List Word)
-words_from place [] = words_at_end place
-words_from place (byte ∷ line) = words_after (step place byte) (λ next. words_from next line)
+-- what stands at a place where the line ends: a word out of quotes ends there
+abbrev pub tokens_at_end : Place → List Token
+tokens_at_end Between = []
+tokens_at_end (Plain word) = plain word ∷ []
+tokens_at_end (PlainEscape word) = plain word ∷ []
+tokens_at_end (Quoted word) = Unclosed ∷ []
+tokens_at_end (QuotedEscape word) = Unclosed ∷ []
 
--- the words of a line
-abbrev pub words_of : List ℕ → Option (List Word)
-words_of line = words_from Between line
+-- what stands in a line from a place on
+abbrev pub tokens_from : Place → List ℕ → List Token
+tokens_from place [] = tokens_at_end place
+tokens_from place (byte ∷ line) = tokens_at place byte (λ next. tokens_from next line)
 
--- words before the words that follow them
-abbrev pub all_before : List Word → Option (List Word) → Option (List Word)
-all_before [] words = words
-all_before (word ∷ front) words = before word (all_before front words)
+-- what stands in a line
+abbrev pub tokens_of : List ℕ → List Token
+tokens_of line = tokens_from Between line

@@ -1,11 +1,18 @@
-//! The text of records: lines, words, values, and the record that a line writes (RFC 1035 5.1). It knows no zone.
+//! The text of records: lines, words, values, and the record that an entry writes (RFC 1035 5.1). It knows no zone.
 #![tactic(auto)]
 
+mod data_text;
 mod entry;
+mod fault;
 mod lines;
+mod logical_line;
+mod names;
 mod values;
 mod words;
 
-pub use entry::entry_of;
+pub use data_text::WrittenType;
+pub use entry::{Context, Entry, entry_of};
+pub use fault::{EntryFault, EntryKind};
 pub use lines::split_line;
-pub use values::EntryFault;
+pub use logical_line::LogicalLine;
+pub use words::Word;

@@ -1,6 +1,6 @@
 //! The lines of a text.
 
-ghost use Rattle.std.specs.Prelude.{◌≡◌, ◌<◌, ◌∷◌, [], length, IfSome, IfNone};
+ghost use Rattle.std.specs.Prelude.{◌≡◌, ◌<◌, ◌≤◌, ◌+◌, ◌∷◌, [], length, IfSome, IfNone};
 ghost use Rattle.dns_presentation.specs.Lines.{ends_in, without_return, lines_of, parts_of};
 
 use memchr::memchr;
@@ -13,6 +13,7 @@ pub fn split_line(text: &[u8]) -> Option<(&[u8], &[u8])>
     ensures some { IfSome result (λ parts. lines_of text.now ≡ parts.0.now ∷ lines_of parts.1.now) }
     ensures none { IfNone result (lines_of text.now ≡ []) }
     ensures shorter { IfSome result (λ parts. length parts.1.now < length text.now) }
+    ensures within { IfSome result (λ parts. length parts.0.now + length parts.1.now ≤ length text.now) }
 {
     if let Some(place) = memchr(b'\n', text) {
         let (line, end) = text.split_at(place);
@@ -25,7 +26,8 @@ pub fn split_line(text: &[u8]) -> Option<(&[u8], &[u8])>
 }
 
 fn without_return(line: &[u8]) -> &[u8]
-    ensures { result.now ≡ without_return line.now }
+    ensures line { result.now ≡ without_return line.now }
+    ensures within { length result.now ≤ length line.now }
 {
     if ends_in(b'\r', line) {
         return line.split_at(line.len() - 1).0;

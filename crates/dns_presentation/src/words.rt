@@ -1,16 +1,14 @@
 //! The words of one line of a zone's text (RFC 1035 5.1).
 
-ghost use Rattle.std.specs.Prelude.{◌≡◌, ◌<◌, ◌∷◌, List, [], true, false, None, length, IfSome, IfNone, IfOk, option_map};
-ghost use Rattle.dns_presentation.specs.Words.{is_blank, is_mark, is_stop, begins_blank, begins_plain, words_from, words_of, before};
-ghost use Rattle.dns_presentation.specs.Words.{Plain, Quoted};
+ghost use Rattle.std.specs.Prelude.{◌≡◌, ◌<◌, ◌∷◌, [], true, false, length, IfSome, IfNone};
+ghost use Rattle.dns_presentation.specs.Words.{is_blank, is_mark, is_stop, begins_blank, begins_plain, tokens_from, tokens_of, plain, quoted};
+ghost use Rattle.dns_presentation.specs.Words.{Plain, Quoted, Unclosed};
 
-use dns_io::OutOfMemory;
-use std::alloc::Global;
 use std::marker::Model;
 
 /// A word, which is a part of its line: a backslash and what it escapes stand in it as they were written.
 #[derive(Drop)]
-pub(crate) struct Word<'a> {
+pub struct Word<'a> {
     quoted: bool,
     text: &'a [u8],
 }
@@ -24,6 +22,23 @@ impl<'a> Model for Word<'a> {
 }
 
 impl<'a> Word<'a> {
+    /// A word out of quotes.
+    pub(crate) fn plain(text: &'a [u8]) -> Word<'a>
+        ensures { result ≡ record { quoted = false; text = text.now } }
+    {
+        Word {
+            quoted: false,
+            text,
+        }
+    }
+
+    /// A word in quotes, which are no part of the text.
+    pub(crate) fn quoted(text: &'a [u8]) -> Word<'a>
+        ensures { result ≡ record { quoted = true; text = text.now } }
+    {
+        Word { quoted: true, text }
+    }
+
     /// Whether it stands in quotes.
     pub(crate) fn is_quoted(&self) -> bool
         ensures { result ≡ self.now.quoted }
@@ -39,63 +54,10 @@ impl<'a> Word<'a> {
     }
 }
 
-/// How many words the line of an SOA has: most lines have fewer.
-const WORD_COUNT: usize = 11;
-
-/// The words of a line; none where the line is refused, for a quote that is not closed, a comment or a bracket.
-pub(crate) fn words_of<'a>(
-    alloc: Global,
-    line: &'a [u8],
-) -> Result<Option<Vec<Word<'a>>>, OutOfMemory>
-    ensures { IfOk result (λ words. option_map (λ v. v.items) words ≡ words_of line.now) }
-{
-    let mut words = Vec::with_capacity(alloc, WORD_COUNT)?;
-    let mut rest = line;
-    while let [first, behind @ ..] = rest {
-        if is_blank(*first) {
-            rest = behind;
-            continue;
-        }
-        let Some((word, after)) = first_word(rest) else {
-            return Ok(None);
-        };
-        words.push(word)?;
-        rest = after;
-    }
-    Ok(Some(words))
-}
-
-/// The word with which a line begins, and the line behind it.
-#[tactic(auto, using(crate::proofs::Wording::words_of_plain))]
-fn first_word<'a>(line: &'a [u8]) -> Option<(Word<'a>, &'a [u8])>
-    requires some { 0 < length line.now }
-    requires word { begins_blank line.now ≡ false }
-    ensures some { IfSome result (λ found. words_of line.now ≡ before found.0 (words_of found.1.now)) }
-    ensures none { IfNone result (words_of line.now ≡ None) }
-    ensures shorter { IfSome result (λ found. length found.1.now < length line.now) }
-{
-    let first = line[0];
-    if first == b'"' {
-        let (text, after) = split_quoted(&line[1..])?;
-        return Some((Word { quoted: true, text }, after));
-    }
-    if is_mark(first) {
-        return None;
-    }
-    let (text, after) = split_plain(line);
-    Some((
-        Word {
-            quoted: false,
-            text,
-        },
-        after,
-    ))
-}
-
 /// The part of a line up to the quote that closes it, and the line behind that quote.
-fn split_quoted(line: &[u8]) -> Option<(&[u8], &[u8])>
-    ensures some { IfSome result (λ parts. words_from (Quoted []) line.now ≡ before (record { quoted = true; text = parts.0.now }) (words_of parts.1.now)) }
-    ensures none { IfNone result (words_from (Quoted []) line.now ≡ None) }
+pub(crate) fn split_quoted(line: &[u8]) -> Option<(&[u8], &[u8])>
+    ensures some { IfSome result (λ parts. tokens_from (Quoted []) line.now ≡ quoted parts.0.now ∷ tokens_of parts.1.now) }
+    ensures none { IfNone result (tokens_from (Quoted []) line.now ≡ Unclosed ∷ []) }
     ensures shorter { IfSome result (λ parts. length parts.1.now < length line.now) }
 {
     let mut escaped = false;
@@ -114,8 +76,8 @@ fn split_quoted(line: &[u8]) -> Option<(&[u8], &[u8])>
 }
 
 /// The part of a line up to the byte that ends a word out of quotes, and the line from that byte on.
-fn split_plain(line: &[u8]) -> (&[u8], &[u8])
-    ensures word { words_from (Plain []) line.now ≡ before (record { quoted = false; text = result.0.now }) (words_of result.1.now) }
+pub(crate) fn split_plain(line: &[u8]) -> (&[u8], &[u8])
+    ensures word { tokens_from (Plain []) line.now ≡ plain result.0.now ∷ tokens_of result.1.now }
     ensures shorter { begins_plain line.now ≡ true → length result.1.now < length line.now }
 {
     let mut escaped = false;
@@ -130,6 +92,16 @@ fn split_plain(line: &[u8]) -> (&[u8], &[u8])
         escaped = *byte == b'\\';
     }
     line.split_at(line.len())
+}
+
+/// Whether a line begins with a blank.
+pub(crate) fn begins_blank(line: &[u8]) -> bool
+    ensures { result ≡ begins_blank line.now }
+{
+    match line {
+        [] => false,
+        [byte, ..] => is_blank(*byte),
+    }
 }
 
 pub(crate) fn is_blank(byte: u8) -> bool

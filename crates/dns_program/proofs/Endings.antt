@@ -5,8 +5,8 @@ use Rattle.dns_io.specs.Edge.{Keeps}
 use Rattle.dns_io.specs.declared.edge.IoFault.{IoFault}
 use Rattle.dns_io.specs.declared.edge.IoFault.TheVariants.{Failed, OutOfMemory}
 use Rattle.dns_io.proofs.ToldContents.{Keeps-more}
-use Rattle.dns_journal.specs.declared.row.Row.{Row}
-use Rattle.dns_zone.specs.Zone.{Contents, serial_of}
+use Rattle.dns_keeper.specs.declared.row.Row.{Row}
+use Rattle.dns_zone_map.specs.Zone.{Contents, serial_of}
 use Rattle.dns_server_core.specs.declared.event.Event.{Event}
 use Rattle.dns_server_core.specs.declared.event.Out.{Out}
 use Rattle.dns_book.specs.Access.{Access}

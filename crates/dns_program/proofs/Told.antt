@@ -2,9 +2,9 @@
 use Rattle.std.proofs.Common.{ℕ, ℤ, ◌≤◌, List, Option, Some, None, sym, ap, subst, ◌∙◌, arith}
 use Rattle.dns_io.specs.Edge.{Rose, Keeps}
 use Rattle.dns_wire.specs.declared.record.Record.{Record}
-use Rattle.dns_journal.specs.declared.row.Row.{Row}
-use Rattle.dns_journal.specs.Rows.{appended}
-use Rattle.dns_journal.specs.Keeping.{GrowsByBatch}
+use Rattle.dns_keeper.specs.declared.row.Row.{Row}
+use Rattle.dns_keeper.specs.Rows.{appended}
+use Rattle.dns_keeper.specs.Keeping.{GrowsByBatch}
 use Rattle.dns_book.specs.Opening.{HadNoRow, HadFirst}
 
 pub HadNoRow-later : (a b c : Option (List Row)) → HadNoRow a b → Keeps b c → HadNoRow a c

@@ -1,8 +1,8 @@
 -- What the program does: the replies owed, and no other bytes.
 use Rattle.std.specs.Prelude.{◌≡◌, ◌≢◌, ℕ, List, length, take, Option, Some, false}
-use Rattle.dns_journal.specs.declared.row.Row.{Row}
+use Rattle.dns_keeper.specs.declared.row.Row.{Row}
 use Rattle.dns_io.specs.Edge.{Keeps, Rose, GrowsByPrefix}
-use Rattle.dns_zone.specs.Zone.{Contents, serial_of}
+use Rattle.dns_zone_map.specs.Zone.{Contents, serial_of}
 use Rattle.dns_server_core.specs.declared.event.Event.{Event}
 use Rattle.dns_server_core.specs.declared.event.Out.{Out}
 use Rattle.dns_book.specs.Book.{SeenOf, HasRows, Settles}

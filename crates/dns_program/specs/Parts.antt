@@ -1,9 +1,9 @@
 -- What the parts of the top call do.
 use Rattle.std.specs.Prelude.{◌≡◌, ℕ, List, take, Option, Some, false}
-use Rattle.dns_journal.specs.declared.row.Row.{Row}
+use Rattle.dns_keeper.specs.declared.row.Row.{Row}
 use Rattle.dns_io.specs.Around.{Around, around}
 use Rattle.dns_io.specs.Edge.{Keeps}
-use Rattle.dns_zone.specs.Zone.{Contents}
+use Rattle.dns_zone_map.specs.Zone.{Contents}
 use Rattle.dns_server_core.specs.declared.event.Event.{Event}
 use Rattle.dns_server_core.specs.declared.event.Out.{Out}
 use Rattle.dns_book.specs.Access.{Access}

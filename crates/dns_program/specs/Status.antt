@@ -3,8 +3,8 @@ use Rattle.std.specs.Prelude.{ℕ, ◌++◌, List, [], codes}
 use Rattle.std.specs.Fmt.{decimal, signed_decimal}
 use Rattle.dns_zone.specs.declared.zone_text.ZoneTextKind.{ZoneTextKind}
 use Rattle.dns_zone.specs.declared.zone_text.ZoneTextKind.TheVariants as zone
-use Rattle.dns_zone.specs.declared.replay.ReplayKind.{ReplayKind}
-use Rattle.dns_zone.specs.declared.replay.ReplayKind.TheVariants as replay
+use Rattle.dns_zone.specs.declared.not_built.ReplayKind.{ReplayKind}
+use Rattle.dns_zone.specs.declared.not_built.ReplayKind.TheVariants as replay
 use Rattle.dns_io.specs.declared.to_end.ReadFault.{ReadFault}
 use Rattle.dns_io.specs.declared.to_end.ReadFault.TheVariants as read
 use Rattle.dns_program.specs.declared.status.Status.{Status}
@@ -26,7 +26,13 @@ status_number status.OutOfMemory = 10
 
 -- what is wrong with a line of a zone text
 abbrev pub zone_kind_text : ZoneTextKind → List ℕ
+zone_kind_text zone.Paren = codes "Paren"
+zone_kind_text zone.Quote = codes "Quote"
+zone_kind_text zone.Directive = codes "Directive"
+zone_kind_text zone.Name = codes "Name"
+zone_kind_text zone.Ttl = codes "Ttl"
 zone_kind_text zone.RecordType = codes "Type"
+zone_kind_text zone.Data = codes "Data"
 zone_kind_text zone.OutOfZone = codes "OutOfZone"
 zone_kind_text zone.NotOneSoa = codes "NotOneSoa"
 zone_kind_text zone.AliasBesideOther = codes "AliasBesideOther"

@@ -1,13 +1,13 @@
 -- The steps of the command `events`, in the order of the work, and the causes for which each of them is refused.
 use Rattle.std.specs.Prelude.{◌≡◌, ◌≤◌, ℕ, ℤ, List, length, Some, None, Ok, Err}
-use Rattle.dns_journal.specs.declared.row.Row.{Row}
+use Rattle.dns_keeper.specs.declared.row.Row.{Row}
 use Rattle.dns_io.specs.Around.{Around}
 use Rattle.dns_io.specs.Edge.{Rose, WasRead, WasLonger}
-use Rattle.dns_zone.specs.Zone.{Contents}
+use Rattle.dns_zone_map.specs.Zone.{Contents}
 use Rattle.dns_zone.specs.ZoneText.{zone_of}
 use Rattle.dns_zone.specs.declared.zone_text.ZoneTextKind.{ZoneTextKind}
 use Rattle.dns_zone.specs.declared.zone_text.ZoneTextFault.TheVariants.{Refused}
-use Rattle.dns_zone.specs.declared.replay.ReplayKind.TheVariants.{NotBuilt}
+use Rattle.dns_zone.specs.declared.not_built.ReplayKind.TheVariants.{NotBuilt}
 use Rattle.dns_server_core.specs.declared.event.Event.{Event}
 use Rattle.dns_book.specs.Opening.{HadNoRow, HadFirst}
 use Rattle.dns_program.specs.declared.status.Status.{Status}

@@ -1,6 +1,6 @@
 -- What the program was given, and what stands when it ended.
 use Rattle.std.specs.Prelude.{◌≡◌, ℕ, List}
-use Rattle.dns_journal.specs.declared.row.Row.{Row}
+use Rattle.dns_keeper.specs.declared.row.Row.{Row}
 use Rattle.dns_io.specs.Around.{Around, SinkAround}
 use Rattle.dns_io.specs.Edge.{Grows, IsHandedOn}
 

@@ -13,7 +13,7 @@ usage: dns events ORIGIN [--zone=PATH] [--deny=IP/PREFIX]... [--allow=IP/PREFIX]
 events reads the zone at ORIGIN from the file PATH, and event lines from standard input. It answers each
 message that comes in, and writes a line for each reply. Without --zone= the zone text is empty.
 
-ORIGIN is the name at the top of the zone. The zone text has one record a line: owner, TTL, IN, type, data.
+ORIGIN is the name at the top of the zone. The zone text is a master file (RFC 1035 5).
 Names in it are absolute, and the types are A, NS, CNAME, SOA and TXT.
 
 --deny= and --allow= name networks: the addresses that have the first PREFIX bits of IP, at most 32 or 128 of them.

@@ -16,7 +16,7 @@ use crate::output::put_text;
 use crate::run::run;
 use crate::status::{Ended, Status, after_writing};
 use dns_io::{FileSource, OutOfMemory, Reading, SystemClock, Writing};
-use dns_journal::MemoryKeeper;
+use dns_keeper::MemoryKeeper;
 use std::env;
 use std::fs::{self, File};
 use std::io::{self, BufWriter, Write};

@@ -4,7 +4,7 @@ ghost use Rattle.std.specs.Prelude.{◌≡◌, ◌<◌, ◌≤◌, ◌^◌, leng
 ghost use Rattle.dns_io.specs.Around.{around, around_sink};
 ghost use Rattle.dns_io.specs.Edge.{Keeps};
 ghost use Rattle.dns_name.specs.Name.{fold_of};
-ghost use Rattle.dns_zone.specs.Zone.{serial_of};
+ghost use Rattle.dns_zone_map.specs.Zone.{serial_of};
 ghost use Rattle.dns_book.specs.Opening.{HadNoRow, HadFirst};
 ghost use Rattle.dns_program.specs.declared.status.Status.TheVariants as status;
 ghost use Rattle.dns_program.specs.Lines.{output_lines};
@@ -19,7 +19,7 @@ use crate::output::{put_output, put_refusal};
 use crate::status::{Ended, Status, after_writing};
 use dns_book::{Book, OpenKind};
 use dns_io::{Clock, OutOfMemory, Sink, Source, read_to_end};
-use dns_journal::{KeepFault, Keeper};
+use dns_keeper::{KeepFault, Keeper};
 use dns_name::Name;
 use dns_server_core::{Event, Out, Server};
 use dns_zone::{ReplayKind, Zone, ZoneTextFault, read_zone};

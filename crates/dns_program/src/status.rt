@@ -140,7 +140,13 @@ fn zone_kind_text(kind: ZoneTextKind) -> &'static str
     ensures { result.now ≡ zone_kind_text kind }
 {
     match kind {
+        ZoneTextKind::Paren => "Paren",
+        ZoneTextKind::Quote => "Quote",
+        ZoneTextKind::Directive => "Directive",
+        ZoneTextKind::Name => "Name",
+        ZoneTextKind::Ttl => "Ttl",
         ZoneTextKind::RecordType => "Type",
+        ZoneTextKind::Data => "Data",
         ZoneTextKind::OutOfZone => "OutOfZone",
         ZoneTextKind::NotOneSoa => "NotOneSoa",
         ZoneTextKind::AliasBesideOther => "AliasBesideOther",

@@ -9,13 +9,13 @@ use Rattle.dns_server_core.specs.declared.connection.Connection.{Connection}
 use Rattle.dns_server_core.specs.Runs.{Completed}
 use Rattle.dns_server_core.specs.declared.event.Event.{Event}
 use Rattle.dns_server_core.specs.declared.event.Event.TheVariants.{Accepted, Bytes, Ended, Datagram, Tick, Stop}
-use Rattle.dns_net.specs.Frames.{Cut, frames}
+use Rattle.dns_frames.specs.Frames.{Cut, frames}
 use Rattle.dns_server_core.specs.Events.{moment, has_stop, is_stop}
 use Rattle.dns_server_core.specs.Valid.{StopIsLast}
 use Rattle.dns_server_core.specs.Connections.{is_safe, Arrival, Turn, Piece, Over, Other, turn_of, byte_events, is_ended, total, base, is_within, in_time, left_by, Start, completed_by, message_of, datagram_by, accepted, starts_in, starts, completed_at, done_from, left_at}
 use Rattle.dns_server_core.specs.Steps.{moved, heard, step, completed_now, open_next}
 use Rattle.dns_server_core.specs.Order.{IsRest}
-use Rattle.dns_net.proofs.Cutting.{frames-nil, frames-rest}
+use Rattle.dns_frames.proofs.Cutting.{frames-nil, frames-rest}
 use Rattle.dns_server_core.proofs.Pieces.{kept_by, pending, and_then, heard_by, pending-push, completed_by-is}
 
 abbrev pub later_by : Event → Start → Start

@@ -5,13 +5,13 @@ use Rattle.std.proofs.lemmas.Bool.{cond-true, cond-false, eqb-true, ne_eqb, eq-e
 use Rattle.dns_server_core.specs.declared.connection.Connection.{Connection}
 use Rattle.dns_server_core.specs.declared.event.Event.{Event}
 use Rattle.dns_server_core.specs.declared.event.Event.TheVariants.{Accepted, Bytes, Ended, Datagram, Tick, Stop}
-use Rattle.dns_net.specs.Frames.{Cut, frames}
+use Rattle.dns_frames.specs.Frames.{Cut, frames}
 use Rattle.dns_server_core.specs.Events.{number_in, last_number}
 use Rattle.dns_server_core.specs.Valid.{IsAbove, Rises}
 use Rattle.dns_server_core.specs.Connections.{is_safe, Arrival, Turn, Piece, Over, Other, turn_of, is_within, accepted, Kept}
 use Rattle.dns_server_core.specs.Steps.{moved, step, open_next, fed_by}
 use Rattle.dns_server_core.specs.Order.{IsRest, Climbs, IsUpTo, IsKept, next}
-use Rattle.dns_net.proofs.Cutting.{frames-rest, frames-nil}
+use Rattle.dns_frames.proofs.Cutting.{frames-rest, frames-nil}
 
 one : (P : Connection → Type 0) (o : Option Connection) (ks : List Connection) → ((l : Connection) → o ≡ Some l → P l) → AllByRecursion P ks → AllByRecursion P (cons_option o ks)
 one P None ks h a = a

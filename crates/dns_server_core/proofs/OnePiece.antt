@@ -3,7 +3,7 @@ use Rattle.std.proofs.Common.{◌≡◌, ◌≤◌, ◌<◌, ℕ, List, [], ◌�
 use Rattle.std.specs.Result.{OnErr, OnOk}
 use Rattle.std.proofs.lemmas.Bool.{cond-true, cond-false}
 use Rattle.dns_server_core.specs.declared.connection.Connection.{Connection}
-use Rattle.dns_net.specs.Frames.{Cut, frames, behind}
+use Rattle.dns_frames.specs.Frames.{Cut, frames, behind}
 use Rattle.dns_server_core.specs.Runs.{Completed}
 use Rattle.dns_server_core.specs.Connections.{Arrival, Piece, is_within, message_of}
 use Rattle.dns_server_core.specs.Steps.{base_by, fed_by, moved, heard}

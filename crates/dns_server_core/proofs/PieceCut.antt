@@ -3,8 +3,8 @@ use Rattle.std.proofs.Common.{◌≡◌, ◌≢◌, ◌<◌, ◌≤◌, ℕ, ◌
 use Rattle.std.specs.List.{filter_map, flat_map, AllByRecursion}
 use Rattle.std.proofs.lemmas.Bool.{le-leb, eqb-true, eqb-false, cond-true, cond-false}
 use Rattle.std.proofs.lemmas.Grind.{flat_map-append}
-use Rattle.dns_net.specs.Frames.{Cut, frames, ahead}
-use Rattle.dns_net.proofs.Cutting.{frames-more}
+use Rattle.dns_frames.specs.Frames.{Cut, frames, ahead}
+use Rattle.dns_frames.proofs.Cutting.{frames-more}
 use Rattle.dns_server_core.specs.declared.connection.Connection.{Connection}
 use Rattle.dns_server_core.specs.declared.event.Event.{Event}
 use Rattle.dns_server_core.specs.declared.event.Event.TheVariants.{Bytes}

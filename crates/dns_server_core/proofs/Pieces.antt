@@ -8,10 +8,10 @@ use Rattle.std.specs.List.{flat_map}
 use Rattle.std.specs.Option.{option_and_then}
 use Rattle.dns_server_core.specs.declared.connection.Connection.{Connection}
 use Rattle.dns_server_core.specs.declared.event.Event.{Event}
-use Rattle.dns_net.specs.Frames.{Cut, frames, ahead}
+use Rattle.dns_frames.specs.Frames.{Cut, frames, ahead}
 use Rattle.dns_server_core.specs.Connections.{Arrival, Turn, Piece, Over, Other, turn_of, heading, ending, byte_events, is_ended, total, whole, moment_at, base, is_within, in_time, completed, left_by, Start, completed_with, completed_by}
 use Rattle.dns_server_core.specs.Steps.{base_by, fed_by, moved, heard}
-use Rattle.dns_net.proofs.Cutting.{frames-more}
+use Rattle.dns_frames.proofs.Cutting.{frames-more}
 
 pub heading-append : (t : Turn) (xs ys : List Arrival) (ended : Bool) → ending t ended ≡ false → heading t (xs ++ ys) ≡ heading t xs ++ ys
 heading-append (Piece a) xs ys ended e = refl

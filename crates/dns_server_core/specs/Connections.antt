@@ -4,7 +4,7 @@ use Rattle.std.specs.Prelude.{ℕ, ◌+◌, List, [], ◌∷◌, ◌++◌, lengt
 use Rattle.std.specs.List.{flat_map, filter_map}
 use Rattle.dns_io.specs.declared.peer.Peer.{Peer}
 use Rattle.dns_io.specs.declared.peer.Protocol.TheVariants.{Udp, Tcp}
-use Rattle.dns_net.specs.Frames.{frames}
+use Rattle.dns_frames.specs.Frames.{frames}
 use Rattle.dns_server_core.specs.declared.event.Event.{Event}
 use Rattle.dns_server_core.specs.declared.event.Event.TheVariants.{Accepted, Bytes, Ended, Datagram, Tick, Stop}
 use Rattle.dns_server_core.specs.declared.event.Receiver.TheVariants as to

@@ -3,7 +3,7 @@ use Rattle.std.specs.Prelude.{◌≡◌, ◌<◌, ◌≤◌, ℕ, List, [], ◌�
 use Rattle.std.specs.List.{AllByRecursion, filter}
 use Rattle.dns_server_core.specs.declared.connection.Connection.{Connection}
 use Rattle.dns_server_core.specs.declared.event.Event.{Event}
-use Rattle.dns_net.specs.Frames.{frames}
+use Rattle.dns_frames.specs.Frames.{frames}
 use Rattle.dns_server_core.specs.Events.{moment, last_number, number_in, is_stop}
 use Rattle.dns_server_core.specs.Connections.{Kept, is_within}
 use Rattle.dns_server_core.specs.Steps.{open_next}

@@ -4,7 +4,7 @@ use Rattle.std.specs.List.{flat_map, filter_map}
 use Rattle.dns_server_core.specs.declared.event.Event.{Event}
 use Rattle.dns_server_core.specs.Runs.{Completed}
 use Rattle.dns_server_core.specs.declared.connection.Connection.{Connection}
-use Rattle.dns_net.specs.Frames.{frames, Cut}
+use Rattle.dns_frames.specs.Frames.{frames, Cut}
 use Rattle.dns_server_core.specs.Events.{moment}
 use Rattle.dns_server_core.specs.Connections.{Turn, Piece, Over, Other, turn_of, is_within, message_of, datagram_by, accepted}
 

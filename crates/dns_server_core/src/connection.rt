@@ -9,8 +9,8 @@ ghost use Rattle.dns_server_core.specs.declared.connection.Connection.{Connectio
 ghost use Rattle.dns_server_core.specs.declared.event.Event.TheVariants as event;
 
 use dns_book::sanitize_src_address;
+use dns_frames::Frames;
 use dns_io::{OutOfMemory, Peer};
-use dns_net::Frames;
 use std::alloc::Global;
 
 /// An open connection.

@@ -4,7 +4,7 @@ ghost use Rattle.std.specs.Prelude.{◌<◌, ◌≤◌, ◌^◌, length, IfOk, O
 
 use dns_book::{AccessControl, Ask, Book, Settled};
 use dns_io::OutOfMemory;
-use dns_journal::Keeper;
+use dns_keeper::Keeper;
 
 /// What settles messages.
 pub(crate) trait RequestHandler {

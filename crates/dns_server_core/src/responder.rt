@@ -2,7 +2,7 @@
 
 ghost use Rattle.std.specs.Prelude.{◌≡◌, ◌<◌, ◌≤◌, ◌^◌, ◌∷◌, [], ◌++◌, length, IfOk, OnOk, OnErr, Some, None, if◌then◌else◌, vec_len};
 ghost use Rattle.std.specs.Vec.{vec_capacity};
-ghost use Rattle.dns_net.specs.Frames.{frames};
+ghost use Rattle.dns_frames.specs.Frames.{frames};
 ghost use Rattle.dns_server_core.specs.Connections.{datagram_by};
 ghost use Rattle.dns_server_core.specs.Runs.{outs_of, sent_to};
 ghost use Rattle.dns_server_core.specs.Steps.{moved, fed_by, piece_at, unread_messages, heard_messages};

@@ -1,7 +1,7 @@
 //! A server over lists of events.
 
 ghost use Rattle.std.specs.Prelude.{◌≡◌, ◌↔◌, ◌++◌, ◌∷◌, ℕ, List, length, [], OnOk, IfErr, true, false};
-ghost use Rattle.dns_zone.specs.Zone.{serial_of};
+ghost use Rattle.dns_zone_map.specs.Zone.{serial_of};
 ghost use Rattle.dns_book.specs.Book.{SeenOf, Settles, HasRows};
 ghost use Rattle.dns_server_core.specs.Valid.{Valid};
 ghost use Rattle.dns_server_core.specs.Connections.{new_kept, done, after};
@@ -19,7 +19,7 @@ use crate::sessions::Sessions;
 use dns_book::{AccessControl, Book, IpNet};
 use dns_counts::Counts;
 use dns_io::OutOfMemory;
-use dns_journal::Keeper;
+use dns_keeper::Keeper;
 use std::alloc::Global;
 use std::marker::Model;
 

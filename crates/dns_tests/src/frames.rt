@@ -1,6 +1,6 @@
 //! Streams that come in pieces. What is expected is written down by hand from RFC 1035 4.2.2.
 
-use dns_net::*;
+use dns_frames::*;
 use std::test::Fail;
 
 /// Feeds the stream in pieces of this size, and gives each message, with a `;` behind it, and the number of bytes that are

@@ -1,10 +1,8 @@
-//! Tests of the libraries by their public calls: vectors from outside, printed texts, and that calls succeed with ample
+//! Tests of the lower libraries by their public calls: vectors from outside, printed texts, and that calls succeed with ample
 //! memory. They stand in a crate of their own, since a crate with tests is proved once more for them. What the program's
 //! words and event lines reach is a case in checks/cases instead.
 #![tactic(auto)]
 
-#[cfg(test)]
-mod book;
 #[cfg(test)]
 mod counts;
 #[cfg(test)]
@@ -12,10 +10,6 @@ mod frames;
 #[cfg(test)]
 mod io;
 #[cfg(test)]
-mod journal;
-#[cfg(test)]
 mod name;
-#[cfg(test)]
-mod server;
 #[cfg(test)]
 mod wire;

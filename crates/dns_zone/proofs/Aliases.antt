@@ -7,7 +7,7 @@ use Rattle.dns_zone.specs.declared.look.Look.{Look}
 use Rattle.dns_zone.specs.declared.look.Look.TheVariants.{Referral, NoName, Alias, Found, NoData}
 use Rattle.dns_zone.specs.declared.lookup.Chain.{Chain}
 use Rattle.dns_zone.specs.declared.lookup.Looked.{Looked}
-use Rattle.dns_zone.specs.Zone.{Contents}
+use Rattle.dns_zone_map.specs.Zone.{Contents}
 use Rattle.dns_zone.specs.Look.{look_of, only_if}
 use Rattle.dns_zone.specs.Lookup.{target_of, targets, next_look, unless_asked, asked_along, ahead, behind, onward, next_of, answered, followed, chain_of, is_own, lookup_of, chain_from, limited}
 

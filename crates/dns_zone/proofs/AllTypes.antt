@@ -1,9 +1,8 @@
 -- The records of all types, as they are gathered from one type that there is to the next.
 use Rattle.std.proofs.Common.{◌≡◌, ℕ, ◌+◌, ◌-◌, ◌<◌, ◌≤◌, zero, suc, List, [], ◌++◌, refl, sym, ap, ◌∙◌, arith, append_assoc, append-nil}
 use Rattle.dns_wire.specs.declared.record.Record.{Record}
-use Rattle.dns_zone.specs.declared.sets.Owner.{Owner}
-use Rattle.dns_zone.specs.Zone.{set_of}
-use Rattle.dns_zone.specs.Look.{found_set, found_from}
+use Rattle.dns_zone_map.specs.Zone.{set_of}
+use Rattle.dns_zone.specs.Look.{Owner, found_set, found_from}
 
 none_found : (records : List Record) (owner : Owner) (rtype : ℕ) → set_of records owner.name rtype ≡ [] → found_set records owner rtype ≡ []
 none_found records owner rtype none = rw none refl

@@ -1,35 +1,23 @@
--- A record that was placed leaves records that may become those of a zone.
-use Rattle.std.proofs.Common.{◌≡◌, ℕ, List, [], ◌∷◌, Bool, true, false, not, ◌==◌, ◌&&◌, ◌||◌, if◌then◌else◌, Option, Some, None, Ok, Err, refl, sym, ap, ◌∙◌, subst, arith}
+-- A record that may stand beside others is put in the place of its rival.
+use Rattle.std.proofs.Common.{◌≡◌, ℕ, List, [], ◌∷◌, Bool, true, false, not, ◌==◌, ◌&&◌, ◌||◌, if◌then◌else◌, Result, Ok, Err, refl, sym, ap, ◌∙◌, arith}
 use Rattle.std.specs.List.{AllByRecursion, IsDistinct, list_any}
 use Rattle.std.proofs.lemmas.Bool.Decides.{Decides-eqb}
 use Rattle.dns_wire.specs.declared.record.Record.{Record}
 use Rattle.dns_name.specs.Name.{is_same_name, is_at_or_below}
-use Rattle.dns_zone.specs.Folds.{data_eq}
-use Rattle.dns_zone.specs.Zone.{is_type, is_equal, is_rival, IsEntry, IsSoFar}
-use Rattle.dns_zone.specs.declared.zone_text.ZoneTextKind.TheVariants.{OutOfZone, NotOneSoa, AliasBesideOther}
-use Rattle.dns_presentation.specs.Entries.{entry_of}
-use Rattle.dns_zone.specs.ZoneText.{is_beside_alias, put_in, placed, placed_entry}
-use Rattle.dns_zone.proofs.Readings.{IsRead, IsRead-entry_of}
-use Rattle.dns_zone.proofs.Rivals.{put_over, distinct_put}
-
--- where a record may be placed, and what comes of it
-pub record IsPlaced (origin : List (List ℕ)) (records : List Record) (r : Record) (more : List Record) : Type 0 where
-  pub within : is_at_or_below r.name origin ≡ true
-  pub soa : (is_type 6 r && (not (is_same_name r.name origin) || list_any (is_type 6) records)) ≡ false
-  pub alias : list_any (is_beside_alias r) records ≡ false
-  pub put : more ≡ put_in records r
-
-choices : (out soa alias : Bool) (more put : List Record) → (if not out then Err OutOfZone else if soa then Err NotOneSoa else if alias then Err AliasBesideOther else Ok put) ≡ Ok more → (out ≡ true) × (soa ≡ false) × (alias ≡ false) × (more ≡ put)
-choices false soa alias more put ok = absurd cc
-choices true true alias more put ok = absurd cc
-choices true false true more put ok = absurd cc
-choices true false false more put ok = let same : put ≡ more = cc in (refl, refl, refl, sym same)
-
-pub IsPlaced-ok : (origin : List (List ℕ)) (records : List Record) (r : Record) (more : List Record) → placed origin records r ≡ Ok more → IsPlaced origin records r more
-unfolding placed
-IsPlaced-ok origin records r more ok =
-    let parts = choices (is_at_or_below r.name origin) (is_type 6 r && (not (is_same_name r.name origin) || list_any (is_type 6) records)) (list_any (is_beside_alias r) records) more (put_in records r) ok in
-    record { within = parts.0; soa = parts.1; alias = parts.2; put = parts.3 }
+use Rattle.dns_zone_map.specs.Folds.{data_eq}
+use Rattle.dns_zone_map.specs.Zone.{is_type, is_equal, is_rival, IsEntry, IsSoFar}
+use Rattle.dns_presentation.specs.declared.fault.EntryKind.{EntryKind}
+use Rattle.dns_presentation.specs.declared.entry.Context.{Context}
+use Rattle.dns_presentation.specs.declared.entry.Entry.{Entry}
+use Rattle.dns_presentation.specs.LogicalLines.{LogicalLine}
+use Rattle.dns_presentation.specs.Entries.{entry_of, first_context}
+use Rattle.dns_name.specs.Name.{IsName, fold_of}
+use Rattle.dns_name.proofs.Lengths.{length_name_bytes}
+use Rattle.dns_zone.specs.Contexts.{IsSound}
+use Rattle.dns_zone.proofs.Entering.{IsEntered-entry_of, IsSound-after}
+use Rattle.dns_zone.specs.ZoneText.{is_beside_alias, put_in, placed, placed_entry, context_behind, after_line, records_from}
+use Rattle.dns_zone_map.specs.Changes.{put_over}
+use Rattle.dns_zone.proofs.Readings.{IsRead}
 
 -- no test passes
 either : (a b : Bool) → (a || b) ≡ false → (a ≡ false) × (b ≡ false)
@@ -85,26 +73,28 @@ put_in-over r (s ∷ records) equal =
     ap (λ others. if is_equal r s then r ∷ records else s ∷ others) (put_in-over r records equal.1)
     ∙ ap (λ test. if test then r ∷ records else s ∷ put_over (is_rival r) r records) (sym equal.0)
 
-all_if : (P : Record → Type 0) (test : Bool) (r s : Record) (records others : List Record) → P r → P s → AllByRecursion P records → AllByRecursion P others → AllByRecursion P (if test then r ∷ records else s ∷ others)
-all_if P true r s records others new old rest put = (new, rest)
-all_if P false r s records others new old rest put = (old, put)
-
--- what holds of a record and of others holds of them when the record came to them
-all_put : (P : Record → Type 0) (r : Record) (records : List Record) → P r → AllByRecursion P records → AllByRecursion P (put_in records r)
-all_put P r [] new all = (new, tt)
-all_put P r (s ∷ records) new all = all_if P (is_equal r s) r s records (put_in records r) new all.0 all.1 (all_put P r records new all.1)
+-- a record that is put in the place of its rival is placed
+pub placed_over : (origin : List (List ℕ)) (records : List Record) (r : Record) (more : List Record) → is_at_or_below r.name origin ≡ true
+    → (is_type 6 r && (not (is_same_name r.name origin) || list_any (is_type 6) records)) ≡ false → list_any (is_beside_alias r) records ≡ false
+    → more ≡ put_over (is_rival r) r records → placed origin records r ≡ Ok more
+unfolding placed
+placed_over origin records r more within soa alias put =
+    let soas = soa_apart (is_type 6 r) (not (is_same_name r.name origin)) (list_any (is_type 6) records) r records refl refl soa in
+    let aliases = none_of (is_beside_alias r) records alias in
+    let over : put_in records r ≡ more = put_in-over r records (rivals_equal r records soas aliases) ∙ sym put in
+    rw (within, soa, alias, over) refl
 
 -- an SOA that may be placed is at the origin
-at_origin : (soa same any : Bool) → (soa && (not same || any)) ≡ false → soa ≡ true → same ≡ true
+pub at_origin : (soa same any : Bool) → (soa && (not same || any)) ≡ false → soa ≡ true → same ≡ true
 at_origin false same any none is = absurd cc
 at_origin true true any none is = refl
 at_origin true false any none is = absurd cc
 
--- an entry that was placed
-entry_of_placed : (origin : List (List ℕ)) (records : List Record) (r : Record) (more : List Record) → IsRead r → IsPlaced origin records r more → IsEntry origin r
-entry_of_placed origin records r more read placed = record {
-  within = placed.within;
-  soa = at_origin (is_type 6 r) (is_same_name r.name origin) (list_any (is_type 6) records) placed.soa;
+-- a record that was read is an entry of a zone where it may stand there
+pub IsEntry-read : (origin : List (List ℕ)) (r : Record) → IsRead r → is_at_or_below r.name origin ≡ true → (is_type 6 r ≡ true → is_same_name r.name origin ≡ true) → IsEntry origin r
+IsEntry-read origin r read within soa = record {
+  within = within;
+  soa = soa;
   class = read.class;
   plain = read.plain;
   form = read.form;
@@ -114,29 +104,29 @@ entry_of_placed origin records r more read placed = record {
   names = read.names;
 }
 
-distinct_placed : (origin : List (List ℕ)) (records : List Record) (r : Record) (more : List Record) → IsPlaced origin records r more → IsDistinct is_rival records → IsDistinct is_rival (put_in records r)
-distinct_placed origin records r more placed distinct =
-    let soas = soa_apart (is_type 6 r) (not (is_same_name r.name origin)) (list_any (is_type 6) records) r records refl refl placed.soa in
-    let aliases = none_of (is_beside_alias r) records placed.alias in
-    subst (IsDistinct is_rival) (sym (put_in-over r records (rivals_equal r records soas aliases))) (distinct_put r records distinct)
-
--- an entry that is placed leaves records that may become those of a zone
-pub IsSoFar-placed : (origin : List (List ℕ)) (records : List Record) (r : Record) (more : List Record) → IsRead r → placed origin records r ≡ Ok more → IsSoFar origin records → IsSoFar origin more
-IsSoFar-placed origin records r more read ok before =
-    let placed = IsPlaced-ok origin records r more ok in
-    let after : IsSoFar origin (put_in records r) = record {
-      entries = all_put (IsEntry origin) r records (entry_of_placed origin records r more read placed) before.entries;
-      distinct = distinct_placed origin records r more placed before.distinct;
-    } in
-    subst (IsSoFar origin) (sym placed.put) after
-
--- so does a line that is taken
-pub IsSoFar-placed_entry : (origin : List (List ℕ)) (records : List Record) (line : List ℕ) (more : List Record) → placed_entry origin records (entry_of line) ≡ Ok more → IsSoFar origin records → IsSoFar origin more
-IsSoFar-placed_entry origin records line more ok before = by_entry (entry_of line) refl ok
+-- names behind it stay in small letters, and short
+pub IsSound-behind : (context : Context) (line : LogicalLine) → IsSound context → IsSound (context_behind context (entry_of context line))
+IsSound-behind context line sound = by_entry (entry_of context line) refl
   where
-    by_entry : (entry : Option Record) → entry_of line ≡ entry → placed_entry origin records entry ≡ Ok more → IsSoFar origin more
-    by_entry None is ok = absurd cc
-    by_entry (Some r) is ok = IsSoFar-placed origin records r more (IsRead-entry_of line r is) ok before
+    by_entry : (found : Result Entry EntryKind) → entry_of context line ≡ found → IsSound (context_behind context found)
+    by_entry (Err kind) is = sound
+    by_entry (Ok one) is = IsSound-after context one sound (IsEntered-entry_of context line one sound is)
+
+-- the records behind a logical line that is taken
+pub records_step : (origin : List (List ℕ)) (context : Context) (records more : List Record) (line : LogicalLine) (lines : List LogicalLine) → placed_entry origin records (entry_of context line) ≡ Ok more
+    → records_from origin context records (line ∷ lines) ≡ records_from origin (context_behind context (entry_of context line)) more lines
+records_step origin context records more line lines ok =
+    ap (λ found. after_line line.number found (λ more. records_from origin (context_behind context (entry_of context line)) more lines)) ok
+
+-- names at the beginning of a text
+pub IsSound-first : (origin : List (List ℕ)) → fold_of origin ≡ origin → IsName origin → IsSound (first_context origin)
+IsSound-first origin folded name = record {
+  origin = record {
+    folded = folded;
+    short = omega (arith, length_name_bytes origin, name.short);
+  };
+  owner = tt;
+}
 
 -- no records may become those of a zone
 pub IsSoFar-none : (origin : List (List ℕ)) → IsSoFar origin []

@@ -3,7 +3,7 @@ use Rattle.std.proofs.Common.{ℕ, List, [], ◌∷◌}
 use Rattle.std.specs.List.{AllByRecursion}
 use Rattle.dns_wire.specs.declared.record.Record.{Record}
 use Rattle.dns_wire.specs.WireFormat.{AreShort}
-use Rattle.dns_zone.specs.Zone.{IsEntry}
+use Rattle.dns_zone_map.specs.Zone.{IsEntry}
 
 -- the records of a zone have short data
 pub AreShort-entries : (origin : List (List ℕ)) (rs : List Record) → AllByRecursion (IsEntry origin) rs → AreShort rs

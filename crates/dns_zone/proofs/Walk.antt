@@ -1,12 +1,13 @@
 -- The walks along the labels of a name: to its topmost cut, and to its closest encloser.
-use Rattle.std.proofs.Common.{◌≡◌, ℕ, zero, suc, ◌+◌, ◌-◌, ◌<◌, ◌≤◌, List, [], ◌∷◌, length, drop, map, refl, sym, ap, ◌∙◌, subst, arith, Bool, true, false, length-drop, add-one}
+use Rattle.std.proofs.Common.{◌≡◌, ℕ, zero, suc, ◌+◌, ◌-◌, ◌<◌, ◌≤◌, List, [], ◌∷◌, length, drop, map, refl, ap, ◌∙◌, arith, Bool, true, false, length-drop}
 use Rattle.std.specs.Prelude.{None, Some, ◌&&◌, nat_lt, nat_le}
 use Rattle.std.proofs.lemmas.List.{drop-drop}
 use Rattle.std.proofs.lemmas.Bool.Decides.{nat_tests}
 use Rattle.dns_name.specs.Name.{is_at_or_below, is_strictly_below}
 use Rattle.dns_wire.specs.declared.record.Record.{Record}
-use Rattle.dns_zone.specs.Zone.{Contents}
-use Rattle.dns_zone.specs.Look.{is_cut, owns_type, topmost, nearest, given}
+use Rattle.dns_zone_map.specs.Zone.{Contents}
+use Rattle.dns_zone_map.specs.Existence.{owns_type}
+use Rattle.dns_zone.specs.Look.{is_cut, topmost, given}
 
 -- records that are given no other owner
 pub given_none : (rs : List Record) → map (given None) rs ≡ rs
@@ -49,45 +50,14 @@ no_cut_above zone (label ∷ above) few =
     let a : nat_lt (length zone.origin) (suc (length above)) ≡ false = le-not _ _ few in
     rw (no_cut_above zone above (omega arith), a) refl
 
-none_here : (test : List (List ℕ) → Bool) (name : List (List ℕ)) (k : ℕ) → k < length name → topmost test (drop (suc k) name) ≡ None → test (drop k name) ≡ false → topmost test (drop k name) ≡ None
+-- a name that is no cut, below no cut
+pub none_here : (test : List (List ℕ) → Bool) (name : List (List ℕ)) (k : ℕ) → k < length name → topmost test (drop (suc k) name) ≡ None → test (drop k name) ≡ false → topmost test (drop k name) ≡ None
 none_here test [] k h none n = absurd (omega arith)
 none_here test (l ∷ ls) zero h none n = rw (none, n) refl
 none_here test (l ∷ ls) (suc k) h none n = none_here test ls k (omega arith) none n
 
-found_here : (test : List (List ℕ) → Bool) (name : List (List ℕ)) (k : ℕ) → k < length name → topmost test (drop (suc k) name) ≡ None → test (drop k name) ≡ true → topmost test name ≡ Some (drop k name)
+-- the first cut that is met
+pub found_here : (test : List (List ℕ) → Bool) (name : List (List ℕ)) (k : ℕ) → k < length name → topmost test (drop (suc k) name) ≡ None → test (drop k name) ≡ true → topmost test name ≡ Some (drop k name)
 found_here test [] k h none y = absurd (omega arith)
 found_here test (l ∷ ls) zero h none y = rw (none, y) refl
 found_here test (l ∷ ls) (suc k) h none y = rw (found_here test ls k (omega arith) none y) refl
-
--- the walk from the origin down: no cut so far
-pub topmost_next : (test : List (List ℕ) → Bool) (name : List (List ℕ)) (count labels : ℕ) → count ≡ length name → labels < count
-    → topmost test (drop (length name - labels) name) ≡ None → test (drop (count - labels - 1) name) ≡ false → topmost test (drop (length name - (labels + 1)) name) ≡ None
-topmost_next test name count labels is h none n =
-    let s : length name - labels ≡ suc (count - labels - 1) = omega arith in
-    let f : length name - (labels + 1) ≡ count - labels - 1 = omega arith in
-    rw f (none_here test name (count - labels - 1) (omega arith) (subst (λ i. topmost test (drop i name) ≡ None) s none) n)
-
--- the first one that is met
-pub topmost_found : (test : List (List ℕ) → Bool) (name : List (List ℕ)) (count labels : ℕ) → count ≡ length name → labels < count
-    → topmost test (drop (length name - labels) name) ≡ None → test (drop (count - labels - 1) name) ≡ true → Some (drop (count - labels - 1) name) ≡ topmost test name
-topmost_found test name count labels is h none y =
-    let s : length name - labels ≡ suc (count - labels - 1) = omega arith in
-    sym (found_here test name (count - labels - 1) (omega arith) (subst (λ i. topmost test (drop i name) ≡ None) s none) y)
-
-next_here : (test : List (List ℕ) → Bool) (name : List (List ℕ)) (k : ℕ) → k < length name → test (drop (suc k) name) ≡ false → nearest test (drop (suc k) name) ≡ nearest test (drop k name)
-next_here test [] k h n = absurd (omega arith)
-next_here test (l ∷ ls) zero h n = rw n refl
-next_here test (l ∷ ls) (suc k) h n = next_here test ls k (omega arith) n
-
-nearest_here : (test : List (List ℕ) → Bool) (name : List (List ℕ)) (k : ℕ) → k < length name → test (drop (suc k) name) ≡ true → Some (drop (suc k) name) ≡ nearest test (drop k name)
-nearest_here test [] k h y = absurd (omega arith)
-nearest_here test (l ∷ ls) zero h y = rw y refl
-nearest_here test (l ∷ ls) (suc k) h y = nearest_here test ls k (omega arith) y
-
--- the walk from a name up: what is above does not pass
-pub nearest_next : (test : List (List ℕ) → Bool) (name : List (List ℕ)) (k : ℕ) → k < length name → test (drop (k + 1) name) ≡ false → nearest test (drop (k + 1) name) ≡ nearest test (drop k name)
-nearest_next test name k h n = rw add-one (next_here test name k h (rw add-one at n))
-
--- or it does
-pub nearest_found : (test : List (List ℕ) → Bool) (name : List (List ℕ)) (k : ℕ) → k < length name → test (drop (k + 1) name) ≡ true → Some (drop (k + 1) name) ≡ nearest test (drop k name)
-nearest_found test name k h y = rw add-one (nearest_here test name k h (rw add-one at y))

@@ -1,6 +1,10 @@
-pub mod Folds
-pub mod Zone
 pub mod ZoneText
-pub mod View
 pub mod Look
 pub mod Lookup
+pub mod Lent
+pub mod Descent
+pub mod Beside
+pub mod Contexts
+pub mod Updates
+pub mod Replayed
+pub mod Replaying

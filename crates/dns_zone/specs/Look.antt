@@ -1,26 +1,14 @@
 -- One look at a zone: the cut of a name, its closest encloser, and the records that answer for it (RFC 1034 4.3.2,
 -- RFC 4592 3.3).
 use Rattle.std.specs.Prelude.{◌≡◌, ◌≤◌, ◌<◌, ◌++◌, ℕ, ◌+◌, zero, suc, Bool, true, false, not, ◌==◌, ◌&&◌, ◌||◌, if◌then◌else◌, List, [], ◌∷◌, length, map, Option, Some, None}
-use Rattle.std.specs.List.{list_any, flat_map}
-use Rattle.dns_name.specs.Name.{fold_of, is_same_name, is_at_or_below, is_strictly_below}
+use Rattle.std.specs.List.{flat_map}
+use Rattle.dns_name.specs.Name.{fold_of, is_same_name, is_strictly_below}
 use Rattle.dns_wire.specs.declared.record.Record.{Record}
 use Rattle.dns_wire.specs.declared.record_type.TheConstants.{NS, CNAME, DS, ANY}
-use Rattle.dns_zone.specs.Zone.{Contents, is_in_set, set_of}
-use Rattle.dns_zone.specs.declared.sets.Owner.{Owner}
+use Rattle.dns_zone_map.specs.Zone.{Contents, set_of}
+use Rattle.dns_zone_map.specs.Existence.{owns_type, exists}
 use Rattle.dns_zone.specs.declared.look.Look.{Look}
 use Rattle.dns_zone.specs.declared.look.Look.TheVariants.{Referral, NoName, Alias, Found, NoData}
-
--- the name owns a record of the type
-abbrev pub owns_type : List Record → List (List ℕ) → ℕ → Bool
-owns_type records name rtype = list_any (is_in_set name rtype) records
-
--- the record is of the name, or of one below it
-abbrev pub is_at_or_under : List (List ℕ) → Record → Bool
-is_at_or_under name r = is_at_or_below r.name name
-
--- a name exists where it or a name below it owns a record (RFC 4592 2.2.2)
-abbrev pub exists : List Record → List (List ℕ) → Bool
-exists records name = list_any (is_at_or_under name) records
 
 -- a name strictly below the origin that owns NS (RFC 1034 4.2)
 abbrev pub is_cut : Contents → List (List ℕ) → Bool
@@ -65,6 +53,12 @@ star_under name = (42 ∷ []) ∷ name
 -- the nearest name above a name that exists (RFC 4592 3.3.1)
 abbrev pub closest_encloser : List Record → List (List ℕ) → Option (List (List ℕ))
 closest_encloser records name = nearest (exists records) name
+
+-- who answers for a name: the owner of the records, and the name that they are given as their owner where they are a wildcard's
+-- (RFC 4592 3.3.2)
+pub record Owner : Type 0 where
+  pub name : List (List ℕ)
+  pub synthesized : Option (List (List ℕ))
 
 abbrev pub wildcard_under : List Record → List (List ℕ) → Option (List (List ℕ)) → Option Owner
 wildcard_under records name None = None

@@ -7,7 +7,7 @@ use Rattle.dns_wire.specs.declared.rdata.Data.TheVariants.{Cname, Soa}
 use Rattle.dns_wire.specs.declared.record.Record.{Record}
 use Rattle.dns_wire.specs.declared.record_type.TheConstants.{SOA}
 use Rattle.dns_wire.specs.declared.response_code.TheConstants.{NO_ERROR, NX_DOMAIN}
-use Rattle.dns_zone.specs.Zone.{Contents, set_of}
+use Rattle.dns_zone_map.specs.Zone.{Contents, set_of}
 use Rattle.dns_zone.specs.Look.{only_if, look_of}
 use Rattle.dns_zone.specs.declared.look.Look.{Look}
 use Rattle.dns_zone.specs.declared.look.Look.TheVariants.{Referral, NoName, Alias, Found, NoData}

@@ -1,18 +1,23 @@
 -- The records of a zone's text, or the first fault in it (RFC 1035 5).
-use Rattle.std.specs.Prelude.{◌≡◌, ℕ, ◌+◌, Bool, not, ◌&&◌, ◌||◌, if◌then◌else◌, List, [], ◌∷◌, Option, Some, None, Result, Ok, Err}
+use Rattle.std.specs.Prelude.{◌≡◌, ℕ, Bool, not, ◌&&◌, ◌||◌, if◌then◌else◌, List, [], ◌∷◌, Result, Ok, Err}
 use Rattle.std.specs.List.{list_any}
 use Rattle.dns_wire.specs.declared.record.Record.{Record}
 use Rattle.dns_name.specs.Name.{is_same_name, is_at_or_below}
 use Rattle.dns_zone.specs.declared.zone_text.ZoneTextKind.{ZoneTextKind}
-use Rattle.dns_zone.specs.declared.zone_text.ZoneTextKind.TheVariants.{RecordType, OutOfZone, NotOneSoa, AliasBesideOther}
+use Rattle.dns_zone.specs.declared.zone_text.ZoneTextKind.TheVariants.{Paren, Quote, Directive, Name, Ttl, RecordType, Data, OutOfZone, NotOneSoa, AliasBesideOther}
 use Rattle.dns_zone.specs.declared.zone_text.ZoneTextFault.{ZoneTextFault}
 use Rattle.dns_zone.specs.declared.zone_text.ZoneTextFault.TheVariants.{Refused, OutOfMemory}
 use Rattle.dns_zone.specs.declared.zone_text.LineFault.{LineFault}
 use Rattle.dns_zone.specs.declared.zone_text.LineFault.TheVariants.{Kind, OutOfMemory as NoMemory}
 use Rattle.dns_wire.specs.declared.record_type.TheConstants.{CNAME, SOA}
-use Rattle.dns_zone.specs.Zone.{is_type, is_equal}
-use Rattle.dns_presentation.specs.Lines.{lines_of}
-use Rattle.dns_presentation.specs.Entries.{entry_of}
+use Rattle.dns_zone_map.specs.Zone.{is_type, is_equal}
+use Rattle.dns_presentation.specs.declared.fault.EntryKind.{EntryKind}
+use Rattle.dns_presentation.specs.declared.fault.EntryKind.TheVariants as kind
+use Rattle.dns_presentation.specs.declared.entry.Context.{Context}
+use Rattle.dns_presentation.specs.declared.entry.Entry.{Entry}
+use Rattle.dns_presentation.specs.declared.entry.Entry.TheVariants as entry
+use Rattle.dns_presentation.specs.LogicalLines.{LogicalLine, logical_lines}
+use Rattle.dns_presentation.specs.Entries.{entry_of, first_context, context_after}
 
 -- one of the two records of a name is an alias: a CNAME beside another type, or beside a CNAME with another target
 abbrev pub is_beside_alias : Record → Record → Bool
@@ -32,10 +37,30 @@ placed origin records r =
     else if list_any (is_beside_alias r) records then Err AliasBesideOther
     else Ok (put_in records r)
 
--- the records with that of one more line, or why the line is refused
-abbrev pub placed_entry : List (List ℕ) → List Record → Option Record → Result (List Record) ZoneTextKind
-placed_entry origin records None = Err RecordType
-placed_entry origin records (Some r) = placed origin records r
+-- what is wrong with an entry
+abbrev pub kind_of : EntryKind → ZoneTextKind
+kind_of kind.Paren = Paren
+kind_of kind.Quote = Quote
+kind_of kind.Directive = Directive
+kind_of kind.Name = Name
+kind_of kind.Ttl = Ttl
+kind_of kind.RecordType = RecordType
+kind_of kind.Data = Data
+
+-- the records with that of one more entry, if it is a record, or why it is refused
+abbrev pub entered : List (List ℕ) → List Record → Entry → Result (List Record) ZoneTextKind
+entered origin records (entry.Record r stated) = placed origin records r
+entered origin records other = Ok records
+
+-- the records with what one more logical line says, or why it is refused
+abbrev pub placed_entry : List (List ℕ) → List Record → Result Entry EntryKind → Result (List Record) ZoneTextKind
+placed_entry origin records (Err kind) = Err (kind_of kind)
+placed_entry origin records (Ok one) = entered origin records one
+
+-- what holds behind a logical line
+abbrev pub context_behind : Context → Result Entry EntryKind → Context
+context_behind context (Err kind) = context
+context_behind context (Ok one) = context_after context one
 
 -- the records at the end of the text, among which there is an SOA
 unfoldable pub finished : List Record → Result (List Record) ZoneTextFault
@@ -46,15 +71,16 @@ abbrev pub after_line : ℕ → Result (List Record) ZoneTextKind → (List Reco
 after_line number (Ok records) more = more records
 after_line number (Err kind) more = Err (Refused number kind)
 
--- the records behind these, of lines that are counted from this number on
-abbrev pub records_from : List (List ℕ) → ℕ → List Record → List (List ℕ) → Result (List Record) ZoneTextFault
-records_from origin number records [] = finished records
-records_from origin number records (line ∷ lines) =
-    after_line number (placed_entry origin records (entry_of line)) (λ more. records_from origin (number + 1) more lines)
+-- the records behind these, of logical lines in a context
+abbrev pub records_from : List (List ℕ) → Context → List Record → List LogicalLine → Result (List Record) ZoneTextFault
+records_from origin context records [] = finished records
+records_from origin context records (line ∷ lines) =
+    after_line line.number (placed_entry origin records (entry_of context line))
+    (λ more. records_from origin (context_behind context (entry_of context line)) more lines)
 
 -- the records of the zone that has this origin and this text
 abbrev pub zone_of : List (List ℕ) → List ℕ → Result (List Record) ZoneTextFault
-zone_of origin text = records_from origin 1 [] (lines_of text)
+zone_of origin text = records_from origin (first_context origin) [] (logical_lines 1 text)
 
 -- why one line was not taken
 abbrev pub TellsKind : Result (List Record) ZoneTextKind → LineFault → Type 0

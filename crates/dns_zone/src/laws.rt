@@ -1,7 +1,7 @@
 //! What the definitions of a lookup say: each law is a call that does nothing and whose contract is the law.
 
 ghost use Rattle.std.specs.Prelude.{◌≡◌, ◌≤◌, ◌↔◌, ℕ, List, [], Bool, true, false, None, Some, length};
-ghost use Rattle.dns_zone.specs.Zone.{Contents};
+ghost use Rattle.dns_zone_map.specs.Zone.{Contents};
 ghost use Rattle.dns_zone.specs.Look.{topmost, nearest, look_of, IsTopmost, IsNearest, PassesNowhere, PassesNowhereAbove};
 ghost use Rattle.dns_zone.specs.Lookup.{answered, chain_from, limited};
 

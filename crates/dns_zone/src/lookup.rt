@@ -1,18 +1,16 @@
 //! What a question is answered with (RFC 1034 4.3.2, RFC 2308 3, RFC 6604).
 
-ghost use Rattle.std.specs.Prelude.{◌≡◌, ◌≤◌, ◌&&◌, not, true, [], IfOk, option_to_list};
+ghost use Rattle.std.specs.Prelude.{◌≡◌, ◌≤◌, ◌&&◌, not, true, [], map, IfOk, option_to_list};
 ghost use Rattle.std.specs.List.{list_any};
 ghost use Rattle.dns_name.specs.Name.{is_same_name, is_at_or_below};
 ghost use Rattle.dns_zone.specs.Look.{look_of};
 ghost use Rattle.dns_zone.specs.Lookup.{negative_ttl, negative, negative_soa, target_of, targets, asked_along, next_look, ahead, answered, followed, is_own, lookup_of};
 
+use crate::lent::{LentRecord, LentRecords};
 use crate::look::{Look, look_of};
-use crate::sets::is_in_set;
-use crate::view::NameView;
 use crate::zone::Zone;
 use dns_io::OutOfMemory;
 use dns_name::Name;
-use dns_wire::record_type::SOA;
 use dns_wire::response_code::{NO_ERROR, NX_DOMAIN};
 use dns_wire::{Data, Question, Record, Records};
 use std::alloc::Global;
@@ -55,7 +53,7 @@ impl Zone {
         let name = &question.name;
         let look = look_of(alloc, self, name, question.qtype)?;
         let aa = is_own(&look);
-        let aliases = Records::new(alloc);
+        let aliases = Vec::new(alloc);
         let chain = follow(alloc, MORE_NAMES, self, name, question.qtype, look, aliases)?;
         Ok(Looked {
             code: chain.code,
@@ -76,42 +74,42 @@ fn is_own(look: &Look) -> bool
 }
 
 /// The answer behind aliases, where `more` further names may be asked.
-fn follow(
+fn follow<'a>(
     alloc: Global,
     more: u32,
-    zone: &Zone,
+    zone: &'a Zone,
     first: &Name,
     rtype: u16,
-    look: Look,
-    mut aliases: Records,
+    look: Look<'a>,
+    mut aliases: Vec<Record>,
 ) -> Result<Chain, OutOfMemory>
     ensures is { IfOk result (λ chain. chain
-        ≡ ahead aliases (answered zone.now look (followed more zone.now rtype (asked_along first.now aliases)))) }
+        ≡ ahead aliases.items (answered zone.now look.entry (followed more zone.now rtype (asked_along first.now aliases.items)))) }
     ensures code { IfOk result (λ chain. chain.code ≤ 3) }
 {
     match look {
         Look::Referral(ns) => Ok(Chain {
             code: NO_ERROR,
-            answers: aliases,
-            authority: ns,
+            answers: Records::from_vec(aliases),
+            authority: copied(alloc, &ns)?,
         }),
         Look::NoName => Ok(Chain {
             code: NX_DOMAIN,
-            answers: aliases,
+            answers: Records::from_vec(aliases),
             authority: negative_soa(alloc, zone)?,
         }),
         Look::NoData => Ok(Chain {
             code: NO_ERROR,
-            answers: aliases,
+            answers: Records::from_vec(aliases),
             authority: negative_soa(alloc, zone)?,
         }),
         Look::Found(found) => {
-            aliases.append(found)?;
+            found.copy_to(alloc, &mut aliases)?;
             Ok(chain_end(alloc, aliases))
         }
         Look::Alias(one) => {
             let next = next_look(alloc, more, zone, first, rtype, &aliases, &one)?;
-            aliases.push(one)?;
+            aliases.push(one.copy(alloc)?)?;
             match next {
                 None => Ok(chain_end(alloc, aliases)),
                 Some(look) => Ok(follow(alloc, more - 1, zone, first, rtype, look, aliases)?),
@@ -121,41 +119,50 @@ fn follow(
 }
 
 /// An answer with no authority.
-fn chain_end(alloc: Global, answers: Records) -> Chain
+fn chain_end(alloc: Global, answers: Vec<Record>) -> Chain
     ensures code { result.code ≡ 0 }
-    ensures answers { result.answers ≡ answers }
+    ensures answers { result.answers ≡ answers.items }
     ensures authority { result.authority ≡ [] }
 {
     Chain {
         code: NO_ERROR,
-        answers,
+        answers: Records::from_vec(answers),
         authority: Records::new(alloc),
     }
 }
 
+/// Copies of records.
+fn copied(alloc: Global, lent: &LentRecords<'_>) -> Result<Records, OutOfMemory>
+    ensures { IfOk result (λ copies. copies ≡ lent.now) }
+{
+    let mut copies = Vec::new(alloc);
+    lent.copy_to(alloc, &mut copies)?;
+    Ok(Records::from_vec(copies))
+}
+
 /// Looks for the target of an alias, unless it leads out of the zone, back, or too far.
-fn next_look(
+fn next_look<'a>(
     alloc: Global,
     more: u32,
-    zone: &Zone,
+    zone: &'a Zone,
     first: &Name,
     rtype: u16,
-    aliases: &Records,
-    one: &Record,
-) -> Result<Option<Look>, OutOfMemory>
+    aliases: &[Record],
+    one: &LentRecord<'a>,
+) -> Result<Option<Look<'a>>, OutOfMemory>
     ensures { IfOk result (λ next. next ≡ next_look more zone.now rtype (asked_along first.now aliases.now) one.now) }
 {
     if more == 0 {
         return Ok(None);
     }
-    match &one.rdata {
-        Data::Cname(target) => {
-            if !is_next(zone, first, aliases.as_slice(), target) {
+    match one.target() {
+        Some(target) => {
+            if !is_next(zone, first, aliases, target) {
                 return Ok(None);
             }
             Ok(Some(look_of(alloc, zone, target, rtype)?))
         }
-        _ => Ok(None),
+        None => Ok(None),
     }
 }
 
@@ -198,16 +205,21 @@ fn leads_to(one: &Record, name: &Name) -> bool
 fn negative_soa(alloc: Global, zone: &Zone) -> Result<Records, OutOfMemory>
     ensures { IfOk result (λ soa. soa ≡ negative_soa zone.now) }
 {
-    let origin = NameView::whole(zone.origin());
-    let records = zone.as_slice();
-    let mut soa = Records::new(alloc);
+    match zone.soa() {
+        None => Ok(Records::new(alloc)),
+        Some(soa) => all_negative(alloc, soa.as_slice()),
+    }
+}
+
+/// Copies of SOAs for an answer that something is not there.
+fn all_negative(alloc: Global, records: &[Record]) -> Result<Records, OutOfMemory>
+    ensures { IfOk result (λ soa. soa ≡ map negative records.now) }
+{
+    let mut soa = Vec::with_capacity(alloc, records.len())?;
     for one in records {
-        if !is_in_set(one, &origin, SOA) {
-            continue;
-        }
         soa.push(negative(one)?)?;
     }
-    Ok(soa)
+    Ok(Records::from_vec(soa))
 }
 
 fn negative(one: &Record) -> Result<Record, OutOfMemory>

@@ -1,12 +1,18 @@
 //! A zone: its origin and its records (RFC 1034 4.2).
 
 ghost use Rattle.std.specs.Prelude.{◌≡◌, length, IfOk};
+ghost use Rattle.std.specs.Option.{option_copied};
+ghost use Rattle.dns_name.specs.Name.{fold_of};
 ghost use Rattle.dns_wire.specs.WireFormat.{AreShort};
-ghost use Rattle.dns_zone.specs.Zone.{serial_of, IsZone};
+ghost use Rattle.dns_wire.specs.declared.record_type.TheConstants.{SOA};
+ghost use Rattle.dns_zone_map.specs.Sets.{some_of};
+ghost use Rattle.dns_zone_map.specs.Zone.{set_of, serial_of, IsZone};
 
 use dns_io::OutOfMemory;
 use dns_name::Name;
-use dns_wire::{Data, Record, Records};
+use dns_wire::Records;
+use dns_wire::record_type::SOA;
+use dns_zone_map::ZoneMap;
 use std::alloc::Global;
 use std::marker::Model;
 
@@ -16,56 +22,71 @@ use std::marker::Model;
 /// type. There is one SOA, at the origin; no name owns two CNAMEs; no two records are equal in name, type and data.
 #[derive(Drop)]
 pub struct Zone {
-    origin: Name,
-    records: Vec<Record>,
+    map: ZoneMap,
 }
 
 impl Model for Zone {
-    ghost use Rattle.dns_zone.specs.Zone.{Contents, IsZone};
+    ghost use Rattle.dns_zone_map.specs.Zone.{Contents, IsZone};
 
     ghost Value = { Contents };
 
-    ghost view = { λ z. record { origin = z.origin; records = z.records.items } };
+    ghost view = { λ z. z.map };
 
-    ghost invariant = { λ z. IsZone z.origin z.records.items };
+    ghost invariant = { λ z. IsZone z.map.origin z.map.records };
 }
 
 impl Zone {
     /// The zone of an origin and records.
-    pub(crate) fn of(origin: Name, records: Vec<Record>) -> Zone
-        requires { IsZone origin records.items }
-        ensures origin { result.origin ≡ origin }
-        ensures records { result.records ≡ records.items }
+    pub(crate) fn of(map: ZoneMap) -> Zone
+        requires { IsZone map.origin map.records }
+        ensures { result ≡ map }
     {
-        Zone { origin, records }
+        Zone { map }
     }
 
     /// The name at the top of the zone, in small letters.
     pub fn origin(&self) -> &Name
         ensures { result.now ≡ self.now.origin }
     {
-        &self.origin
+        self.map.origin()
     }
 
     /// The serial of the SOA (RFC 1035 3.3.13).
     pub fn serial(&self) -> u32
         ensures { result ≡ serial_of self.now.records }
     {
-        serial_of(&self.records)
+        self.map.serial()
     }
 
     /// How many records there are.
     pub fn len(&self) -> usize
         ensures { result ≡ length self.now.records }
     {
-        self.records.len()
+        self.map.len()
     }
 
-    /// The records themselves.
-    pub(crate) fn as_slice(&self) -> &[Record]
-        ensures { result.now ≡ self.now.records }
+    /// The records of a name, which is in small letters, and a type, in the order of the zone: `None` exactly where there
+    /// are none. Takes no memory.
+    pub fn set(&self, name: &Name, rtype: u16) -> Option<&Records>
+        requires { fold_of name.now ≡ name.now }
+        ensures { option_copied result ≡ some_of (set_of self.now.records name.now rtype) }
     {
-        &self.records
+        self.map.set(name, rtype)
+    }
+
+    /// The SOA at the top of the zone.
+    pub(crate) fn soa(&self) -> Option<&Records>
+        ensures { option_copied result ≡ some_of (set_of self.now.records self.now.origin SOA) }
+    {
+        self.map.set(self.map.origin(), SOA)
+    }
+
+    /// The records as a map.
+    pub(crate) fn map(&self) -> &ZoneMap
+        ensures is { result.now ≡ self.now }
+        ensures zone { IsZone self.now.origin self.now.records }
+    {
+        &self.map
     }
 
     /// All records, in their order.
@@ -74,29 +95,6 @@ impl Zone {
         ensures zone { IsZone self.now.origin self.now.records }
         ensures short { IfOk result AreShort }
     {
-        copied(alloc, &self.records)
+        self.map.records(alloc)
     }
-}
-
-/// The serial of the first SOA, 0 where there is none.
-fn serial_of(records: &[Record]) -> u32
-    ensures { result ≡ serial_of records.now }
-{
-    for one in records {
-        if let Data::Soa { serial, .. } = &one.rdata {
-            return *serial;
-        }
-    }
-    0
-}
-
-/// Copies of records.
-fn copied(alloc: Global, records: &[Record]) -> Result<Records, OutOfMemory>
-    ensures { IfOk result (λ copies. copies ≡ records.now) }
-{
-    let mut copies = Records::new(alloc);
-    for one in records {
-        copies.push(one.copy()?)?;
-    }
-    Ok(copies)
 }

@@ -1,31 +1,48 @@
-//! The text of a zone (RFC 1035 5), for now with one record on a line and absolute names.
+//! The text of a zone: the master file format (RFC 1035 5).
 
-ghost use Rattle.std.specs.Prelude.{◌≡◌, ◌&&◌, ◌||◌, not, Ok, OnOk, OnErr, IfOk, IfErr};
-ghost use Rattle.std.specs.List.{list_any};
-ghost use Rattle.dns_name.specs.Name.{fold_of, is_same_name};
+ghost use Rattle.std.specs.Prelude.{◌≡◌, Ok, OnOk, OnErr, IfOk, IfErr};
+ghost use Rattle.dns_name.specs.Name.{fold_of};
 ghost use Rattle.dns_zone.specs.declared.zone_text.LineFault.TheVariants.{Kind, OutOfMemory as NoMemory};
 ghost use Rattle.dns_zone.specs.declared.zone_text.ZoneTextFault.TheVariants as fault;
-ghost use Rattle.dns_zone.specs.Folds.{data_eq};
-ghost use Rattle.dns_zone.specs.Zone.{is_type, is_equal, IsSoFar};
+ghost use Rattle.dns_zone_map.specs.Zone.{IsSoFar};
 ghost use Rattle.dns_presentation.specs.Entries.{entry_of};
-ghost use Rattle.dns_zone.specs.ZoneText.{is_beside_alias, put_in, placed, placed_entry, finished, zone_of, TellsKind, Tells};
+ghost use Rattle.dns_zone.specs.ZoneText.{kind_of, placed_entry, context_behind, finished, zone_of, TellsKind, Tells};
+ghost use Rattle.dns_zone.specs.Contexts.{IsSound};
 
+use crate::placement::{has_soa, place};
 use crate::zone::Zone;
 use dns_io::OutOfMemory;
 use dns_name::Name;
 use dns_name::name_laws::folded_names;
-use dns_presentation::{EntryFault, entry_of, split_line};
-use dns_wire::record_type::{CNAME, SOA};
-use dns_wire::{Data, Record};
+use dns_presentation::{Context, Entry, EntryFault, EntryKind, LogicalLine, entry_of};
+use dns_zone_map::ZoneMap;
 use std::alloc::{AllocFailed, Global};
 use thiserror::Error;
 
-/// What is wrong at a line of a zone's text.
+/// What is wrong with an entry of a zone's text. Where more is wrong than one thing, the first in this order counts.
 #[derive(Clone, Copy, Debug, PartialEq, Eq, Error)]
 pub enum ZoneTextKind {
-    /// The line is no record of the form `owner ttl IN type data`.
+    /// A bracket is open at the entry's end, or closes none.
+    #[error("Paren")]
+    Paren,
+    /// A quote is not closed on its line.
+    #[error("Quote")]
+    Quote,
+    /// A directive that is neither `$ORIGIN` nor `$TTL`.
+    #[error("Directive")]
+    Directive,
+    /// The owner, or the name of `$ORIGIN`, is no name, or there is none.
+    #[error("Name")]
+    Name,
+    /// The TTL is no time, or there is none to be had.
+    #[error("Ttl")]
+    Ttl,
+    /// The type is none that may stand in a zone; also where a class other than IN stands.
     #[error("Type")]
     RecordType,
+    /// The data is not of the form of its type.
+    #[error("Data")]
+    Data,
     /// The owner is not at the origin or below it.
     #[error("OutOfZone")]
     OutOfZone,
@@ -58,11 +75,12 @@ impl From<OutOfMemory> for ZoneTextFault {
 
 /// Reads the zone that has this origin, in small letters, from its text (RFC 1035 5).
 ///
-/// Each line is a record: `owner ttl IN type data`, parted by spaces and tabs. The types are A, NS, CNAME, SOA and
-/// TXT; names are absolute and are kept in small letters; a TXT string may stand in quotes. `\DDD` and `\X` are
-/// escapes in names and strings. A record that is equal to an earlier one in name, type and data takes its place.
+/// The text has the master file format: comments, brackets, quoted words, `$ORIGIN`, `$TTL`, `@`, names below the
+/// origin, owners that are repeated, TTL and class in either order or left out, times with units. The types are A, AAAA,
+/// NS, CNAME, PTR, MX, SRV, SOA and TXT; any other is written `TYPEn`, with its data in hex (RFC 3597 5). Names are kept in
+/// small letters. A record that is equal to an earlier one in name, type and data takes its place.
 ///
-/// The first line that is at fault is refused. At one line the kinds are tried in the order in which they are listed.
+/// The first entry that is at fault is refused. Of one entry the kinds are tried in the order in which they are listed.
 pub fn read_zone(alloc: Global, text: &[u8], origin: &Name) -> Result<Zone, ZoneTextFault>
     ensures records { IfOk result (λ zone. zone_of (fold_of origin.now) text.now ≡ Ok zone.records) }
     ensures origin { IfOk result (λ zone. zone.origin ≡ fold_of origin.now) }
@@ -70,40 +88,52 @@ pub fn read_zone(alloc: Global, text: &[u8], origin: &Name) -> Result<Zone, Zone
 {
     folded_names();
     let origin = origin.folded(alloc)?;
-    zone_under(alloc, text, &origin)
+    zone_under(alloc, text, origin)
 }
 
 /// Reads the zone that has this origin, which is in small letters.
-fn zone_under(alloc: Global, text: &[u8], origin: &Name) -> Result<Zone, ZoneTextFault>
-    requires { fold_of origin.now ≡ origin.now }
-    ensures records { IfOk result (λ zone. zone_of origin.now text.now ≡ Ok zone.records) }
-    ensures origin { IfOk result (λ zone. zone.origin ≡ origin.now) }
-    ensures fault { IfErr result (Tells (zone_of origin.now text.now)) }
+fn zone_under(alloc: Global, text: &[u8], origin: Name) -> Result<Zone, ZoneTextFault>
+    requires { fold_of origin ≡ origin }
+    ensures records { IfOk result (λ zone. zone_of origin text.now ≡ Ok zone.records) }
+    ensures origin { IfOk result (λ zone. zone.origin ≡ origin) }
+    ensures fault { IfErr result (Tells (zone_of origin text.now)) }
 {
-    let mut records = Vec::new(alloc);
+    let mut context = Context::new(origin.copy()?);
+    let mut map = ZoneMap::new(alloc, origin);
     let mut rest = text;
-    let mut number = 0u64;
-    while let Some((line, after)) = split_line(rest) {
-        number += 1;
-        match take_line(alloc, origin, &mut records, line) {
+    let mut number = 1u64;
+    while let Some((line, after)) = LogicalLine::first(alloc, number, rest)? {
+        match take_line(alloc, &mut map, &mut context, &line) {
             Ok(()) => {}
             Err(LineFault::Kind(kind)) => {
-                return Err(ZoneTextFault::Refused { line: number, kind });
+                return Err(ZoneTextFault::Refused {
+                    line: line.number(),
+                    kind,
+                });
             }
             Err(LineFault::OutOfMemory) => return Err(ZoneTextFault::OutOfMemory),
         }
+        number = line.next();
         rest = after;
     }
-    finished(origin, records)
+    finished(map)
 }
 
 /// Why a line was not taken.
 #[derive(Clone, Copy, Debug)]
-enum LineFault {
+pub(crate) enum LineFault {
     /// It is at fault.
     Kind(ZoneTextKind),
     /// Memory ran out.
     OutOfMemory,
+}
+
+impl From<OutOfMemory> for LineFault {
+    ghost from_gives = { λ _ e. e ≡ NoMemory };
+
+    fn from(_error: OutOfMemory) -> LineFault {
+        LineFault::OutOfMemory
+    }
 }
 
 impl<T: Drop> From<AllocFailed<T>> for LineFault {
@@ -116,121 +146,63 @@ impl<T: Drop> From<AllocFailed<T>> for LineFault {
 
 /// The zone of all records of a text.
 #[tactic(auto, unfolding(crate::specs::ZoneText::finished))]
-fn finished(origin: &Name, records: Vec<Record>) -> Result<Zone, ZoneTextFault>
-    requires folded { fold_of origin.now ≡ origin.now }
-    requires so_far { IsSoFar origin.now records.items }
-    ensures records { IfOk result (λ zone. finished records.items ≡ Ok zone.records) }
-    ensures origin { IfOk result (λ zone. zone.origin ≡ origin.now) }
-    ensures fault { IfErr result (Tells (finished records.items)) }
+fn finished(map: ZoneMap) -> Result<Zone, ZoneTextFault>
+    requires folded { fold_of map.origin ≡ map.origin }
+    requires so_far { IsSoFar map.origin map.records }
+    ensures records { IfOk result (λ zone. finished map.records ≡ Ok zone.records) }
+    ensures origin { IfOk result (λ zone. zone.origin ≡ map.origin) }
+    ensures fault { IfErr result (Tells (finished map.records)) }
 {
-    if !has_soa(&records) {
+    if !has_soa(&map) {
         return Err(ZoneTextFault::Refused {
             line: 0,
             kind: ZoneTextKind::NotOneSoa,
         });
     }
-    Ok(Zone::of(origin.copy()?, records))
+    Ok(Zone::of(map))
 }
 
-/// Adds the record of one line.
+/// Adds what one logical line says.
 fn take_line(
     alloc: Global,
-    origin: &Name,
-    records: &mut Vec<Record>,
-    line: &[u8],
+    map: &mut ZoneMap,
+    context: &mut Context,
+    line: &LogicalLine<'_>,
 ) -> Result<(), LineFault>
-    ensures ok { OnOk result (placed_entry origin.now records.old.items (entry_of line.now) ≡ Ok records.new.items) }
-    ensures fault { IfErr result (TellsKind (placed_entry origin.now records.old.items (entry_of line.now))) }
+    requires so_far { IsSoFar map.old.origin map.old.records }
+    requires sound { IsSound context.old }
+    ensures so_far { IsSoFar map.new.origin map.new.records }
+    ensures sound { OnOk result (IsSound context.new) }
+    ensures ok { OnOk result (placed_entry map.old.origin map.old.records (entry_of context.old line.now) ≡ Ok map.new.records) }
+    ensures context { OnOk result (context.new ≡ context_behind context.old (entry_of context.old line.now)) }
+    ensures origin { map.new.origin ≡ map.old.origin }
+    ensures fault { IfErr result (TellsKind (placed_entry map.old.origin map.old.records (entry_of context.old line.now))) }
 {
-    match entry_of(alloc, line) {
-        Ok(one) => place(origin, records, one),
-        Err(EntryFault::Refused) => Err(LineFault::Kind(ZoneTextKind::RecordType)),
+    match entry_of(alloc, context, line) {
+        Ok(entry) => {
+            context.pass(&entry)?;
+            match entry {
+                Entry::Nothing => Ok(()),
+                Entry::Origin(_origin) => Ok(()),
+                Entry::DefaultTtl(_ttl) => Ok(()),
+                Entry::Record(one, _stated) => place(alloc, map, one),
+            }
+        }
+        Err(EntryFault::Refused(kind)) => Err(LineFault::Kind(kind_of(kind))),
         Err(EntryFault::OutOfMemory) => Err(LineFault::OutOfMemory),
     }
 }
 
-/// Adds a record, if it may stand beside these.
-#[tactic(auto, unfolding(crate::specs::ZoneText::placed))]
-fn place(origin: &Name, records: &mut Vec<Record>, one: Record) -> Result<(), LineFault>
-    ensures ok { OnOk result (placed origin.now records.old.items one ≡ Ok records.new.items) }
-    ensures fault { IfErr result (TellsKind (placed origin.now records.old.items one)) }
+fn kind_of(kind: EntryKind) -> ZoneTextKind
+    ensures { result ≡ kind_of kind }
 {
-    if !one.name.at_or_below(origin) {
-        return Err(LineFault::Kind(ZoneTextKind::OutOfZone));
+    match kind {
+        EntryKind::Paren => ZoneTextKind::Paren,
+        EntryKind::Quote => ZoneTextKind::Quote,
+        EntryKind::Directive => ZoneTextKind::Directive,
+        EntryKind::Name => ZoneTextKind::Name,
+        EntryKind::Ttl => ZoneTextKind::Ttl,
+        EntryKind::RecordType => ZoneTextKind::RecordType,
+        EntryKind::Data => ZoneTextKind::Data,
     }
-    if is_soa_too_many(origin, records, &one) {
-        return Err(LineFault::Kind(ZoneTextKind::NotOneSoa));
-    }
-    if has_alias_beside(records, &one) {
-        return Err(LineFault::Kind(ZoneTextKind::AliasBesideOther));
-    }
-    put_in(records, one)
-}
-
-/// Whether a record is an SOA away from the origin, or a second one.
-fn is_soa_too_many(origin: &Name, records: &[Record], one: &Record) -> bool
-    ensures { result ≡ (is_type 6 one.now
-        && (not (is_same_name one.now.name origin.now) || list_any (is_type 6) records.now)) }
-{
-    one.rtype == SOA && (!one.name.same(origin) || has_soa(records))
-}
-
-/// Whether there is an SOA among records.
-fn has_soa(records: &[Record]) -> bool
-    ensures { result ≡ list_any (is_type 6) records.now }
-{
-    for other in records {
-        if other.rtype == SOA {
-            return true;
-        }
-    }
-    false
-}
-
-/// Whether a record would stand beside an alias of its name, or be one beside others.
-fn has_alias_beside(records: &[Record], one: &Record) -> bool
-    ensures { result ≡ list_any (is_beside_alias one.now) records.now }
-{
-    for other in records {
-        if is_beside_alias(one, other) {
-            return true;
-        }
-    }
-    false
-}
-
-fn is_beside_alias(one: &Record, other: &Record) -> bool
-    ensures { result ≡ is_beside_alias one.now other.now }
-{
-    (one.rtype == CNAME || other.rtype == CNAME)
-        && !is_equal(one, other)
-        && one.name.same(&other.name)
-}
-
-/// Puts a record in the place of the first that is equal to it, or else at the end.
-fn put_in(records: &mut Vec<Record>, one: Record) -> Result<(), LineFault>
-    ensures ok { OnOk result (records.new.items ≡ put_in records.old.items one) }
-    ensures fault { IfErr result (λ e. e ≡ NoMemory) }
-{
-    for place in 0..records.len() {
-        if is_equal(&one, &records[place]) {
-            records[place] = one;
-            return Ok(());
-        }
-    }
-    records.push(one)?;
-    Ok(())
-}
-
-/// Whether two records are equal in name, type and data.
-fn is_equal(one: &Record, other: &Record) -> bool
-    ensures { result ≡ is_equal one.now other.now }
-{
-    one.rtype == other.rtype && one.name.same(&other.name) && same_data(&one.rdata, &other.rdata)
-}
-
-fn same_data(one: &Data, other: &Data) -> bool
-    ensures { result ≡ data_eq one.now other.now }
-{
-    one.same_data(other)
 }

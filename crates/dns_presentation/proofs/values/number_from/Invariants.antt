@@ -1,5 +1,5 @@
 use Rattle.std.proofs.Common.{◌≡◌, ◌<◌, ◌^◌, drop}
-use Rattle.dns_presentation.specs.Entries.{number_from}
+use Rattle.dns_presentation.specs.Values.{number_from}
 use Rattle.dns_presentation.proofs.values.number_from.Given as goal
 
 abbrev pub invariant-loop-byte : goal.invariant-loop-byte

@@ -1,5 +1,5 @@
 use Rattle.std.proofs.Common.{◌≡◌, [], length}
-use Rattle.dns_presentation.specs.Entries.{string_from}
+use Rattle.dns_presentation.specs.Values.{string_from}
 use Rattle.dns_presentation.proofs.values.string_of.Given as goal
 
 abbrev pub invariant-loop-rest : goal.invariant-loop-rest

@@ -1,8 +1,8 @@
 use Rattle.std.proofs.Common.{◌≡◌, [], take, drop, if◌then◌else◌}
-use Rattle.dns_presentation.specs.Words.{Plain, PlainEscape, words_from}
+use Rattle.dns_presentation.specs.Words.{Plain, PlainEscape, tokens_from}
 use Rattle.dns_presentation.proofs.words.split_plain.Given as goal
 
 abbrev pub invariant-loop-place : goal.invariant-loop-place
 invariant-loop-place l =
-    words_from (if l.escaped then PlainEscape (take l.place l.line) else Plain (take l.place l.line)) (drop l.place l.line)
-    ≡ words_from (Plain []) l.line
+    tokens_from (if l.escaped then PlainEscape (take l.place l.line) else Plain (take l.place l.line)) (drop l.place l.line)
+    ≡ tokens_from (Plain []) l.line

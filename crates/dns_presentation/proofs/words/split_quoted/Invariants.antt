@@ -1,8 +1,8 @@
 use Rattle.std.proofs.Common.{◌≡◌, [], take, drop, if◌then◌else◌}
-use Rattle.dns_presentation.specs.Words.{Quoted, QuotedEscape, words_from}
+use Rattle.dns_presentation.specs.Words.{Quoted, QuotedEscape, tokens_from}
 use Rattle.dns_presentation.proofs.words.split_quoted.Given as goal
 
 abbrev pub invariant-loop-place : goal.invariant-loop-place
 invariant-loop-place l =
-    words_from (if l.escaped then QuotedEscape (take l.place l.line) else Quoted (take l.place l.line)) (drop l.place l.line)
-    ≡ words_from (Quoted []) l.line
+    tokens_from (if l.escaped then QuotedEscape (take l.place l.line) else Quoted (take l.place l.line)) (drop l.place l.line)
+    ≡ tokens_from (Quoted []) l.line

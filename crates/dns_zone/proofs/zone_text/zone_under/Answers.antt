@@ -1,26 +1,47 @@
-use Rattle.std.proofs.Common.{◌+◌, sym, ap, ◌∙◌, subst, arith}
-use Rattle.dns_zone.specs.Zone.{IsSoFar}
-use Rattle.dns_presentation.specs.Lines.{lines_of}
-use Rattle.dns_zone.specs.ZoneText.{after_line, records_from}
-use Rattle.dns_zone.proofs.Placing.{IsSoFar-placed_entry, IsSoFar-none}
+use Rattle.std.proofs.Common.{◌≡◌, ◌+◌, ◌≤◌, ◌∷◌, length, sym, ap, ◌∙◌, subst, arith}
+use Rattle.dns_zone_map.specs.Zone.{IsSoFar}
+use Rattle.dns_presentation.specs.LogicalLines.{logical_lines}
+use Rattle.dns_presentation.specs.Entries.{entry_of, first_context}
+use Rattle.dns_zone.specs.Contexts.{IsSound}
+use Rattle.dns_zone.specs.ZoneText.{records_from, zone_of, context_behind}
+use Rattle.dns_zone.proofs.Placing.{IsSoFar-none, IsSound-first, records_step}
+use Rattle.dns_name.specs.Name.{IsName}
 use Rattle.dns_zone.proofs.zone_text.zone_under.Goals as goal
 
-pub loop-line-init : goal.loop-line-init
-loop-line-init c = record {
-  counted = omega arith;
-  so_far = subst (IsSoFar c.args.origin.now) (sym c.new-records.ensures.items) (IsSoFar-none c.args.origin.now);
-  left = ap (λ records. records_from c.args.origin.now 1 records (lines_of c.args.text.now)) c.new-records.ensures.items;
-}
+pub loop-map-init : goal.loop-map-init
+loop-map-init c =
+    let first : c.new-context.result ≡ first_context c.args.origin = c.new-context.ensures.context ∙ ap first_context c.in_ok-copy.ensures in
+    let name : IsName c.args.origin = subst IsName c.in_ok-copy.ensures c.new-context.ensures.name in
+    record {
+      counted = omega arith;
+      under = c.new-map.ensures.origin;
+      sound = subst IsSound (sym first) (IsSound-first c.args.origin c.requires name);
+      so_far = subst (IsSoFar c.new-map.result.origin) (sym c.new-map.ensures.records) (IsSoFar-none c.new-map.result.origin);
+      left =
+          ap (λ context. records_from c.new-map.result.origin context c.new-map.result.records (logical_lines 1 c.args.text.now)) (first ∙ ap first_context (sym c.new-map.ensures.origin))
+          ∙ ap (λ records. records_from c.new-map.result.origin (first_context c.new-map.result.origin) records (logical_lines 1 c.args.text.now)) c.new-map.ensures.records;
+    }
 
-pub loop-line-preserved : goal.loop-line-preserved
-loop-line-preserved c = record {
-  counted = omega (arith, c.loop-line.invariant.counted, c.in-Some.ensures.shorter);
-  so_far =
-      IsSoFar-placed_entry c.args.origin.now c.loop-line.records.items c.in-Some.line.now c.take_line.new.records.items
-      c.in-Ok.ensures.ok c.loop-line.invariant.so_far;
-  left =
-      sym (ap (records_from c.args.origin.now (c.loop-line.number + 1) c.loop-line.records.items) c.in-Some.ensures.some
-      ∙ ap (λ found. after_line (c.loop-line.number + 1) found (λ more. records_from c.args.origin.now (c.loop-line.number + 1 + 1) more (lines_of c.in-Some.after.now)))
-      c.in-Ok.ensures.ok)
-      ∙ c.loop-line.invariant.left;
-}
+pub loop-map-preserved : goal.loop-map-preserved
+loop-map-preserved c =
+    let line = c.in-Some.line in
+    let map = c.loop-map.map in
+    let more = c.take_line.new.map in
+    let some : logical_lines c.loop-map.number c.loop-map.rest.now ≡ line ∷ logical_lines line.next c.in-Some.after.now = rw c.in-Some.is at c.in_ok-line.ensures.some in
+    let counted : line.next + length c.in-Some.after.now ≤ c.loop-map.number + length c.loop-map.rest.now = rw c.in-Some.is at c.in_ok-line.ensures.counted in
+    let context : c.take_line.new.context ≡ context_behind c.loop-map.context (entry_of c.loop-map.context line) = c.in-Ok.ensures.context in
+    let origin : more.origin ≡ map.origin = c.take_line.ensures.origin in
+    record {
+      counted = omega (arith, counted, c.loop-map.invariant.counted, c.next-number.ensures);
+      under = origin ∙ c.loop-map.invariant.under;
+      sound = c.in-Ok.ensures.sound;
+      so_far = c.take_line.ensures.so_far;
+      left =
+          ap (λ top. records_from top c.take_line.new.context more.records (logical_lines c.next-number.result c.in-Some.after.now)) origin
+          ∙ ap (λ next. records_from map.origin c.take_line.new.context more.records (logical_lines next c.in-Some.after.now)) c.next-number.ensures
+          ∙ ap (λ context. records_from map.origin context more.records (logical_lines line.next c.in-Some.after.now)) context
+          ∙ sym (records_step map.origin c.loop-map.context map.records more.records line (logical_lines line.next c.in-Some.after.now) c.in-Ok.ensures.ok)
+          ∙ ap (records_from map.origin c.loop-map.context map.records) (sym some)
+          ∙ c.loop-map.invariant.left
+          ∙ ap (λ top. zone_of top c.args.text.now) (sym origin);
+    }

@@ -1,6 +1,6 @@
 -- One message more, or a message in front of which it stopped.
 use Rattle.std.proofs.Common.{◌∙◌, ◌∷◌, [], map}
-use Rattle.dns_net.specs.Frames.{frames}
+use Rattle.dns_frames.specs.Frames.{frames}
 use Rattle.dns_server_core.specs.Connections.{message_of}
 use Rattle.dns_server_core.proofs.OnePiece.{on_err, base_again}
 use Rattle.dns_server_core.proofs.Running.{Front-more, Breaks-within}

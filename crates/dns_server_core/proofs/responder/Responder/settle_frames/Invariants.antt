@@ -1,6 +1,6 @@
 -- What is left of the connection's bytes has the messages that are left, and the rest of all.
 use Rattle.std.proofs.Common.{◌≡◌, map, length}
-use Rattle.dns_net.specs.Frames.{frames}
+use Rattle.dns_frames.specs.Frames.{frames}
 use Rattle.dns_server_core.specs.Connections.{message_of}
 use Rattle.dns_server_core.specs.Steps.{base_by}
 use Rattle.dns_server_core.specs.Handing.{HandsFront}

@@ -1,0 +1,159 @@
+-- What a batch that is put does to what is told.
+use Rattle.std.proofs.Common.{◌≡◌, ◌&&◌, ◌+ℤ◌, ◌≤◌, ◌⊎◌, ℕ, ℤ, pos, negsuc, List, [], ◌∷◌, ◌++◌, map, true, Option, Some, None, IsTrue, inl, inr, refl, sym, ap, ◌∙◌, arith, int_eq, if◌then◌else◌}
+use Rattle.std.proofs.lemmas.Bool.{and_parts, cases_Bool}
+use Rattle.sqlite.specs.Order.{Row as Stored}
+use Rattle.sqlite.specs.Tree.{Trees}
+use Rattle.sqlite.specs.Edit.{next_rowid}
+use Rattle.sqlite.specs.Effect.{Database}
+use Rattle.sqlite.specs.State.{State, HasCleanDisk}
+use Rattle.sqlite_trees.specs.View.{doubt}
+use Rattle.sqlite_trees.proofs.Doubt.{clean_of, no_doubt}
+use Rattle.dns_io.specs.Edge.{Keeps}
+use Rattle.dns_wire.specs.declared.record.Record.{Record}
+use Rattle.dns_wire.specs.WireFormat.{record_bytes}
+use Rattle.dns_sqlite.specs.Tables.{journal_schema}
+use Rattle.dns_sqlite.specs.Versions.{IsVersion, IsAtVersion}
+use Rattle.dns_sqlite.specs.Batch.{ArePut, batch, MayGrow, Grows}
+use Rattle.dns_sqlite.proofs.Rows.{put_appends, keyed_before}
+use Rattle.dns_keeper.specs.declared.row.Row.{Row}
+use Rattle.dns_keeper.specs.Rows.{appended, stamp_of, rows_of as batch_of}
+use Rattle.dns_keeper.specs.Keeping.{GrowsByBatch}
+use Rattle.dns_journal.specs.Told.{is_signed, joined, rows_of, told, rows_in}
+use Rattle.dns_journal.specs.Crash.{MayLeave, IsGrownFrom}
+use Rattle.dns_journal.proofs.Order.{split, told_is, is_told, next_is}
+
+-- a batch reads as its rows, if it reads
+batch_reads : (id : ℤ) (client serial : ℕ) (stamp : List ℕ) (records : List Record) (rows : List Row) → rows_of (batch client serial stamp id (map record_bytes records)) ≡ Some rows
+    → rows ≡ batch_of id client serial stamp records
+batch_reads id client serial stamp [] rows e = cc
+batch_reads id client serial stamp (r ∷ rs) rows e =
+    elim (cases_Bool (is_signed id)) [
+      | inl within ↦ go (λ rest. batch_reads (id +ℤ pos 1) client serial stamp rs rest) (rows_of (batch client serial stamp (id +ℤ pos 1) (map record_bytes rs))) refl (rw within at e)
+      | inr outside ↦ absurd (let it : None ≡ Some rows = rw outside at e in cc)
+    ]
+  where
+    go : ((rest : List Row) → rows_of (batch client serial stamp (id +ℤ pos 1) (map record_bytes rs)) ≡ Some rest → rest ≡ batch_of (id +ℤ pos 1) client serial stamp rs)
+        → (o : Option (List Row)) → rows_of (batch client serial stamp (id +ℤ pos 1) (map record_bytes rs)) ≡ o
+        → joined (Some (record { id = id; client = pos client; serial = pos serial; stamp = stamp; bytes = record_bytes r })) o ≡ Some rows → rows ≡ batch_of id client serial stamp (r ∷ rs)
+    go again None q e = absurd (cc)
+    go again (Some rest) q e =
+        let same = again rest q in
+        let is : record { id = id; client = pos client; serial = pos serial; stamp = stamp; bytes = record_bytes r } ∷ rest ≡ rows = cc in
+        sym is ∙ ap (λ xs. record { id = id; client = pos client; serial = pos serial; stamp = stamp; bytes = record_bytes r } ∷ xs) same
+
+-- rows in front of rows, where all of them read
+pub record Front (was more : List Stored) (rows : List Row) : Type 0 where
+  pub front : List Row
+  pub back : List Row
+  pub reads : rows_of was ≡ Some front
+  pub rest : rows_of more ≡ Some back
+  pub is : rows ≡ front ++ back
+
+front_of : (was more : List Stored) (rows : List Row) → rows_of (was ++ more) ≡ Some rows → Front was more rows
+front_of [] more rows e = record { front = []; back = rows; reads = refl; rest = e; is = refl }
+front_of (s ∷ ss) more rows e =
+    let it = split s (ss ++ more) rows e in
+    let rest = front_of ss more it.rest it.more in
+    record { front = it.first ∷ rest.front; back = rest.back; reads = rw (it.reads, rest.reads) refl; rest = rest.rest; is = it.is ∙ ap (λ xs. it.first ∷ xs) rest.is }
+
+pub record WasTold (was : List Stored) (after : List Row) (client serial moment : ℕ) (records : List Record) : Type 0 where
+  pub before : List Row
+  pub is : told was ≡ Some before
+  pub grown : after ≡ appended before client serial moment records
+
+-- What is told after a batch was told before it.
+pub told_before : (client serial moment : ℕ) (records : List Record) (was is : List Stored) (after : List Row) → ArePut client serial (stamp_of moment) (map record_bytes records) was is → told is ≡ Some after
+    → WasTold was after client serial moment records
+told_before client serial moment records was is after put e =
+    let stamp = stamp_of moment in
+    let encoded = map record_bytes records in
+    let now = told_is is after e in
+    let keyed = keyed_before client serial stamp encoded was is put now.keyed in
+    let rows = (put_appends client serial stamp encoded was is keyed put).0 in
+    let front = front_of was (batch client serial stamp (next_rowid was) encoded) after (ap rows_of (sym rows) ∙ now.reads) in
+    let back = batch_reads (next_rowid was) client serial stamp records front.back front.rest in
+    record {
+      before = front.front;
+      is = is_told was front.front keyed front.reads;
+      grown = front.is ∙ ap (λ xs. front.front ++ xs) back ∙ ap (λ id. front.front ++ batch_of id client serial stamp records) (next_is was front.front front.reads);
+    }
+
+-- ---- of a connection
+
+-- what shows now showed before
+module _ (old new : State) (falls : doubt old.is_clean ≤ doubt new.is_clean) where
+  earlier : HasCleanDisk new → IsTrue old.is_clean
+  earlier clean = clean_of old.is_clean (omega (arith, falls, clean))
+
+  pub grows_told : (client serial moment : ℕ) (records : List Record) → (HasCleanDisk new → IsTrue new.is_open → Grows client serial (stamp_of moment) (map record_bytes records) old new)
+      → GrowsByBatch (rows_in old) (rows_in new) client serial moment records
+  grows_told client serial moment records h = elim (cases_Bool (new.is_clean && new.is_open)) [
+    | inl shows ↦
+        let both = and_parts new.is_clean new.is_open shows in
+        let clean : HasCleanDisk new = no_doubt new.is_clean both.0 in
+        let g = h clean both.1 in
+        rw shows (go g (earlier clean) (told (new.now.trees 1)) refl)
+    | inr hidden ↦ rw hidden tt
+  ]
+    where
+      go : Grows client serial (stamp_of moment) (map record_bytes records) old new → IsTrue old.is_clean → (o : Option (List Row)) → told (new.now.trees 1) ≡ o → GrowsByBatch (rows_in old) o client serial moment records
+      go g clean None e = tt
+      go g clean (Some after) e =
+          let t = told_before client serial moment records (old.now.trees 1) (new.now.trees 1) after g.grown.rows e in
+          rw (clean, g.was_open, t.is) t.grown
+
+  pub keeps_told : (HasCleanDisk new → IsTrue new.is_open → IsTrue old.is_open × (new.now ≡ old.now)) → Keeps (rows_in old) (rows_in new)
+  keeps_told h = elim (cases_Bool (new.is_clean && new.is_open)) [
+    | inl shows ↦
+        let both = and_parts new.is_clean new.is_open shows in
+        let clean : HasCleanDisk new = no_doubt new.is_clean both.0 in
+        let k = h clean both.1 in
+        rw shows (go k (earlier clean) (told (new.now.trees 1)) refl)
+    | inr hidden ↦ rw hidden tt
+  ]
+    where
+      go : IsTrue old.is_open × (new.now ≡ old.now) → IsTrue old.is_clean → (o : Option (List Row)) → told (new.now.trees 1) ≡ o → Keeps (rows_in old) o
+      go k clean None e = tt
+      go k clean (Some after) e = rw (clean, k.0, sym (ap (λ (d : Database). told (d.trees 1)) k.1) ∙ e) refl
+
+  -- After a call what might be left before, or the rows with the whole batch.
+  pub left_of : (client serial moment : ℕ) (records : List Record) → (HasCleanDisk old → IsTrue old.is_open → old.now.schema ≡ journal_schema)
+      → ((db : Trees) → new.may_leave db → old.may_leave db ⊎ MayGrow client serial (stamp_of moment) (map record_bytes records) old db) → HasCleanDisk new → (rows : List Row) → MayLeave new rows
+      → MayLeave old rows ⊎ IsGrownFrom (rows_in old) client serial moment records rows
+  left_of client serial moment records has crash clean rows m =
+      let was : HasCleanDisk old = omega (arith, falls, clean) in
+      elim (crash m.db m.left) [
+        | inl before ↦ inl (record { db = m.db; left = before; opens = m.opens })
+        | inr grown ↦
+            let it = grown.1 (has was grown.0) in
+            let t = told_before client serial moment records (old.now.trees 1) (it.0.trees 1) rows it.1.rows (ap (λ (t : Trees). told (t 1)) (sym it.2 ∙ m.opens.2) ∙ m.opens.1.told) in
+            inr (rw (clean_of old.is_clean was, grown.0, t.is) t.grown)
+      ]
+
+-- the current version
+pub one : (version : ℤ) → version ≡ pos 1 → int_eq version (pos 1) ≡ true
+one version is = rw is refl
+
+pub tables_at : (version : ℤ) (d : Database) → version ≡ pos 1 → IsAtVersion version d → (d.schema ≡ journal_schema) × IsVersion (pos 1) (d.trees 0)
+tables_at version d is (inl it) = absurd (let e : pos 1 ≡ negsuc 0 = sym is ∙ it.0 in cc)
+tables_at version d is (inr (inl it)) = absurd (let e : pos 1 ≡ pos 0 = sym is ∙ it.0 in cc)
+tables_at version d is (inr (inr it)) = (it.1, it.2)
+
+-- ---- what is told is of the current version, a clean disk and an open connection
+
+pub record Tells (version : ℤ) (s : State) (rows : List Row) : Type 0 where
+  pub current : version ≡ pos 1
+  pub clean : IsTrue s.is_clean
+  pub live : IsTrue s.is_open
+  pub told : told (s.now.trees 1) ≡ Some rows
+
+pub tells : (version : ℤ) (s : State) (rows : List Row) → (if int_eq version (pos 1) then rows_in s else None) ≡ Some rows → Tells version s rows
+tells version s rows e = elim (cases_Bool (int_eq version (pos 1))) [
+  | inl is ↦ elim (cases_Bool (s.is_clean && s.is_open)) [
+    | inl shows ↦
+        let both = and_parts s.is_clean s.is_open shows in
+        record { current = (let same : version ≡ pos 1 = grind arith in same); clean = both.0; live = both.1; told = rw (is, shows) at e }
+    | inr hidden ↦ absurd (let it : None ≡ Some rows = rw (is, hidden) at e in cc)
+  ]
+  | inr other ↦ absurd (let it : None ≡ Some rows = rw other at e in cc)
+]

@@ -1,0 +1,68 @@
+-- What a journal tells of its rows.
+use Rattle.std.specs.Prelude.{◌≡◌, ◌-◌, ◌^◌, ◌&&◌, ℕ, ℤ, pos, neg_ℤ, Bool, if◌then◌else◌, IsTrue, List, [], ◌∷◌, Option, Some, None, refl}
+use Rattle.std.specs.Ordering.{int_eq}
+use Rattle.std.specs.Int.Signed.{le_z}
+use Rattle.std.specs.Coded.{Coded, code_by, coded×, coded_ℕ, coded_ℤ}
+use Rattle.sqlite.specs.declared.types.Value.TheVariants.{Null, Int, Text, Blob}
+use Rattle.sqlite.specs.Order.{Row as Stored}
+use Rattle.sqlite.specs.Store.{Ghosts}
+use Rattle.sqlite.specs.State.{State, HasCleanDisk}
+use Rattle.sqlite.specs.Held.{Held, held_code, state}
+use Rattle.dns_sqlite.specs.Versions.{IsAtVersion}
+use Rattle.dns_keeper.specs.declared.row.Row.{Row}
+use Rattle.dns_keeper.specs.Rows.{is_ascending}
+
+-- what contracts see of a journal: its connection, the version of its schema, its count of faults
+pub record View (S : Type 0) : Type 0 where
+  pub conn : Held S
+  pub version : ℤ
+  pub faults : ℕ
+
+abbrev pub view_code : {S : Type 0} → Coded S → Coded (View S)
+view_code {S} store =
+    code_by (Held S × (ℤ × ℕ)) (coded× (held_code store) (coded× coded_ℤ coded_ℕ)) (λ v. (v.conn, (v.version, v.faults))) (λ p. record { conn = p.0; version = p.1.0; faults = p.1.1 }) (λ _. refl)
+
+-- a number of 64 bits
+abbrev pub is_signed : ℤ → Bool
+is_signed n = le_z (neg_ℤ (pos (2 ^ 63))) n && le_z n (pos (2 ^ 63 - 1))
+
+-- a stored row as a row of the journal, where each column reads as the type of its field
+abbrev pub row_of : Stored → Option Row
+row_of (Int id ∷ Null ∷ Int client ∷ Int serial ∷ Text stamp ∷ Blob bytes ∷ []) =
+    if is_signed id then Some (record { id = id; client = client; serial = serial; stamp = stamp; bytes = bytes }) else None
+row_of _ = None
+
+abbrev pub joined : Option Row → Option (List Row) → Option (List Row)
+joined None rows = None
+joined (Some row) None = None
+joined (Some row) (Some rows) = Some (row ∷ rows)
+
+-- the rows of a table, where each of them reads
+abbrev pub rows_of : List Stored → Option (List Row)
+rows_of [] = Some []
+rows_of (s ∷ stored) = joined (row_of s) (rows_of stored)
+
+abbrev pub if_ascending : Option (List Row) → Option (List Row)
+if_ascending None = None
+if_ascending (Some rows) = if is_ascending rows then Some rows else None
+
+-- the rows of a table, where each of them reads and their ids ascend
+abbrev pub told : List Stored → Option (List Row)
+told stored = if_ascending (rows_of stored)
+
+-- the rows of a connection, while its disk is clean and it is open
+abbrev pub rows_in : State → Option (List Row)
+rows_in s = if (s.is_clean && s.is_open) then told (s.now.trees 1) else None
+
+-- the rows that a journal tells: those of its connection, at version 1
+abbrev pub told_rows : {S : Type 0} → Ghosts S → View S → Option (List Row)
+told_rows g j = if int_eq j.version (pos 1) then rows_in (state g j.conn) else None
+
+-- the database is at this version, while the disk is clean and the connection is open
+abbrev pub HasVersion : ℤ → State → Type 0
+HasVersion version s = HasCleanDisk s → IsTrue s.is_open → IsAtVersion version s.now
+
+-- no rows but these are told
+abbrev pub TellsOnly : List Row → Option (List Row) → Type 0
+TellsOnly rows None = Unit {0}
+TellsOnly rows (Some told) = told ≡ rows

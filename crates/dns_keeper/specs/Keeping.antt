@@ -1,0 +1,32 @@
+-- What the calls of a keeper do to its rows, where it tells them afterwards, and to its count of faults.
+use Rattle.std.specs.Prelude.{◌≡◌, ℕ, ℤ, ◌≤◌, List, Option, Some, None, Result, IsErrOf}
+use Rattle.dns_io.specs.Edge.{Rose, Told}
+use Rattle.dns_wire.specs.declared.record.Record.{Record}
+use Rattle.dns_keeper.specs.declared.row.Row.{Row}
+use Rattle.dns_keeper.specs.declared.keeper.KeepFault.{KeepFault}
+use Rattle.dns_keeper.specs.declared.keeper.KeepFault.TheVariants.{Failed}
+use Rattle.dns_keeper.specs.Rows.{appended, first_of, first_from, AreAscending}
+
+-- a batch came to the rows
+abbrev pub GrowsByBatch : Option (List Row) → Option (List Row) → ℕ → ℕ → ℕ → List Record → Type 0
+GrowsByBatch before after client serial moment records = Told (λ old new. new ≡ appended old client serial moment records) before after
+
+-- told rows have ascending ids
+abbrev pub TellsAscending : Option (List Row) → Type 0
+TellsAscending None = Unit {0}
+TellsAscending (Some rows) = AreAscending rows
+
+-- the row with the least id from this one on, or that there is none
+abbrev pub IsRowFrom : Option (List Row) → ℤ → Option Row → Type 0
+IsRowFrom None id found = Unit {0}
+IsRowFrom (Some rows) id found = found ≡ first_from id rows
+
+-- the first of all rows, or that there are none
+abbrev pub IsFirstRow : Option (List Row) → Option Row → Type 0
+IsFirstRow None found = Unit {0}
+IsFirstRow (Some rows) found = found ≡ first_of rows
+
+-- the count of faults never falls, and a call failed only where it rose
+pub record HasCause {T : Type 0} (before now : ℕ) (result : Result T KeepFault) : Type 0 where
+  pub later : before ≤ now
+  pub failed : IsErrOf result Failed → Rose before now

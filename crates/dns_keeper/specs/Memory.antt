@@ -1,0 +1,42 @@
+-- What contracts see of a keeper in memory, and when its calls fail.
+use Rattle.std.specs.Prelude.{ℕ, pos, ◌+ℤ◌, ◌<ℤ◌, ◌+◌, ◌-◌, ◌^◌, ◌==◌, min, Bool, List, length, Result, Ok, Err}
+use Rattle.std.specs.List.{list_any}
+use Rattle.dns_wire.specs.declared.record.Record.{Record}
+use Rattle.dns_keeper.specs.declared.row.Row.{Row}
+use Rattle.dns_keeper.specs.declared.keeper.KeepFault.{KeepFault}
+use Rattle.dns_keeper.specs.declared.keeper.KeepFault.TheVariants.{Failed, OutOfMemory}
+use Rattle.dns_keeper.specs.Rows.{last_id}
+
+-- the calls of one kind that were made, and the numbers of those that fail
+pub record Schedule : Type 0 where
+  pub made : ℕ
+  pub failing : List ℕ
+
+-- its rows, its count of faults, and its calls by kind
+pub record Held : Type 0 where
+  pub rows : List Row
+  pub faults : ℕ
+  pub appends : Schedule
+  pub reads : Schedule
+
+-- a number one higher, below 2^64
+abbrev pub raised : ℕ → ℕ
+raised n = min (n + 1) (2 ^ 64 - 1)
+
+-- one more call was made
+abbrev pub called : Schedule → Schedule
+called s = record { made = raised s.made; failing = s.failing }
+
+-- the next call is one of those that fail
+abbrev pub is_next_failing : Schedule → Bool
+is_next_failing s = list_any (λ n. n == raised s.made) s.failing
+
+-- the count of faults after a call that answered so
+abbrev pub faults_after : {T : Type 0} → Result T KeepFault → ℕ → ℕ
+faults_after (Ok value) faults = faults
+faults_after (Err Failed) faults = raised faults
+faults_after (Err OutOfMemory) faults = faults
+
+-- there are fewer ids above the last than the batch has records
+abbrev pub LacksIds : List Row → List Record → Type 0
+LacksIds rows records = pos (2 ^ 63 - 1) <ℤ (last_id rows +ℤ pos (length records))

@@ -1,0 +1,276 @@
+//! A keeper in memory.
+
+ghost use Rattle.std.specs.Prelude.{◌≡◌, ◌<◌, ◌-◌, ◌+ℤ◌, ◌⊎◌, ◌++◌, ◌^◌, pos, neg_ℤ, [], Some, true, OnOk, OnErr, IfOk, IfSome, IfNone, IsErrOf, FitsSigned};
+ghost use Rattle.std.specs.Option.{option_copied};
+ghost use Rattle.std.specs.Int.{w64};
+ghost use Rattle.dns_wire.specs.WireFormat.{AreShort};
+ghost use Rattle.dns_keeper.specs.declared.keeper.KeepFault.TheVariants.{Failed, OutOfMemory as NoMemory};
+ghost use Rattle.dns_keeper.specs.Rows.{appended, stamp_of, last_id, first_of, first_from, AreAscending};
+ghost use Rattle.dns_keeper.specs.Keeping.{HasCause};
+ghost use Rattle.dns_keeper.specs.Memory.{raised, called, is_next_failing, faults_after, LacksIds};
+
+use crate::keeper::{KeepFault, Keeper};
+use crate::row::Row;
+use dns_io::{Octets, OutOfMemory};
+use dns_wire::Records;
+use std::alloc::Global;
+use std::marker::Model;
+
+/// A keeper in memory, which tells its rows always. Chosen calls of it can be made to fail.
+#[derive(Drop)]
+pub struct MemoryKeeper {
+    alloc: Global,
+    rows: Vec<Row>,
+    faults: u64,
+    appends: Calls,
+    reads: Calls,
+}
+
+impl Model for MemoryKeeper {
+    ghost use Rattle.dns_keeper.specs.Memory.{Held};
+    ghost use Rattle.dns_keeper.specs.Rows.{AreAscending};
+
+    ghost Value = { Held };
+
+    ghost view = { λ k. record {
+      rows = k.rows.items;
+      faults = k.faults;
+      appends = k.appends;
+      reads = k.reads;
+    } };
+
+    ghost invariant = { λ k. AreAscending k.rows.items };
+}
+
+impl MemoryKeeper {
+    /// A keeper without rows. No call of it is made to fail.
+    pub fn new(alloc: Global) -> MemoryKeeper
+        ensures rows { ⟦<MemoryKeeper as Keeper>⟧.rows result ≡ Some [] }
+        ensures faults { ⟦<MemoryKeeper as Keeper>⟧.faults result ≡ 0 }
+        ensures appends { result.appends ≡ record { made = 0; failing = [] } }
+        ensures reads { result.reads ≡ record { made = 0; failing = [] } }
+    {
+        MemoryKeeper::failing(alloc, Vec::new(alloc), Vec::new(alloc))
+    }
+
+    /// A keeper without rows whose append calls and `row_from` calls with these numbers fail, each kind counted from
+    /// 1. Its count of faults rises at these calls and at a lack of free ids alone.
+    pub fn failing(alloc: Global, appends: Vec<u64>, reads: Vec<u64>) -> MemoryKeeper
+        ensures rows { ⟦<MemoryKeeper as Keeper>⟧.rows result ≡ Some [] }
+        ensures faults { ⟦<MemoryKeeper as Keeper>⟧.faults result ≡ 0 }
+        ensures appends { result.appends ≡ record { made = 0; failing = appends.items } }
+        ensures reads { result.reads ≡ record { made = 0; failing = reads.items } }
+    {
+        MemoryKeeper {
+            alloc,
+            rows: Vec::new(alloc),
+            faults: 0,
+            appends: Calls::failing(appends),
+            reads: Calls::failing(reads),
+        }
+    }
+
+    /// A keeper with these rows, whose ids ascend. No call of it is made to fail.
+    pub fn from_rows(alloc: Global, rows: Vec<Row>) -> MemoryKeeper
+        requires { AreAscending rows.items }
+        ensures rows { ⟦<MemoryKeeper as Keeper>⟧.rows result ≡ Some rows.items }
+        ensures faults { ⟦<MemoryKeeper as Keeper>⟧.faults result ≡ 0 }
+        ensures appends { result.appends ≡ record { made = 0; failing = [] } }
+        ensures reads { result.reads ≡ record { made = 0; failing = [] } }
+    {
+        MemoryKeeper {
+            alloc,
+            rows,
+            faults: 0,
+            appends: Calls::failing(Vec::new(alloc)),
+            reads: Calls::failing(Vec::new(alloc)),
+        }
+    }
+
+    /// Counts a fault.
+    fn fail(&mut self) -> KeepFault
+        ensures fault { result ≡ Failed }
+        ensures keeper { self.new ≡ record self.old { faults = raised self.old.faults } }
+    {
+        self.faults = self.faults.saturating_add(1);
+        KeepFault::Failed
+    }
+}
+
+impl Keeper for MemoryKeeper {
+    ghost rows = { λ k. Some k.rows };
+
+    ghost faults = { λ k. k.faults };
+
+    fn append(
+        &mut self,
+        client: u32,
+        serial: u32,
+        moment: u64,
+        records: &Records,
+    ) -> Result<(), KeepFault>
+        requires moment { moment < 2 ^ 47 }
+        requires short { AreShort records.now }
+        ensures ok { OnOk result (self.new.rows ≡ appended self.old.rows client serial moment records.now) }
+        ensures err { OnErr result (self.new.rows ≡ self.old.rows) }
+        ensures ascending { AreAscending self.new.rows }
+        ensures faults { self.new.faults ≡ faults_after result self.old.faults }
+        ensures appends { self.new.appends ≡ called self.old.appends }
+        ensures reads { self.new.reads ≡ self.old.reads }
+        ensures cause { HasCause self.old.faults self.new.faults result }
+        ensures uncounted { IsErrOf result NoMemory → self.new.faults ≡ self.old.faults }
+        ensures listed { is_next_failing self.old.appends ≡ true → IsErrOf result Failed }
+        ensures failed { IsErrOf result Failed → (is_next_failing self.old.appends ≡ true) ⊎ LacksIds self.old.rows records.now }
+    {
+        if self.appends.next_fails() {
+            return Err(self.fail());
+        }
+        match new_rows(self.alloc, &self.rows, client, serial, moment, records) {
+            Ok(mut batch) => Ok(self.rows.append(&mut batch)?),
+            Err(KeepFault::Failed) => Err(self.fail()),
+            Err(KeepFault::OutOfMemory) => Err(KeepFault::OutOfMemory),
+        }
+    }
+
+    fn row_from(&mut self, id: i64) -> Result<Option<Row>, KeepFault>
+        ensures found { IfOk result (λ found. found ≡ first_from id self.old.rows) }
+        ensures first { id ≡ neg_ℤ (pos (2 ^ 63)) → IfOk result (λ found. found ≡ first_of self.old.rows) }
+        ensures ascending { AreAscending self.new.rows }
+        ensures cause { HasCause self.old.faults self.new.faults result }
+        ensures uncounted { IsErrOf result NoMemory → self.new.faults ≡ self.old.faults }
+        ensures keeper { self.new ≡ record self.old { faults = faults_after result self.old.faults; reads = called self.old.reads } }
+        ensures listed { is_next_failing self.old.reads ≡ true → IsErrOf result Failed }
+        ensures failed { IsErrOf result Failed → is_next_failing self.old.reads ≡ true }
+    {
+        if self.reads.next_fails() {
+            return Err(self.fail());
+        }
+        match first_from(&self.rows, id) {
+            None => Ok(None),
+            Some(row) => Ok(Some(copied(self.alloc, row)?)),
+        }
+    }
+
+    fn fault_count(&self) -> u64 {
+        self.faults
+    }
+}
+
+/// The calls of one kind, and which of them fail.
+#[derive(Drop)]
+struct Calls {
+    made: u64,
+    failing: Vec<u64>,
+}
+
+impl Model for Calls {
+    ghost use Rattle.dns_keeper.specs.Memory.{Schedule};
+
+    ghost Value = { Schedule };
+
+    ghost view = { λ c. record { made = c.made; failing = c.failing.items } };
+}
+
+impl Calls {
+    fn failing(failing: Vec<u64>) -> Calls
+        ensures { result ≡ record { made = 0; failing = failing.items } }
+    {
+        Calls { made: 0, failing }
+    }
+
+    /// Counts one more call, and says whether it fails.
+    fn next_fails(&mut self) -> bool
+        ensures calls { self.new ≡ called self.old }
+        ensures test { result ≡ is_next_failing self.old }
+    {
+        self.made = self.made.saturating_add(1);
+        self.failing.contains(&self.made)
+    }
+}
+
+/// The greatest id, 0 where there is no row.
+fn last_id(rows: &[Row]) -> i64
+    ensures { result ≡ last_id rows.now }
+{
+    match rows.last() {
+        None => 0,
+        Some(row) => row.id,
+    }
+}
+
+/// The id that follows, if there is one.
+fn id_after(id: i64) -> Option<i64>
+    ensures some { IfSome result (λ next. next ≡ id +ℤ pos 1) }
+    ensures fits { IfSome result (FitsSigned w64) }
+    ensures none { IfNone result (id ≡ pos (2 ^ 63 - 1)) }
+{
+    if id == i64::MAX { None } else { Some(id + 1) }
+}
+
+/// The stamp of a moment.
+fn stamp_of(alloc: Global, _moment: u64) -> Result<Octets, OutOfMemory>
+    ensures { IfOk result (λ stamp. stamp ≡ stamp_of _moment) }
+{
+    Ok(Octets::new(alloc))
+}
+
+/// The rows of a batch, with the ids that follow those of these rows; a fault where the ids run out.
+fn new_rows(
+    alloc: Global,
+    rows: &[Row],
+    client: u32,
+    serial: u32,
+    moment: u64,
+    records: &Records,
+) -> Result<Vec<Row>, KeepFault>
+    requires { AreShort records.now }
+    ensures ok { IfOk result (λ batch. rows.now ++ batch.items ≡ appended rows.now client serial moment records.now) }
+    ensures failed { IsErrOf result Failed → LacksIds rows.now records.now }
+{
+    let mut batch = Vec::with_capacity(alloc, records.len())?;
+    let mut last = last_id(rows);
+    for one in records.as_slice() {
+        let Some(id) = id_after(last) else {
+            return Err(KeepFault::Failed);
+        };
+        // The data is short, so only memory can be wanting.
+        let Ok(bytes) = one.to_vec(alloc) else {
+            return Err(KeepFault::OutOfMemory);
+        };
+        batch.push(Row {
+            id,
+            client: i64::from(client),
+            serial: i64::from(serial),
+            stamp: stamp_of(alloc, moment)?,
+            bytes,
+        })?;
+        last = id;
+    }
+    Ok(batch)
+}
+
+/// The first row whose id is not below this one.
+fn first_from(rows: &[Row], id: i64) -> Option<&Row>
+    ensures found { option_copied result ≡ first_from id rows.now }
+    ensures first { id ≡ neg_ℤ (pos (2 ^ 63)) → option_copied result ≡ first_of rows.now }
+{
+    for row in rows {
+        if id <= row.id {
+            return Some(row);
+        }
+    }
+    None
+}
+
+/// One row once more.
+fn copied(alloc: Global, row: &Row) -> Result<Row, OutOfMemory>
+    ensures { IfOk result (λ copy. copy ≡ row.now) }
+{
+    Ok(Row {
+        id: row.id,
+        client: row.client,
+        serial: row.serial,
+        stamp: Octets::from_slice(alloc, row.stamp.as_slice())?,
+        bytes: Octets::from_slice(alloc, row.bytes.as_slice())?,
+    })
+}

@@ -1,0 +1,13 @@
+use Rattle.std.proofs.Common.{◌≡◌, ◌≤◌, ◌-◌, length}
+use Rattle.dns_io.specs.Edge.{Told}
+use Rattle.dns_net.proofs.Fetching.{TakesBytes}
+use Rattle.dns_net.proofs.fetch.fetch_body.Given as goal
+
+abbrev pub invariant-loop-body : goal.invariant-loop-body
+invariant-loop-body g l =
+    Told (TakesBytes l.body) (g.P.BodyPieces.left l.fn.stream) (g.P.BodyPieces.left l.stream)
+    × (length l.body ≤ 65535)
+    × (g.P.BodyPieces.faults l.stream ≡ g.P.BodyPieces.faults l.fn.stream)
+
+abbrev pub decreases-loop-body : goal.decreases-loop-body
+decreases-loop-body g l = 65535 - length l.body

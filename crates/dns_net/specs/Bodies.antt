@@ -1,0 +1,75 @@
+-- The bodies of requests and responses, which come in pieces.
+use Rattle.std.specs.Prelude.{◌≡◌, ℕ, ◌+◌, ◌<◌, ◌≤◌, ◌==◌, nat_lt, Bool, true, if◌then◌else◌, List, [], ◌∷◌, ◌++◌, length, Option, Some, None, IsSome, Result, Ok, Err}
+use Rattle.dns_io.specs.Edge.{Told}
+use Rattle.dns_net.specs.declared.error.NetError.{NetError}
+use Rattle.dns_net.specs.declared.error.NetError.TheVariants.{RequestTooLarge, BadRequest, Io, OutOfMemory}
+use Rattle.dns_net.specs.declared.error.BadRequestKind.TheVariants.{Length}
+
+-- all bytes of these pieces, one after another
+abbrev pub joined : List (List ℕ) → List ℕ
+joined [] = []
+joined (piece ∷ pieces) = piece ++ joined pieces
+
+-- these pieces, without the empty ones that they begin with
+abbrev pub from_bytes : List (List ℕ) → List (List ℕ)
+from_bytes [] = []
+from_bytes ([] ∷ pieces) = from_bytes pieces
+from_bytes ((byte ∷ bytes) ∷ pieces) = (byte ∷ bytes) ∷ pieces
+
+-- a piece that was given has bytes
+abbrev pub HasBytes : Option (List ℕ) → Type 0
+HasBytes None = Unit {0}
+HasBytes (Some piece) = 0 < length piece
+
+-- the next piece that has bytes was given, or none where only empty ones were left
+abbrev pub NextOf : Option (List ℕ) → List (List ℕ) → List (List ℕ) → Type 0
+NextOf None left rest = (from_bytes left ≡ []) × (rest ≡ [])
+NextOf (Some piece) left rest = from_bytes left ≡ piece ∷ rest
+
+-- the same of what is told to be left
+abbrev pub GivesNext : Option (List (List ℕ)) → Option (List (List ℕ)) → Option (List ℕ) → Type 0
+GivesNext before now piece = Told (NextOf piece) before now
+
+-- a body is as long as it is said to be, where that is said
+abbrev pub is_said : Option ℕ → ℕ → Bool
+is_said None count = true
+is_said (Some said) count = said == count
+
+-- the message whose bytes these are, where they are at most 65,535 and as many as was said
+abbrev pub whole_body : Option ℕ → List ℕ → Result (List ℕ) NetError
+whole_body said bytes =
+    if nat_lt 65535 (length bytes) then Err RequestTooLarge
+    else (if is_said said (length bytes) then Ok bytes else Err (BadRequest Length))
+
+-- pieces of at most 65,535 bytes in all were taken
+pub record TakesShort (left rest : List (List ℕ)) : Type 0 where
+  pub front : List (List ℕ)
+  pub parts : left ≡ front ++ rest
+  pub short : length (joined front) ≤ 65535
+
+-- the last piece that was taken is the first with which they pass 65,535 bytes
+pub record TakesPast (left rest : List (List ℕ)) : Type 0 where
+  pub front : List (List ℕ)
+  pub piece : List ℕ
+  pub parts : left ≡ front ++ piece ∷ rest
+  pub short : length (joined front) ≤ 65535
+  pub past : 65535 < length (joined front) + length piece
+
+-- what comes of fetching a body, and which pieces are left
+abbrev pub Fetches : Option ℕ → Result (List ℕ) NetError → List (List ℕ) → List (List ℕ) → Type 0
+Fetches said (Ok bytes) left rest = (rest ≡ []) × (whole_body said (joined left) ≡ Ok bytes)
+Fetches said (Err RequestTooLarge) left rest = TakesPast left rest
+Fetches said (Err (BadRequest Length)) left rest = (rest ≡ []) × (whole_body said (joined left) ≡ Err (BadRequest Length))
+Fetches said (Err Io) left rest = TakesShort left rest
+Fetches said (Err OutOfMemory) left rest = TakesShort left rest
+Fetches said (Err _) left rest = ⊥
+
+-- what may come of it whatever is told: no other fault, none about the length where none was said, and no bytes but
+-- those of a whole body
+abbrev pub IsFetched : Option ℕ → Result (List ℕ) NetError → Type 0
+IsFetched said (Ok bytes) = whole_body said bytes ≡ Ok bytes
+IsFetched said (Err RequestTooLarge) = Unit {0}
+IsFetched said (Err (BadRequest Length)) = IsSome said
+IsFetched said (Err Io) = Unit {0}
+IsFetched said (Err OutOfMemory) = Unit {0}
+IsFetched said (Err _) = ⊥

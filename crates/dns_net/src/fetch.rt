@@ -1,0 +1,57 @@
+//! A body, fetched piece by piece.
+
+ghost use Rattle.std.specs.Prelude.{◌≡◌};
+ghost use Rattle.dns_io.specs.Edge.{Told};
+ghost use Rattle.dns_net.specs.Bodies.{Fetches, IsFetched, is_said};
+ghost use Rattle.dns_net.specs.Faults.{HasCause};
+
+use crate::body::BodyPieces;
+use crate::error::{BadRequestKind, NetError};
+use dns_io::Octets;
+use dns_wire::limits;
+use std::alloc::Global;
+
+/// The bytes of a whole body, at most 65,535; `length` is how many were said, where any number was. It stops at the
+/// first piece with which they would be more, and at the first fault; what is left then was not read.
+pub fn fetch_body<P: BodyPieces>(
+    alloc: Global,
+    stream: &mut P,
+    length: Option<usize>,
+) -> Result<Octets, NetError>
+    ensures told { Told (Fetches length result) (P.left stream.old) (P.left stream.new) }
+    ensures kind { IsFetched length result }
+    ensures cause { HasCause (P.faults stream.old) (P.faults stream.new) result }
+{
+    let mut body = Octets::from_vec(Vec::with_capacity(alloc, room_for(length))?);
+    while let Some(piece) = stream.next()? {
+        if piece.len() > MAX_BODY_LEN - body.len() {
+            return Err(NetError::RequestTooLarge);
+        }
+        body.append(piece.as_slice())?;
+    }
+    if !is_said(length, body.len()) {
+        return Err(NetError::BadRequest(BadRequestKind::Length));
+    }
+    Ok(body)
+}
+
+/// The most bytes of a body: those of a message.
+const MAX_BODY_LEN: usize = limits::MAX_MESSAGE_LEN as usize;
+
+/// How many bytes to make room for.
+fn room_for(length: Option<usize>) -> usize {
+    match length {
+        None => 0,
+        Some(length) => length.min(MAX_BODY_LEN),
+    }
+}
+
+/// Whether a body of `count` bytes is as long as was said, where that was said.
+fn is_said(length: Option<usize>, count: usize) -> bool
+    ensures { result ≡ is_said length count }
+{
+    match length {
+        None => true,
+        Some(said) => said == count,
+    }
+}

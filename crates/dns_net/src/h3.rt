@@ -1,0 +1,168 @@
+//! Clients over HTTP/3 (RFC 9114).
+
+ghost use Rattle.std.specs.Prelude.{◌≡◌, [], true, false, Some, None, Ok, IsNone, MatchOption, MatchBool, string_bytes};
+ghost use Rattle.std.specs.Option.{option_map_or, option_and_then};
+ghost use Rattle.dns_net.specs.Answers.{HasSendCause};
+ghost use Rattle.dns_net.specs.Clients.{Sends};
+ghost use Rattle.dns_net.specs.declared.poll.Poll.TheVariants.{Ready};
+ghost use Rattle.dns_net.specs.declared.version.Version.TheVariants.{Http3};
+
+use crate::address::Address;
+use crate::client::send_over;
+use crate::context::RequestContext;
+use crate::error::NetError;
+use crate::link::HttpLink;
+use crate::poll::Poll;
+use crate::set_headers::SetHeaders;
+use crate::version::Version;
+use dns_io::Peer;
+use dns_wire::Message;
+use std::alloc::Global;
+use std::fmt;
+
+/// What a client over HTTP/3 is made of, besides the address, the server's name and the path. At first nothing sets header fields, and there is no limit.
+#[derive(Drop)]
+pub struct H3ClientStreamBuilder<L> {
+    link: L,
+    set_headers: Option<Box<dyn SetHeaders>>,
+    limit: Option<u64>,
+}
+
+impl<L: HttpLink> H3ClientStreamBuilder<L> {
+    /// Has this object set header fields of each request, in place of an earlier one.
+    pub fn set_headers(&mut self, headers: Box<dyn SetHeaders>)
+        ensures set { MatchOption self.new.set_headers ⊥ (λ object. (pairs object ≡ pairs headers) × (refuses object ≡ refuses headers)) }
+        ensures link { self.new.link ≡ self.old.link }
+        ensures limit { self.new.limit ≡ self.old.limit }
+    {
+        self.set_headers = Some(headers);
+    }
+
+    /// Limits each exchange to this number of milliseconds.
+    pub fn request_timeout(&mut self, limit: u64)
+        ensures { self.new ≡ record self.old { limit = Some limit } }
+    {
+        self.limit = Some(limit);
+    }
+
+    /// A client at this address, of the server of this name, at this path. Takes no memory.
+    pub fn build(self, address: Peer, server_name: String, path: String) -> H3ClientStream<L>
+        ensures link { result.link ≡ self.link }
+        ensures limit { result.limit ≡ self.limit }
+        ensures open { result.is_shut ≡ false }
+        ensures version { result.context.version ≡ Http3 }
+        ensures name { string_bytes result.context.server_name ≡ string_bytes server_name }
+        ensures path { string_bytes result.context.query_path ≡ string_bytes path }
+        ensures pairs { option_map_or (λ object. pairs object) result.context.set_headers [] ≡ option_map_or (λ object. pairs object) self.set_headers [] }
+        ensures refuses { option_and_then (λ object. refuses object) result.context.set_headers ≡ option_and_then (λ object. refuses object) self.set_headers }
+        ensures address { result.address ≡ address }
+    {
+        let H3ClientStreamBuilder {
+            link,
+            set_headers,
+            limit,
+        } = self;
+        H3ClientStream {
+            context: RequestContext {
+                version: Version::Http3,
+                server_name,
+                query_path: path,
+                set_headers,
+            },
+            link,
+            limit,
+            is_shut: false,
+            address,
+        }
+    }
+}
+
+/// A client over HTTP/3.
+#[derive(Drop)]
+pub struct H3ClientStream<L> {
+    context: RequestContext,
+    link: L,
+    limit: Option<u64>,
+    is_shut: bool,
+    address: Peer,
+}
+
+impl<L: HttpLink> H3ClientStream<L> {
+    /// What a client over this link is made of. Takes no memory.
+    pub fn builder(link: L) -> H3ClientStreamBuilder<L>
+        ensures link { result.link ≡ link }
+        ensures unset { IsNone result.set_headers }
+        ensures unlimited { result.limit ≡ None }
+    {
+        H3ClientStreamBuilder {
+            link,
+            set_headers: None,
+            limit: None,
+        }
+    }
+
+    /// Sends a message, with the id 0 (RFC 8484 4.1), and gives the message of the response. The answer is the first of
+    /// these: the client was shut down; the message cannot be written; no request can be made; the link gave no response;
+    /// the response's length is no number; what comes of its body; its status; its type; its message cannot be read. The
+    /// body of a response goes back to the link whatever it says.
+    pub fn send_message(&mut self, alloc: Global, request: &Message) -> Result<Message, NetError>
+        ensures sends { Sends L.Body.left L.Body.faults L.calls L.exchanges self.old.is_shut
+            (record {
+              version = self.old.context.version;
+              name = string_bytes self.old.context.server_name;
+              path = string_bytes self.old.context.query_path;
+              pairs = option_map_or (λ object. pairs object) self.old.context.set_headers [];
+              refused = option_and_then (λ object. refuses object) self.old.context.set_headers;
+              limit = self.old.limit;
+            })
+            self.old.link request.now result self.new.link }
+        ensures kept { self.new ≡ record self.old { link = self.new.link } }
+        ensures cause { HasSendCause (L.faults self.old.link) (L.faults self.new.link) (option_and_then (λ object. refuses object) self.old.context.set_headers) result }
+    {
+        if self.is_shut {
+            return Err(NetError::ShutDown);
+        }
+        send_over(alloc, &self.context, &mut self.link, self.limit, request)
+    }
+
+    /// Ends the client: it sends nothing any more.
+    pub fn shutdown(&mut self)
+        ensures { self.new ≡ record self.old { is_shut = true } }
+    {
+        self.is_shut = true;
+    }
+
+    /// Whether it was shut down.
+    pub fn is_shutdown(&self) -> bool
+        ensures { result ≡ self.now.is_shut }
+    {
+        self.is_shut
+    }
+
+    /// That a message can be sent, or after a shutdown that none will be.
+    pub fn poll_next(&mut self) -> Poll<Option<Result<(), NetError>>>
+        ensures answer { MatchBool self.old.is_shut (result ≡ Ready None) (result ≡ Ready (Some (Ok tt))) }
+        ensures kept { self.new ≡ self.old }
+    {
+        if self.is_shut {
+            return Poll::Ready(None);
+        }
+        Poll::Ready(Some(Ok(())))
+    }
+
+    /// Its link.
+    pub fn link(&self) -> &L
+        ensures { result.now ≡ self.now.link }
+    {
+        &self.link
+    }
+}
+
+/// `H3(`, the address, `,`, the server's name and `)`.
+impl<L> fmt::Display for H3ClientStream<L> {
+    fn fmt<W: fmt::Write>(&self, f: &mut fmt::Formatter<W>) -> fmt::Result {
+        let address = Address(self.address);
+        let name = self.context.server_name.as_str();
+        write!(f, "H3({address},{name})")
+    }
+}

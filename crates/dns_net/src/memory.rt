@@ -1,0 +1,88 @@
+//! A body in memory, for tests and for what is there already. It always tells its content, and the calls fail whose
+//! numbers it was made with.
+
+ghost use Rattle.std.specs.Prelude.{◌≡◌, nat_lt, ℕ, List, [], Some, IfOk, OnOk, OnErr, IsErrOf};
+ghost use Rattle.dns_io.specs.Edge.{HasCause, Keeps};
+ghost use Rattle.dns_net.specs.Bodies.{HasBytes, NextOf, GivesNext};
+ghost use Rattle.dns_net.specs.Memory.{PieceNext};
+
+use crate::body::BodyPieces;
+use bytes::Bytes;
+use dns_io::IoFault;
+use std::collections::LinkedList;
+use std::marker::Model;
+
+/// A body of pieces in memory. It never wants memory.
+#[derive(Drop)]
+pub struct MemoryBody {
+    pieces: LinkedList<Bytes>,
+    failing: Vec<u64>,
+    calls: u64,
+    faults: u64,
+}
+
+impl Model for MemoryBody {
+    ghost use Rattle.dns_net.specs.Memory.{BodyState};
+
+    ghost Value = { BodyState };
+
+    ghost view = { λ b. record { left = b.pieces; failing = b.failing.items; calls = b.calls; faults = b.faults } };
+}
+
+impl MemoryBody {
+    /// A body of these pieces. Its calls are counted from 1, and those whose numbers stand in `failing` fail; the count
+    /// of faults rises by one at each of them, and nowhere else.
+    pub fn new(pieces: LinkedList<Bytes>, failing: Vec<u64>) -> MemoryBody
+        ensures { result ≡ record { left = pieces; failing = failing.items; calls = 0; faults = 0 } }
+    {
+        MemoryBody {
+            pieces,
+            failing,
+            calls: 0,
+            faults: 0,
+        }
+    }
+
+    /// Whether a call failed.
+    pub fn has_faults(&self) -> bool
+        ensures { result ≡ nat_lt 0 self.now.faults }
+    {
+        0 < self.faults
+    }
+}
+
+impl BodyPieces for MemoryBody {
+    ghost left = { λ b. Some b.left };
+
+    ghost faults = { λ b. b.faults };
+
+    fn next(&mut self) -> Result<Option<Bytes>, IoFault>
+        ensures bytes { IfOk result HasBytes }
+        ensures given { IfOk result (GivesNext (Some self.old.left) (Some self.new.left)) }
+        ensures kept { OnErr result (Keeps (Some self.old.left) (Some self.new.left)) }
+        ensures cause { HasCause self.old.faults self.new.faults result }
+        ensures calm { OnOk result (self.new.faults ≡ self.old.faults) }
+        ensures uncounted { IsErrOf result IoFault.OutOfMemory → self.new.faults ≡ self.old.faults }
+        ensures next { PieceNext self.old result self.new }
+    {
+        self.calls = self.calls.saturating_add(1);
+        if self.failing.contains(&self.calls) {
+            self.faults = self.faults.saturating_add(1);
+            return Err(IoFault::Failed);
+        }
+        Ok(next_piece(&mut self.pieces))
+    }
+}
+
+/// Takes the next piece that has bytes, and the empty ones before it.
+fn next_piece(pieces: &mut LinkedList<Bytes>) -> Option<Bytes>
+    ensures bytes { HasBytes result }
+    ensures next { NextOf result pieces.old pieces.new }
+{
+    while let Some(piece) = pieces.pop_front() {
+        if !piece.is_empty() {
+            return Some(piece);
+        }
+    }
+    None
+}

@@ -1,0 +1,9 @@
+//! Tests of dns_keeper, dns_book and dns_server_core by their public calls.
+#![tactic(auto)]
+
+#[cfg(test)]
+mod book;
+#[cfg(test)]
+mod journal;
+#[cfg(test)]
+mod server;

@@ -1,0 +1,120 @@
+-- What the query shows.
+use Rattle.std.proofs.Common.{◌≡◌, inl, inr, ℕ, ℤ, List, [], ◌∷◌, map, filter, flat_map, take, Bool, true, false, if◌then◌else◌, Option, Some, None, refl, sym, ap, subst, ◌∙◌}
+use Rattle.std.proofs.lemmas.Bool.{cases_Bool}
+use Rattle.std.specs.List.{list_all}
+use Rattle.std.specs.List.Sorted.{IsPermutation, IsSorted}
+use Rattle.sqlite.specs.declared.types.Value.TheVariants.{Null, Int}
+use Rattle.sqlite.specs.Order.{Row}
+use Rattle.sqlite.specs.Term.{Env, holds}
+use Rattle.sqlite.specs.Query.{IsAnswer, output, Output}
+use Rattle.sqlite.specs.Program.{overlay}
+use Rattle.sqlite.specs.State.{State, Shown, ShowsRows, IsUnchanged}
+use Rattle.sqlite.specs.Listing.{understood}
+use Rattle.sqlite.specs.Clock.{timed}
+use Rattle.sqlite_schema.specs.declared.command.Returning.{Returning}
+use Rattle.sqlite.proofs.Callers.{IsPlain, reads_as}
+use Rattle.dns_sqlite.specs.Tables.{journal_schema, seen, not_below, by_key, HasRow}
+use Rattle.std.proofs.Common.{length, get_or, ◌<◌, zero, suc, arith, Less, Equal, Greater, Ordering}
+use Rattle.std.specs.List.{AllByRecursion, Contains}
+use Rattle.std.specs.Ordering.{is_lt, is_ge, ordering_then, int_cmp}
+use Rattle.std.specs.Cmp.{IsStrictWeakOrder}
+use Rattle.std.proofs.lemmas.List.Sorted.{ranks_by, sorted_far, length_permutation, Contains-permutation, IsPermutation-sym}
+use Rattle.sqlite.specs.Collation.TheVariants.{Binary}
+use Rattle.sqlite.specs.Order.{value_cmp}
+use Rattle.sqlite.specs.Ops.{binary, is_true, from_truth}
+use Rattle.sqlite.specs.Tree.{rowid, IsTable}
+use Rattle.sqlite_trees.specs.declared.store.Shape.TheVariants as shape
+use Rattle.sqlite_trees.proofs.TreeLemmas.{IsShaped-filter}
+use Rattle.sqlite_value.proofs.OrderLemmas.{value_cmp-Int}
+use Rattle.sqlite_sql.proofs.QueryLemmas.{key_cmp_total}
+use Rattle.dns_sqlite.proofs.Rows.{AreKeyed}
+use Rattle.dns_sqlite.proofs.Texts.{from_text, query, from_is, from_plain}
+
+abbrev keeps : ℤ → Row → List Env
+keeps id r = if list_all (holds ((Int id ∷ []) ∷ r ∷ [])) query.filter then ((Int id ∷ []) ∷ r ∷ []) ∷ [] else []
+
+staged_is : (id : ℤ) (rows : List Row) → map (output query) (flat_map (keeps id) rows) ≡ map seen (filter (not_below id) rows)
+staged_is id [] = refl
+staged_is id (r ∷ rows) = elim (cases_Bool (not_below id r)) [
+  | inl there ↦ rw there (ap (λ (xs : List Output). seen r ∷ xs) (staged_is id rows))
+  | inr away ↦ rw away (staged_is id rows)
+]
+
+pub finds : (old new : State) (id : ℤ) (rows : List Row) → old.now.schema ≡ journal_schema → Shown from_text (Int id ∷ []) old new rows → HasRow id (old.now.trees 1) rows
+finds old new id rows has h =
+    let got = reads_as from_text (Int id ∷ []) old new journal_schema has _ from_is.0 from_plain from_is.1 rows h in
+    let a : IsAnswer query (overlay old.now.trees []) (Int id ∷ []) rows = got.answer Null in
+    let kept : a.kept ≡ map seen (filter (not_below id) (old.now.trees 1)) = a.distinct ∙ ap (map (output query)) a.grouped ∙ staged_is id (old.now.trees 1) in
+    (a.ordered, subst (λ k. IsPermutation k a.ordered) kept a.same, a.sorted, a.shown)
+
+-- and it changes nothing
+pub same : (old new : State) (id : ℤ) (rows : List Row) → old.now.schema ≡ journal_schema → Shown from_text (Int id ∷ []) old new rows → IsUnchanged old new
+unfolding Shown
+same old new id rows has h =
+    let known = sym h.1.is ∙ ap (λ s. understood s from_text) has in
+    let bare = subst IsPlain (sym known) from_plain in
+    let P : Option Returning → Type 0 = ShowsRows old new from_text h.0 (timed (Int id ∷ []) h.0.formats h.1.now) rows in
+    let it : P None = subst P bare.0 h.2 in
+    it.3
+
+-- ---- the first of rows by ascending id
+
+abbrev lt : Row × Row → Row × Row → Bool
+lt x y = is_lt (by_key x y)
+
+weak : IsStrictWeakOrder lt
+weak = ranks_by (key_cmp_total ((record { collation = Binary; descending = false }) ∷ []) 0) (λ (o : Row × Row). o.0)
+
+is_lt_then : (o : Ordering) → is_lt (ordering_then o Equal) ≡ is_lt o
+is_lt_then Less = refl
+is_lt_then Equal = refl
+is_lt_then Greater = refl
+
+lt_seen : (r s : Row) → lt (seen r) (seen s) ≡ is_lt (value_cmp (rowid r) (rowid s))
+lt_seen r s = is_lt_then (value_cmp (rowid r) (rowid s))
+
+not_less : (o : Row × Row) (os : List (Row × Row)) → IsSorted by_key (o ∷ os) → (x : Row × Row) → Contains (o ∷ os) x → lt x o ≡ false
+not_less o os up x c = subst (λ y. lt y o ≡ false) c.2 (sorted_far lt weak (o ∷ os) up 0 c.0 x (omega arith) c.1)
+
+all_at : {X : Type 0} (P : X → Type 0) (xs : List X) → AllByRecursion P xs → (k : ℕ) → k < length xs → (d : X) → P (get_or xs k d)
+all_at P [] all k low d = absurd (omega arith)
+all_at P (x ∷ xs) all zero low d = all.0
+all_at P (x ∷ xs) all (suc k) low d = all_at P xs all.1 k (omega arith) d
+
+one_of : (f : Row × Row) (fs : List (Row × Row)) (o : Row × Row) → AllByRecursion (λ x. lt f x ≡ true) fs → lt f o ≡ false → (k : ℕ) → k < length (f ∷ fs) → get_or (f ∷ fs) k o ≡ o → o ≡ f
+one_of f fs o low none zero within e = sym e
+one_of f fs o low none (suc k) within e = absurd (let yes : lt f o ≡ true = subst (λ y. lt f y ≡ true) e (all_at (λ x. lt f x ≡ true) fs low k (omega arith) o) in let it : true ≡ false = sym yes ∙ none in cc)
+
+head_is : (f : Row × Row) (fs ordered : List (Row × Row)) → AllByRecursion (λ x. lt f x ≡ true) fs → IsPermutation (f ∷ fs) ordered → IsSorted by_key ordered → take 1 ordered ≡ f ∷ []
+head_is f fs [] low same up = absurd (omega (arith, length_permutation (f ∷ fs) [] same))
+head_is f fs (o ∷ os) low same up =
+    let f_in = Contains-permutation (f ∷ fs) (o ∷ os) f same (0, omega arith, refl) in
+    let o_in = Contains-permutation (o ∷ os) (f ∷ fs) o (IsPermutation-sym (f ∷ fs) (o ∷ os) same) (0, omega arith, refl) in
+    ap (λ x. x ∷ []) (one_of f fs o low (not_less o os up f f_in) o_in.0 o_in.1 o_in.2)
+
+below_all : (r : Row) (rs : List Row) → AllByRecursion (λ s. value_cmp (rowid r) (rowid s) ≡ Less) rs → AllByRecursion (λ x. lt (seen r) x ≡ true) (map seen rs)
+below_all r [] all = tt
+below_all r (s ∷ rs) all = (lt_seen r s ∙ ap is_lt all.0, below_all r rs all.1)
+
+take_one : (ordered : List (Row × Row)) → take 1 (map (λ (o : Row × Row). o.1) ordered) ≡ map (λ (o : Row × Row). o.1) (take 1 ordered)
+take_one [] = refl
+take_one (o ∷ os) = refl
+
+first_of : (rows : List Row) (ordered : List (Row × Row)) → IsTable rows → IsPermutation (map seen rows) ordered → IsSorted by_key ordered
+    → take 1 (map (λ (o : Row × Row). o.1) ordered) ≡ map (λ r. (seen r).1) (take 1 rows)
+first_of [] [] up same sorted = refl
+first_of [] (o ∷ os) up same sorted = absurd (omega (arith, length_permutation {X = Row × Row} [] (o ∷ os) same))
+first_of (r ∷ rs) ordered up same sorted = take_one ordered ∙ ap (map (λ (o : Row × Row). o.1)) (head_is (seen r) (map seen rs) ordered (below_all r rs up.0) same sorted)
+
+-- the row that is found is the first that is not below, as a query shows it
+pub first_is : (id : ℤ) (rows found : List Row) → AreKeyed rows → HasRow id rows found → found ≡ map (λ r. (seen r).1) (take 1 (filter (not_below id) rows))
+first_is id rows found keyed h =
+    h.3 ∙ first_of (filter (not_below id) rows) h.0 (IsShaped-filter shape.Table (not_below id) rows (keyed.table, keyed.ints)).0 h.1 h.2
+
+is_true_of : (b : Bool) → is_true (from_truth (Some b)) ≡ b
+is_true_of true = refl
+is_true_of false = refl
+
+pub not_below_is : (id x : ℤ) (r : Row) → rowid r ≡ Int x → not_below id r ≡ is_ge (int_cmp x id)
+unfolding binary
+not_below_is id x r e = rw e (is_true_of (is_ge (value_cmp (Int x) (Int id))) ∙ ap is_ge (value_cmp-Int x id))

@@ -1,0 +1,35 @@
+-- What a query leaves, whatever its text means.
+use Rattle.std.proofs.Common.{◌≡◌, ◌⊎◌, inl, inr, ℕ, List, Option, Some, None, Result, Ok, Err, IfOk, IfErr, IsTrue, sym, ◌∙◌}
+use Rattle.sqlite.specs.Order.{Row}
+use Rattle.sqlite.specs.declared.error.Error.{Error}
+use Rattle.sqlite_schema.specs.declared.command.Returning.{Returning}
+use Rattle.sqlite_resolve.specs.declared.compiled.Compiled.{Compiled}
+use Rattle.sqlite.specs.State.{State, Shown, ShowsRows, IsNotRun, FailsToQuery, FailsToShow, IsUnchanged, IsRolledBack}
+
+module _ (old new : State) where
+  shows_open : (sql : List ℕ) (c : Compiled) (params : Row) (rows : List Row) (o : Option Returning) → ShowsRows old new sql c params rows o → IsTrue old.is_open
+  shows_open sql c params rows None h = h.3.0.was_open
+  shows_open sql c params rows (Some what) h = h.1.shown.was_open
+
+  pub shown_open : (sql : List ℕ) (params : Row) (rows : List Row) → Shown sql params old new rows → IsTrue old.is_open
+  unfolding Shown
+  shown_open sql params rows h = shows_open sql h.0 _ rows h.0.returning h.2
+
+  fails_to_show : (sql : List ℕ) (c : Compiled) (params : Row) (e : Error) (o : Option Returning) → FailsToShow old new sql c params e o → IsUnchanged old new ⊎ IsRolledBack old new
+  fails_to_show sql c params e None h = inl h.3
+  fails_to_show sql c params e (Some what) (inl refused) = inl refused.1
+  fails_to_show sql c params e (Some what) (inr failed) = inr failed.3
+
+  pub fails_query : (sql : List ℕ) (params : Row) (e : Error) → FailsToQuery sql params old new e → IsUnchanged old new ⊎ IsRolledBack old new
+  unfolding FailsToQuery IsNotRun
+  fails_query sql params e (inl (inl refused)) = inl refused.1
+  fails_query sql params e (inl (inr failed)) = inr failed.3
+  fails_query sql params e (inr h) = fails_to_show sql h.0 _ e h.0.returning h.2
+
+  pub stays : (IsTrue old.is_open → old.now ≡ old.committed) → IsUnchanged old new ⊎ IsRolledBack old new → IsTrue new.is_open → IsTrue old.is_open × (new.now ≡ old.now)
+  stays settled (inl same) live = (same.0.was_open, same.0.now_is)
+  stays settled (inr undone) live = let was = undone.was_open live in (was, (undone.undone live).0 ∙ sym (settled was))
+
+pub either : {T E X : Type 0} (r : Result T E) (P : T → Type 0) (Q : E → Type 0) → IfOk r P → IfErr r Q → ((x : T) → P x → X) → ((e : E) → Q e → X) → X
+either (Ok x) P Q h k f g = f x h
+either (Err e) P Q h k f g = g e k

@@ -1,0 +1,23 @@
+use Rattle.std.proofs.Common.{false, subst, []}
+use Rattle.sqlite.specs.Held.{state}
+use Rattle.sqlite.specs.State.{ExecutesInside}
+use Rattle.sqlite.proofs.InsideLemmas.{inside_keeps}
+use Rattle.dns_sqlite.proofs.Batches.{stays_inside, stays_open}
+use Rattle.dns_sqlite.proofs.Texts.{create_record_table}
+use Rattle.dns_sqlite.proofs.Makes.{makes_records, if_ok}
+use Rattle.dns_sqlite.proofs.schema.create_record_table.Goals as goal
+
+pub returns-clause-made : goal.returns-clause-made
+returns-clause-made g c clean inside was =
+    let old = state g.S.Store c.args.tx.now.conn.now in
+    let new = state g.S.Store c.execute.new.self.conn.now in
+    if_ok c.execute.result _ (λ count is. makes_records old new count was (subst (ExecutesInside 0 create_record_table [] old new) is (c.execute.ensures.runs clean inside)))
+
+pub returns-clause-kept : goal.returns-clause-kept
+returns-clause-kept g c clean inside = inside_keeps _ _ 0 false _ _ c.execute.result (c.execute.ensures.runs clean inside)
+
+pub returns-clause-inside : goal.returns-clause-inside
+returns-clause-inside g c clean inside = stays_inside _ _ _ _ c.execute.result (c.execute.ensures.runs clean inside)
+
+pub returns-clause-opened : goal.returns-clause-opened
+returns-clause-opened g c clean inside = stays_open _ _ _ _ c.execute.result (c.execute.ensures.runs clean inside)

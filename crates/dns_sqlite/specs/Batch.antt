@@ -1,0 +1,56 @@
+-- What a batch of records adds to the table of rows.
+use Rattle.std.specs.Prelude.{◌≡◌, ◌≢◌, ◌+ℤ◌, ℕ, ℤ, pos, true, false, List, [], ◌∷◌, IsTrue}
+use Rattle.sqlite.specs.Order.{Row}
+use Rattle.sqlite.specs.Tree.{Trees, put_row}
+use Rattle.sqlite.specs.Edit.{next_rowid, is_taken}
+use Rattle.sqlite.specs.Effect.{Database, IsDatabase}
+use Rattle.sqlite.specs.State.{State, KeepsCommit}
+use Rattle.dns_sqlite.specs.Tables.{journal_schema, stored}
+
+module _ (client serial : ℕ) (stamp : List ℕ) where
+  -- the row that comes next, with the id after that of the last row, 1 where there is none
+  abbrev pub next_row : List Row → List ℕ → Row
+  next_row rows bytes = stored (next_rowid rows) (pos client) (pos serial) stamp bytes
+
+  -- each record is put under an id that was free
+  abbrev pub ArePut : List (List ℕ) → List Row → List Row → Type 0
+  ArePut [] was is = is ≡ was
+  ArePut (b ∷ bs) was is = (is_taken was (next_row was b) ≡ false) × ArePut bs (put_row (next_row was b) was) is
+
+  -- the rows of a batch, from an id on
+  abbrev pub batch : ℤ → List (List ℕ) → List Row
+  batch id [] = []
+  batch id (b ∷ bs) = stored id (pos client) (pos serial) stamp b ∷ batch (id +ℤ pos 1) bs
+
+  -- the table of rows alone has changed, by the batch
+  pub record IsGrown (records : List (List ℕ)) (was is : Database) : Type 0 where
+    pub schema : is.schema ≡ journal_schema
+    pub rows : ArePut records (was.trees 1) (is.trees 1)
+    pub others : (t : ℕ) → t ≢ 1 → is.trees t ≡ was.trees t
+    pub sound : IsDatabase was → IsDatabase is
+
+  -- what a crash may leave of it, where the connection was open
+  abbrev pub MayGrow : List (List ℕ) → State → Trees → Type 0
+  MayGrow records old db = IsTrue old.is_open × (old.now.schema ≡ journal_schema → (is : Database) × IsGrown records old.now is × (db ≡ is.trees))
+
+  -- one row was put, inside a transaction
+  pub record PutsOne (bytes : List ℕ) (old new : State) : Type 0 where
+    pub schema : new.now.schema ≡ journal_schema
+    pub rows : new.now.trees 1 ≡ put_row (next_row (old.now.trees 1) bytes) (old.now.trees 1)
+    pub free : is_taken (old.now.trees 1) (next_row (old.now.trees 1) bytes) ≡ false
+    pub others : (t : ℕ) → t ≢ 1 → new.now.trees t ≡ old.now.trees t
+    pub sound : IsDatabase new.now
+    pub mode : new.in_transaction ≡ true
+
+  -- the rows of a batch were put, inside a transaction
+  pub record PutsAll (records : List (List ℕ)) (old new : State) : Type 0 where
+    pub grown : IsGrown records old.now new.now
+    pub commit : KeepsCommit old new
+    pub mode : new.in_transaction ≡ true
+
+  -- the batch is there, and it is committed
+  pub record Grows (records : List (List ℕ)) (old new : State) : Type 0 where
+    pub grown : IsGrown records old.now new.now
+    pub was_open : IsTrue old.is_open
+    pub is_open : IsTrue new.is_open
+    pub committed : new.committed ≡ new.now

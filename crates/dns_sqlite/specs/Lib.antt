@@ -1,0 +1,4 @@
+pub mod Tables
+pub mod Batch
+pub mod Versions
+pub mod Shapes

@@ -1,0 +1,90 @@
+-- The two tables of a journal.
+use Rattle.std.specs.Prelude.{◌≡◌, Bool, filter, map, take, true, false, [], ◌∷◌, None, Some, codes, List, ℕ, ℤ}
+use Rattle.sqlite.specs.Collation.TheVariants.{Binary}
+use Rattle.sqlite.specs.declared.types.Value.TheVariants.{Null, Int, Text as Words, Blob as Octets}
+use Rattle.sqlite.specs.Order.{Row, column}
+use Rattle.std.specs.List.Sorted.{IsPermutation, IsSorted}
+use Rattle.std.specs.Ordering.{on}
+use Rattle.std.specs.declared.cmp.Ordering.{Ordering}
+use Rattle.sqlite.specs.Ops.{binary, is_true}
+use Rattle.sqlite.specs.Query.{key_cmp}
+use Rattle.sqlite_sql.specs.declared.ops.BinaryOp.TheVariants as op
+use Rattle.sqlite_sql.specs.declared.ops.CompareOp.TheVariants as cmp
+use Rattle.sqlite.specs.Table.{Table}
+use Rattle.sqlite.specs.Schema.{Schema}
+use Rattle.sqlite.specs.Kind.TheVariants.{Integer, Text, Any}
+
+-- tdns_schema(version INTEGER NOT NULL)
+abbrev pub versions : Table
+versions = record {
+  name = codes "tdns_schema";
+  tree = 0;
+  columns = (record { name = codes "version"; kind = Integer; is_strict = false; not_null = true; default = Null; collation = Binary }) ∷ [];
+  key = None;
+  primary = [];
+  uniques = [];
+  orders = [];
+  checks = [];
+  references = [];
+  computed = [];
+  stamps = record { places = []; terms = []; formats = [] };
+  is_counted = false;
+}
+
+-- records(id INTEGER PRIMARY KEY, client_id INTEGER NOT NULL, soa_serial INTEGER NOT NULL, timestamp TEXT NOT NULL,
+-- record BLOB NOT NULL)
+abbrev pub records : Table
+records = record {
+  name = codes "records";
+  tree = 1;
+  columns = (record { name = codes "id"; kind = Integer; is_strict = false; not_null = false; default = Null; collation = Binary })
+      ∷ (record { name = codes "client_id"; kind = Integer; is_strict = false; not_null = true; default = Null; collation = Binary })
+      ∷ (record { name = codes "soa_serial"; kind = Integer; is_strict = false; not_null = true; default = Null; collation = Binary })
+      ∷ (record { name = codes "timestamp"; kind = Text; is_strict = false; not_null = true; default = Null; collation = Binary })
+      ∷ (record { name = codes "record"; kind = Any; is_strict = false; not_null = true; default = Null; collation = Binary }) ∷ [];
+  key = Some 0;
+  primary = 0 ∷ [];
+  uniques = [];
+  orders = [];
+  checks = [];
+  references = [];
+  computed = [];
+  stamps = record { places = []; terms = []; formats = [] };
+  is_counted = false;
+}
+
+-- both tables
+abbrev pub journal_schema : Schema
+journal_schema = record { tables = versions ∷ records ∷ []; indexes = []; views = [] }
+
+-- the table of the version alone
+abbrev pub version_schema : Schema
+version_schema = record { tables = versions ∷ []; indexes = []; views = [] }
+
+-- no table
+abbrev pub empty_schema : Schema
+empty_schema = record { tables = []; indexes = []; views = [] }
+
+-- a row as it is stored: its rowid, and then its columns, of which the key is kept as NULL
+abbrev pub stored : ℤ → ℤ → ℤ → List ℕ → List ℕ → Row
+stored id client serial stamp bytes = Int id ∷ Null ∷ Int client ∷ Int serial ∷ Words stamp ∷ Octets bytes ∷ []
+
+-- as a query shows it
+abbrev pub shown : ℤ → ℤ → ℤ → List ℕ → List ℕ → Row
+shown id client serial stamp bytes = Int id ∷ Int client ∷ Int serial ∷ Words stamp ∷ Octets bytes ∷ []
+
+-- the id of the row is not below this one, as the query tests it
+abbrev pub not_below : ℤ → Row → Bool
+not_below id row = is_true (binary (op.Compare cmp.Ge Binary) (column row 0) (Int id))
+
+-- what a row is sorted by, and what is shown of it: its rowid, and all but the key
+abbrev pub seen : Row → Row × Row
+seen row = (column row 0 ∷ [], column row 0 ∷ column row 2 ∷ column row 3 ∷ column row 4 ∷ column row 5 ∷ [])
+
+-- the order of what was found, by rowid
+abbrev pub by_key : Row × Row → Row × Row → Ordering
+by_key = on (λ (o : Row × Row). o.0) (key_cmp 0 ((record { collation = Binary; descending = false }) ∷ []))
+
+-- the first of the rows that are not below, in the order of their ids
+abbrev pub HasRow : ℤ → List Row → List Row → Type 0
+HasRow id rows found = (ordered : List (Row × Row)) × IsPermutation (map seen (filter (not_below id) rows)) ordered × IsSorted by_key ordered × (found ≡ take 1 (map (λ (o : Row × Row). o.1) ordered))

@@ -1,0 +1,13 @@
+//! A journal's tables in SQLite: their schema, the rows that are added to them, and what is read from them.
+#![tactic(auto)]
+
+mod reads;
+mod schema;
+mod shape;
+mod version;
+mod writes;
+
+pub use reads::select_row_from;
+pub use schema::schema_up;
+pub use version::{VersionFault, select_schema_version};
+pub use writes::insert_batch;

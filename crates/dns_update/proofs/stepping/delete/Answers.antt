@@ -1,0 +1,14 @@
+use Rattle.std.proofs.Common.{◌∙◌}
+use Rattle.dns_update.specs.Change.{ns_count}
+use Rattle.dns_update.proofs.Deleting.{by_any, by_none}
+use Rattle.dns_update.proofs.stepping.delete.Goals as goal
+
+pub returns-then-one-eq-ANY-clause-records : goal.returns-then-one-eq-ANY-clause-records
+returns-then-one-eq-ANY-clause-records c =
+    let z = c.args.map.now in
+    c.delete_by_any.ensures.records ∙ by_any z.origin (ns_count z.origin z.records) c.args.one.now z.records c.if-one-eq-ANY.true
+
+pub returns-clause-records : goal.returns-clause-records
+returns-clause-records c =
+    let z = c.args.map.now in
+    c.delete_by_none.ensures.records ∙ by_none z.origin (ns_count z.origin z.records) c.args.one.now z.records c.if-one-eq-ANY.false

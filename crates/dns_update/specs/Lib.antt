@@ -1,0 +1,5 @@
+pub mod Change
+pub mod Verdict
+pub mod Replay
+pub mod Modified
+pub mod UnderWay

@@ -1,0 +1,38 @@
+-- What the sets that a name owns give to a look: what `look_at` finds in the zone's list, it finds in them.
+use Rattle.std.specs.Prelude.{ℕ, ◌<◌, ◌==◌, ◌||◌, if◌then◌else◌, List, [], map, Option, Some, None}
+use Rattle.std.specs.List.{flat_map, AllByRecursion}
+use Rattle.dns_wire.specs.declared.record.Record.{Record}
+use Rattle.dns_wire.specs.declared.record_type.TheConstants.{CNAME, ANY}
+use Rattle.dns_zone_map.specs.declared.sets.RecordSet.{RecordSet}
+use Rattle.dns_zone_map.specs.Sets.{set_in, records_in}
+use Rattle.dns_zone.specs.declared.look.Look.{Look}
+use Rattle.dns_zone.specs.Look.{given, first_of, alias_or}
+
+-- the records of a set, if there is one
+abbrev pub records_or_none : Option RecordSet → List Record
+records_or_none None = []
+records_or_none (Some s) = s.records
+
+-- the records of all sets, in their order
+abbrev pub in_all : List RecordSet → List Record
+in_all = flat_map records_in
+
+-- the records of one type
+abbrev pub of_type : List RecordSet → ℕ → List Record
+of_type sets rtype = records_or_none (set_in rtype sets)
+
+-- the alias that answers, unless CNAME or ANY was asked
+abbrev pub alias_in : List RecordSet → Option (List (List ℕ)) → ℕ → Option Record
+alias_in sets owner rtype = if (rtype == CNAME) || (rtype == ANY) then None else first_of (map (given owner) (of_type sets CNAME))
+
+-- the records that answer a question of this type
+abbrev pub found_in : List RecordSet → Option (List (List ℕ)) → ℕ → List Record
+found_in sets owner rtype = map (given owner) (if rtype == ANY then in_all sets else of_type sets rtype)
+
+-- what a look finds at the name that owns these sets
+unfoldable pub look_in : List RecordSet → Option (List (List ℕ)) → ℕ → Look
+look_in sets owner rtype = alias_or (alias_in sets owner rtype) (found_in sets owner rtype)
+
+-- types are numbers of 16 bits (RFC 1035 3.2.2)
+abbrev pub TypesFit : List RecordSet → Type 0
+TypesFit = AllByRecursion (λ s. s.rtype < 65536)

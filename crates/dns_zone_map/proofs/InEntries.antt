@@ -1,0 +1,107 @@
+-- A record that is put into the map: where its name stands.
+use Rattle.std.proofs.Common.{◌≡◌, Ordering, ℕ, Bool, true, false, List, [], ◌∷◌, ◌++◌, refl, sym, ap, ◌∙◌, subst, inl, inr, Some, None, Vec, Global, Result, Ok, Err, IfOk, OnErr}
+use Rattle.std.specs.Prelude.{Option, cond, IfSome}
+use Rattle.std.specs.List.{AllByRecursion}
+use Rattle.std.specs.Str.{bytes_eq}
+use Rattle.std.specs.Map.{lookup, set_value}
+use Rattle.std.specs.BTreeMap.{insert_entry}
+use Rattle.std.specs.Ordering.{nat_cmp, is_eq}
+use Rattle.std.specs.declared.cmp.Ordering.TheVariants.{Less, Equal, Greater}
+use Rattle.std.specs.Cmp.Lexicographic.{slice_cmp}
+use Rattle.std.proofs.lemmas.Slice.Eq.{bytes_eq-Decides}
+use Rattle.std.proofs.lemmas.Map.Text.{is_eq-slice_cmp}
+use Rattle.std.proofs.lemmas.Map.Steps.{set_value_same}
+use Rattle.dns_wire.specs.declared.record.Record.{Record}
+use Rattle.dns_zone_map.specs.declared.sets.RecordSet.{RecordSet}
+use Rattle.dns_zone_map.specs.Sets.{TypesRise}
+use Rattle.dns_zone_map.proofs.Lent.{looked}
+use Rattle.dns_zone_map.specs.Insertion.{PutInSets, PutUnder, IsAdded, new_set}
+
+abbrev Entries : Type 0
+Entries = List (Vec ℕ Global × List RecordSet)
+
+-- an entry that is found, among those before it and behind it
+record Found (test : Vec ℕ Global → Bool) (es : Entries) (sets : List RecordSet) : Type 0 where
+  front : Entries
+  stored : Vec ℕ Global
+  back : Entries
+  was : es ≡ front ++ (stored, sets) ∷ back
+  passes : test stored ≡ true
+  written : (w : List RecordSet) → set_value test es w ≡ front ++ (stored, w) ∷ back
+
+found_if : (b : Bool) (test : Vec ℕ Global → Bool) (e : Vec ℕ Global × List RecordSet) (es : Entries) (sets : List RecordSet) → test e.0 ≡ b → cond b (Some e.1) (lookup test es) ≡ Some sets → (lookup test es ≡ Some sets → Found test es sets) → Found test (e ∷ es) sets
+found_if true test e es sets t h ih =
+    let same : e.1 ≡ sets = cc in
+    record { front = []; stored = e.0; back = es; was = ap (λ (s : List RecordSet). (e.0, s) ∷ es) same; passes = t; written = λ w. rw t refl }
+found_if false test e es sets t h ih =
+    let f : Found test es sets = ih h in
+    record { front = e ∷ f.front; stored = f.stored; back = f.back; was = ap (λ (xs : Entries). e ∷ xs) f.was; passes = f.passes; written = λ w. rw t (ap (λ (xs : Entries). e ∷ xs) (f.written w)) }
+
+found : (test : Vec ℕ Global → Bool) (es : Entries) (sets : List RecordSet) → lookup test es ≡ Some sets → Found test es sets
+found test [] sets h = absurd cc
+found test (e ∷ es) sets h = found_if (test e.0) test e es sets refl h (found test es sets)
+
+absent_if : (b : Bool) (test : Vec ℕ Global → Bool) (e : Vec ℕ Global × List RecordSet) (es : Entries) → test e.0 ≡ b → cond b (Some e.1) (lookup test es) ≡ None → (lookup test es ≡ None → AllByRecursion (λ e. test e.0 ≡ false) es) → AllByRecursion (λ e. test e.0 ≡ false) (e ∷ es)
+absent_if true test e es t h ih = absurd cc
+absent_if false test e es t h ih = (t, ih h)
+
+pub absent_all : (test : Vec ℕ Global → Bool) (es : Entries) → lookup test es ≡ None → AllByRecursion (λ e. test e.0 ≡ false) es
+absent_all test [] h = tt
+absent_all test (e ∷ es) h = absent_if (test e.0) test e es refl h (absent_all test es)
+
+pub other_bytes : (key : List ℕ) (es : Entries) → AllByRecursion (λ e. is_eq (slice_cmp nat_cmp key e.0.items) ≡ false) es → AllByRecursion (λ e. bytes_eq key e.0.items ≡ false) es
+other_bytes key [] h = tt
+other_bytes key (e ∷ es) h = (sym (is_eq-slice_cmp key e.0.items) ∙ h.0, other_bytes key es h.1)
+
+-- the place among the entries of one with another key
+record Between (es : Entries) (stored : Vec ℕ Global) (sets : List RecordSet) : Type 0 where
+  front : Entries
+  back : Entries
+  was : es ≡ front ++ back
+  is : insert_entry (λ x y. slice_cmp nat_cmp x.items y.items) es stored sets ≡ front ++ (stored, sets) ∷ back
+
+between_if : (o : Ordering) (e : Vec ℕ Global × List RecordSet) (es : Entries) (stored : Vec ℕ Global) (sets : List RecordSet) → slice_cmp nat_cmp stored.items e.0.items ≡ o → is_eq o ≡ false → Between es stored sets → Between (e ∷ es) stored sets
+between_if Less e es stored sets at other ih = record { front = []; back = e ∷ es; was = refl; is = rw at refl }
+between_if Equal e es stored sets at other ih = absurd cc
+between_if Greater e es stored sets at other ih = record { front = e ∷ ih.front; back = ih.back; was = ap (λ (xs : Entries). e ∷ xs) ih.was; is = rw at (ap (λ (xs : Entries). e ∷ xs) ih.is) }
+
+between : (es : Entries) (stored : Vec ℕ Global) (sets : List RecordSet) → AllByRecursion (λ e. is_eq (slice_cmp nat_cmp stored.items e.0.items) ≡ false) es → Between es stored sets
+between [] stored sets h = record { front = []; back = []; was = refl; is = refl }
+between (e ∷ es) stored sets h = between_if (slice_cmp nat_cmp stored.items e.0.items) e es stored sets refl h.0 (between es stored sets h.1)
+
+module _ (key : List ℕ) (number : ℕ) (one : Record) (before after : Entries) where
+  abbrev finds : Vec ℕ Global → Bool
+  finds k = is_eq (slice_cmp nat_cmp key k.items)
+
+  -- the record was put among the sets that were found
+  pub under_name : {E : Type 0} (sets changed : List RecordSet) (result : Result (Option Record) E) → Some sets ≡ lookup finds before → after ≡ set_value finds before changed → IfOk result (λ old. PutInSets number one sets changed old) → IfOk result (λ old. PutUnder key number one before after old)
+  under_name sets changed (Err e) at is put = tt
+  under_name sets changed (Ok old) at is put =
+      let f : Found finds before sets = found finds before sets (sym at) in
+      let same : key ≡ f.stored.items = (bytes_eq-Decides key f.stored.items).0 (sym (is_eq-slice_cmp key f.stored.items) ∙ f.passes) in
+      inl (record { front = f.front; stored = f.stored; sets = sets; changed = changed; back = f.back; was = f.was; keyed = sym same; is = is ∙ f.written changed; put = put })
+
+  -- or its name was added
+  pub under_new_name : (sets : List RecordSet) → None ≡ lookup finds before → sets ≡ new_set number one ∷ [] → IsAdded key sets before after → PutUnder key number one before after None
+  under_new_name sets at new added =
+      let others : AllByRecursion (λ e. finds e.0 ≡ false) before = absent_all finds before (sym at) in
+      let b : Between before added.stored sets = between before added.stored sets (subst (λ (k : List ℕ). AllByRecursion (λ e. is_eq (slice_cmp nat_cmp k e.0.items) ≡ false) before) (sym added.keyed) others) in
+      inr (record {
+        front = b.front;
+        stored = added.stored;
+        back = b.back;
+        was = b.was;
+        absent = other_bytes key before others;
+        keyed = added.keyed;
+        is = added.is ∙ b.is ∙ ap (λ (s : List RecordSet). b.front ++ (added.stored, s) ∷ b.back) new;
+        replaced = refl;
+      })
+
+  -- or nothing was changed
+  pub as_before : {E : Type 0} (sets changed : List RecordSet) (result : Result (Option Record) E) → Some sets ≡ lookup finds before → after ≡ set_value finds before changed → OnErr result (changed ≡ sets) → OnErr result (after ≡ before)
+  as_before sets changed (Ok old) at is same = tt
+  as_before sets changed (Err e) at is same = is ∙ ap (set_value finds before) same ∙ set_value_same finds before sets (sym at)
+
+  -- the sets that are found rise
+  pub rising_found : (sets : List RecordSet) → AllByRecursion (λ e. TypesRise e.1) before → Some sets ≡ lookup finds before → TypesRise sets
+  rising_found sets rise at = subst (λ (f : Option (List RecordSet)). IfSome f TypesRise) (sym at) (looked TypesRise finds before rise)

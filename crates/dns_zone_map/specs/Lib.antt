@@ -1,0 +1,12 @@
+pub mod Folds
+pub mod Zone
+pub mod Existence
+pub mod Keys
+pub mod KeyRoom
+pub mod Order
+pub mod Sets
+pub mod Tree
+pub mod Changes
+pub mod Insertion
+pub mod Removal
+pub mod Serial

@@ -1,0 +1,149 @@
+//! The keys of names: what the map of a zone is searched for.
+
+ghost use Rattle.std.specs.Prelude.{◌≡◌, ◌<◌, ◌+◌, ◌-◌, ◌≤◌, ◌++◌, true, length, map, take, drop, OnOk, ◌∷◌, []};
+ghost use Rattle.std.specs.Char.{to_ascii_lowercase};
+ghost use Rattle.dns_name.specs.Name.{IsName, IsLabel, label_bytes, labels_bytes, is_at_or_below};
+ghost use Rattle.dns_zone_map.specs.Keys.{key_of};
+
+use dns_io::OutOfMemory;
+use dns_name::Name;
+use std::marker::Model;
+
+/// How many bytes a key takes at most: fewer than a name, which has its zero byte and the labels of the origin besides.
+const MAX_KEY_LEN: usize = 255;
+
+/// A name of a zone, with the keys of it and of the names above it, down to the origin: they are written once, and a
+/// look that walks from the origin down to the name, or back up, takes a front of them at each step.
+///
+/// The key of a name is its labels below the origin, in small letters, from the origin on, each behind its length.
+#[derive(Drop)]
+pub struct ZoneKey<'a> {
+    origin: &'a Name,
+    name: &'a Name,
+    /// The key of the name, at the end.
+    room: [u8; 255],
+    start: usize,
+}
+
+impl<'a> Model for ZoneKey<'a> {
+    ghost use Rattle.dns_zone_map.specs.Keys.{Placed};
+    ghost use Rattle.dns_zone_map.specs.KeyRoom.{HasKey};
+
+    ghost Value = { Placed };
+
+    ghost view = { λ k. record { origin = k.origin.now; name = k.name.now } };
+
+    ghost invariant = { λ k. HasKey k.origin.now k.name.now k.room k.start };
+}
+
+impl<'a> ZoneKey<'a> {
+    /// The keys of a name at the origin or below it, in whatever case. Takes no memory.
+    pub fn new(origin: &'a Name, name: &'a Name) -> ZoneKey<'a>
+        requires { is_at_or_below name.now origin.now ≡ true }
+        ensures origin { result.origin ≡ origin.now }
+        ensures name { result.name ≡ name.now }
+    {
+        let mut room = [0u8; 255];
+        let start = write_key(origin, name, &mut room);
+        ZoneKey {
+            origin,
+            name,
+            room,
+            start,
+        }
+    }
+
+    /// The key of the name without its first `labels_dropped` labels.
+    pub(crate) fn above(&self, labels_dropped: usize) -> &[u8]
+        requires { length self.now.origin + labels_dropped ≤ length self.now.name }
+        ensures key { result.now ≡ key_of self.now.origin (drop labels_dropped self.now.name) }
+        ensures within { is_at_or_below (drop labels_dropped self.now.name) self.now.origin ≡ true }
+    {
+        let end = cut_back(self.name, labels_dropped, MAX_KEY_LEN);
+        part(&self.room, self.start, end)
+    }
+}
+
+/// Writes a key into a vector, whatever it held.
+pub(crate) fn write_front(probe: &mut Vec<u8>, key: &[u8]) -> Result<(), OutOfMemory>
+    ensures { OnOk result (probe.new.items ≡ key.now) }
+{
+    probe.clear();
+    probe.extend_from_slice(key)?;
+    Ok(())
+}
+
+/// Writes the key of the label `*` under a name (RFC 4592 2.1.1), from the key of the name, into a vector, whatever it
+/// held.
+pub(crate) fn write_star(probe: &mut Vec<u8>, key: &[u8]) -> Result<(), OutOfMemory>
+    ensures { OnOk result (probe.new.items ≡ key.now ++ 1 ∷ 42 ∷ []) }
+{
+    probe.clear();
+    probe.extend_from_slice(key)?;
+    probe.extend_from_slice(b"\x01*")?;
+    Ok(())
+}
+
+/// The bytes from one place to another.
+fn part(bytes: &[u8], start: usize, end: usize) -> &[u8]
+    requires order { start ≤ end }
+    requires within { end ≤ length bytes.now }
+    ensures { result.now ≡ take (end - start) (drop start bytes.now) }
+{
+    &bytes[start..end]
+}
+
+/// Writes the key of a name at the end of a room, and gives the place where it starts.
+pub(crate) fn write_key(origin: &Name, name: &Name, room: &mut [u8]) -> usize
+    requires within { is_at_or_below name.now origin.now ≡ true }
+    requires room { length room.old ≡ 255 }
+    ensures size { length room.new ≡ 255 }
+    ensures start { result ≤ 255 }
+    ensures key { drop result room.new ≡ key_of origin.now name.now }
+    ensures named { IsName name.now }
+{
+    let _short = name.len();
+    let below = name.label_count() - origin.label_count();
+    let mut start = MAX_KEY_LEN;
+    let mut labels = name.labels();
+    for _ in 0..below {
+        match labels.next() {
+            Some(label) => start = put_label(room, start, label),
+            None => return start,
+        }
+    }
+    start
+}
+
+/// Writes a label in small letters, behind its length, before a place, and gives the place where it starts.
+fn put_label(room: &mut [u8], end: usize, label: &[u8]) -> usize
+    requires label { length label.now < 64 }
+    requires before { length label.now + 1 ≤ end }
+    requires within { end ≤ length room.old }
+    ensures start { result ≡ end - (length label.now + 1) }
+    ensures put { room.new ≡ take result room.old ++ (label_bytes (map to_ascii_lowercase label.now) ++ drop end room.old) }
+{
+    let start = end - (label.len() + 1);
+    room[start] = label.len() as u8;
+    let place = &mut room[start + 1..end];
+    place.copy_from_slice(label);
+    place.make_ascii_lowercase();
+    start
+}
+
+/// The place that is before another by as many bytes as the first labels of a name take.
+fn cut_back(name: &Name, labels: usize, end: usize) -> usize
+    requires labels { labels ≤ length name.now }
+    requires fits { length (labels_bytes name.now) ≤ end }
+    ensures { result + length (labels_bytes name.now) ≡ end + length (labels_bytes (drop labels name.now)) }
+{
+    let mut place = end;
+    let mut left = name.labels();
+    for _ in 0..labels {
+        match left.next() {
+            Some(label) => place -= label.len() + 1,
+            None => return place,
+        }
+    }
+    place
+}

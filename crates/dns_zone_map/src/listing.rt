@@ -1,0 +1,106 @@
+//! The records of a map as their list.
+
+ghost use Rattle.std.specs.Prelude.{◌≡◌, ◌++◌, length, map, IfOk, OnOk};
+ghost use Rattle.std.specs.List.{AllByRecursion};
+ghost use Rattle.dns_zone_map.specs.Order.{plain, list_of};
+ghost use Rattle.dns_zone_map.specs.Sets.{in_set, in_sets, IsPaired, ArePaired};
+ghost use Rattle.dns_zone_map.specs.Tree.{in_entries};
+
+use crate::sets::{OwnerSets, RecordSet};
+use dns_io::OutOfMemory;
+use dns_wire::{Record, Records};
+use std::alloc::Global;
+use std::collections::BTreeMap;
+use std::marker::Model;
+
+/// A record and its order number.
+#[derive(Drop)]
+struct Listed<'a> {
+    number: u64,
+    one: &'a Record,
+}
+
+impl<'a> Model for Listed<'a> {
+    ghost use Rattle.dns_zone_map.specs.Order.{Numbered};
+
+    ghost Value = { Numbered };
+
+    ghost view = { λ l. record { number = l.number; one = l.one.now } };
+}
+
+impl<'a> Listed<'a> {
+    fn number(&self) -> u64
+        ensures { result ≡ self.now.number }
+    {
+        self.number
+    }
+
+    fn one(&self) -> &Record
+        ensures { result.now ≡ self.now.one }
+    {
+        self.one
+    }
+}
+
+/// Copies of all records, in the order of their numbers.
+pub(crate) fn in_order(
+    alloc: Global,
+    names: &BTreeMap<Vec<u8>, OwnerSets>,
+    count: usize,
+) -> Result<Records, OutOfMemory>
+    requires { AllByRecursion (λ e. ArePaired e.1) names.now.entries }
+    ensures { IfOk result (λ records. records ≡ list_of (in_entries names.now.entries)) }
+{
+    let mut all = Vec::with_capacity(alloc, count)?;
+    push_all(&mut all, names)?;
+    all.sort_by_key(|listed| listed.number())?;
+    copied(alloc, &all)
+}
+
+fn push_all<'a>(
+    all: &mut Vec<Listed<'a>>,
+    names: &'a BTreeMap<Vec<u8>, OwnerSets>,
+) -> Result<(), OutOfMemory>
+    requires { AllByRecursion (λ e. ArePaired e.1) names.now.entries }
+    ensures { OnOk result (all.new.items ≡ all.old.items ++ in_entries names.now.entries) }
+{
+    for (_, sets) in names {
+        push_sets(all, sets.as_slice())?;
+    }
+    Ok(())
+}
+
+fn push_sets<'a>(all: &mut Vec<Listed<'a>>, sets: &'a [RecordSet]) -> Result<(), OutOfMemory>
+    requires { ArePaired sets.now }
+    ensures { OnOk result (all.new.items ≡ all.old.items ++ in_sets sets.now) }
+{
+    for set in sets {
+        push_set(all, set)?;
+    }
+    Ok(())
+}
+
+fn push_set<'a>(all: &mut Vec<Listed<'a>>, set: &'a RecordSet) -> Result<(), OutOfMemory>
+    requires { IsPaired set.now }
+    ensures { OnOk result (all.new.items ≡ all.old.items ++ in_set set.now) }
+{
+    let numbers = set.numbers.as_slice();
+    let records = set.records.as_slice();
+    for place in 0..numbers.len() {
+        all.push(Listed {
+            number: numbers[place],
+            one: &records[place],
+        })?;
+    }
+    Ok(())
+}
+
+fn copied(alloc: Global, all: &[Listed<'_>]) -> Result<Records, OutOfMemory>
+    ensures { IfOk result (λ records. records ≡ map plain all.now) }
+{
+    let mut copies = Vec::with_capacity(alloc, all.len())?;
+    for listed in all {
+        copies.push(listed.one().copy()?)?;
+    }
+    Ok(Records::from_vec(copies))
+}
