@@ -18,6 +18,11 @@ colon, and behind one space its value:
   is: CODE [aa]  its reply; behind it
   answer: RECORD     a record of the answer section
   authority: RECORD  a record of the authority section
+  update: ZONE   an update by datagram with the id 1234 (hexadecimal), of the zone with this name; a type and a class may stand
+                 behind it where they are not SOA and IN. Behind it
+  if: RECORD     a prerequisite: owner, TTL, class, type, and data or none
+  do: RECORD     an update record, in the same form
+  is: CODE       its reply
   out: LINE      a line of the output. HEX...N at its end stands for a word of N bytes that begins with HEX
   end: S J O     the three closing lines: the zone's serial, the rows of the journal, the open connections
   status: N      the exit status, 0 where nothing is said
@@ -49,6 +54,7 @@ class Case:
         self.name, self.zone = name, zone
         self.words, self.more, self.events = words, [], b""
         self.output, self.asked, self.status = [], None, 0
+        self.updated, self.before = None, b""
 
     def take(self, key, value):
         if key == "zone":
@@ -70,11 +76,25 @@ class Case:
             self.output += [f"serial {serial}", f"journal_len {rows}", f"open {connections}"]
         elif key == "status":
             self.status = int(value)
+        elif key in ("update", "if", "do") or (key == "is" and self.updated):
+            self.take_updated(key, value)
         else:
             self.take_asked(key, value)
 
+    def take_updated(self, key, value):
+        if key == "update":
+            words = value.split()
+            self.updated, self.before = ([*words, *["", "SOA", "IN"][len(words) :]], [], []), self.events
+            self.output.append("")
+        elif key == "is":
+            self.output[-1] = f"P 7f000001 5300 {wire.update_reply(self.updated[0], value).hex()}"
+        else:
+            self.updated[1 if key == "if" else 2].append(value)
+        self.events = self.before + f"D 0 7f000001 5300 {wire.update(*self.updated).hex()}\n".encode()
+
     def take_asked(self, key, value):
         if key == "ask":
+            self.updated = None
             self.asked = (*value.split(), [], [], [])
             self.events += f"D 0 7f000001 5300 {wire.query(*value.split()).hex()}\n".encode()
             self.output.append("")

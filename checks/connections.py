@@ -120,11 +120,11 @@ def open_count(events):
 
 
 def reply_to(message, peer):
-    """What a header without questions is owed: FormErr, or NotImp for another opcode than QUERY; none for a reply, for
-    less than a header, and from a source that nothing can be sent to."""
+    """What a header without questions is owed: FormErr, or NotImp for another opcode than QUERY (0) and UPDATE (5); none for
+    a reply, for less than a header, and from a source that nothing can be sent to."""
     if len(message) < 12 or message[2] & 0x80 or not is_safe(peer):
         return None
-    code = 4 if message[2] & 0x78 else 1
+    code = 1 if message[2] >> 3 & 15 in (0, 5) else 4
     return message[:2] + bytes([0x80 | message[2] & 0x79, message[3] & 0x10 | code]) + bytes(8)
 
 
@@ -147,7 +147,7 @@ def expected(events):
 
 
 def header(chance):
-    flags = bytes([chance.choice([0, 1, 0x28, 0x80, 0x29]), chance.choice([0, 0x10])])
+    flags = bytes([chance.choice([0, 1, 0x11, 0x28, 0x80, 0x31]), chance.choice([0, 0x10])])
     return chance.randbytes(2) + flags + bytes(8) + chance.choice([b"", b"", b"x"])
 
 

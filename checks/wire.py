@@ -3,7 +3,9 @@
 import re
 
 TYPES = {"A": 1, "NS": 2, "CNAME": 5, "SOA": 6, "PTR": 12, "MX": 15, "TXT": 16, "AAAA": 28, "SRV": 33, "DS": 43, "ANY": 255}
+CLASSES = {"IN": 1, "CH": 3, "NONE": 254, "ANY": 255}
 CODES = {"NOERROR": 0, "FORMERR": 1, "SERVFAIL": 2, "NXDOMAIN": 3, "NOTIMP": 4, "REFUSED": 5}
+CODES |= {"YXDOMAIN": 6, "YXRRSET": 7, "NXRRSET": 8, "NOTAUTH": 9, "NOTZONE": 10}
 
 
 def name_bytes(text):
@@ -44,14 +46,15 @@ def data_bytes(kind, words):
 
 
 def record_bytes(text):
-    """A record: owner, TTL, IN, type, data."""
-    owner, ttl, _, kind, *words = text.split()
-    data = data_bytes(kind, words)
-    return name_bytes(owner) + number(type_number(kind), 2) + number(1, 2) + number(ttl, 4) + number(len(data), 2) + data
+    """A record: owner, TTL, class, type, data. There need be no data."""
+    owner, ttl, klass, kind, *words = text.split()
+    data = data_bytes(kind, words) if words else b""
+    head = name_bytes(owner) + number(type_number(kind), 2) + number(CLASSES[klass], 2) + number(ttl, 4)
+    return head + number(len(data), 2) + data
 
 
-def question_bytes(name, kind):
-    return name_bytes(name) + number(type_number(kind), 2) + number(1, 2)
+def question_bytes(name, kind, klass="IN"):
+    return name_bytes(name) + number(type_number(kind), 2) + number(CLASSES[klass], 2)
 
 
 def query(name, kind):
@@ -65,3 +68,15 @@ def reply(name, kind, words, answers, authority):
     counts = [1, len(answers), len(authority), 0]
     head = bytes.fromhex("1234") + number(flags, 2) + b"".join(number(count, 2) for count in counts)
     return head + question_bytes(name, kind) + b"".join(record_bytes(one) for one in answers + authority)
+
+
+def update(zone, prerequisites, updates):
+    """An update with the id 1234 (hexadecimal): name, type and class of the zone section, and records (RFC 2136 2)."""
+    counts = [1, len(prerequisites), len(updates), 0]
+    head = bytes.fromhex("12342800") + b"".join(number(count, 2) for count in counts)
+    return head + question_bytes(*zone) + b"".join(record_bytes(one) for one in prerequisites + updates)
+
+
+def update_reply(zone, code):
+    """Its reply, which repeats the zone section alone."""
+    return bytes.fromhex("1234") + number(0xA800 | CODES[code], 2) + bytes.fromhex("0001000000000000") + question_bytes(*zone)

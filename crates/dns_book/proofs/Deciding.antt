@@ -1,27 +1,24 @@
 -- What is decided of a message: by what was read of it, and that it is one decision.
-use Rattle.std.proofs.Common.{◌≡◌, List, Bool, true, false, not, is_err, if◌then◌else◌, Option, Some, None, ℕ, refl, sym, ap, ◌∙◌, subst}
+use Rattle.std.proofs.Common.{◌≡◌, List, [], ◌∷◌, length, Bool, true, false, not, is_err, if◌then◌else◌, Option, Some, None, ℕ, refl, sym, ap, ◌∙◌, subst}
+use Rattle.std.specs.List.{AllByRecursion}
 use Rattle.std.specs.Prelude.{IfSome, IfNone, IsSomeAnd, ◌==◌, ◌||◌}
 use Rattle.dns_wire.specs.declared.header.Header.{Header}
 use Rattle.dns_wire.specs.declared.message.Message.{Message}
 use Rattle.dns_wire.specs.declared.question.Question.{Question}
-use Rattle.dns_wire.specs.declared.reply.Reply.{Reply}
 use Rattle.dns_name.specs.Name.{is_at_or_below}
-use Rattle.dns_counts.specs.declared.asked.Asked.{Asked}
-use Rattle.dns_counts.specs.declared.asked.Replied.{Replied}
-use Rattle.dns_counts.specs.Counters.{recorded}
 use Rattle.dns_wire.specs.Header.{header_of}
 use Rattle.dns_wire.specs.Messages.{MessageAt, OneQuestionAt}
-use Rattle.dns_wire.specs.Standing.{ReadsOne, word_at}
+use Rattle.dns_wire.specs.Standing.{ReadsOne}
+use Rattle.dns_wire.specs.ReadBack.{ReadsBack}
 use Rattle.dns_zone_map.specs.Zone.{Contents}
 use Rattle.dns_book.specs.declared.ask.Ask.{Ask}
 use Rattle.dns_book.specs.declared.decision.Decision.{Decision}
 use Rattle.dns_book.specs.declared.decision.Case.{Case}
-use Rattle.dns_book.specs.declared.decision.Case.TheVariants.{ShutOut, Malformed, UnsupportedVersion, NotImplemented, Foreign, Query}
-use Rattle.dns_book.specs.Owed.{reply_of, IsInside}
-use Rattle.dns_book.specs.Counted.{asked_of, replied_of, kinds_of, counts_after}
+use Rattle.dns_book.specs.declared.decision.Case.TheVariants.{ShutOut, Malformed, UnsupportedVersion, NotImplemented, Foreign, Query, Update}
+use Rattle.dns_book.specs.Owed.{IsFit}
 use Rattle.dns_book.specs.Sources.{sanitized}
 use Rattle.dns_book.specs.Access.{Access, lets_in}
-use Rattle.dns_book.specs.Cases.{is_newer, is_foreign, query_case, only_question, message_case, request_in, request_of, header_alone, request_by, Decides, silent, shut_out, malformed, read}
+use Rattle.dns_book.specs.Cases.{is_newer, is_foreign, query_case, question_case, only_question, message_case, request_in, request_of, header_alone, request_by, Decides, silent, shut_out, malformed, read}
 
 -- a message was read
 pub decided_read : (zone : Contents) (access : Access) (ask : Ask) (h : Header) (m : Message) (found : Option Message) (bytes : List ℕ) (d : Decision)
@@ -129,46 +126,41 @@ below true true c d e = refl
 below true false c d e = absurd cc
 below false b c d e = absurd cc
 
-inside_if : (zone : Contents) (q : Question) (foreign : Bool) → (foreign ≡ false → is_at_or_below q.name zone.origin ≡ true) → IsInside zone (if foreign then Foreign q else Query q)
-inside_if zone q true here = tt
-inside_if zone q false here = here refl
+fit_if : (zone : Contents) (q : Question) (foreign : Bool) → (foreign ≡ false → is_at_or_below q.name zone.origin ≡ true) → IsFit zone (if foreign then Foreign q else Query q)
+fit_if zone q true here = tt
+fit_if zone q false here = here refl
 
-inside_query : (zone : Contents) (question : Option Question) → IsInside zone (query_case zone question)
-inside_query zone None = tt
-inside_query zone (Some q) =
-    inside_if zone q (is_foreign zone q) (below (q.qclass == 1) (is_at_or_below q.name zone.origin) (q.qtype == 251) (q.qtype == 252))
+fit_query : (zone : Contents) (q : Question) → IsFit zone (query_case zone q)
+fit_query zone q =
+    fit_if zone q (is_foreign zone q) (below (q.qclass == 1) (is_at_or_below q.name zone.origin) (q.qtype == 251) (q.qtype == 252))
 
-inside_either : (zone : Contents) (test : Bool) (a b : Case) → IsInside zone a → IsInside zone b → IsInside zone (if test then a else b)
-inside_either zone true a b first second = first
-inside_either zone false a b first second = second
+fit_either : (zone : Contents) (test : Bool) (a b : Case) → IsFit zone a → IsFit zone b → IsFit zone (if test then a else b)
+fit_either zone true a b first second = first
+fit_either zone false a b first second = second
 
-inside_message : (zone : Contents) (m : Message) → IsInside zone (message_case zone m)
+fit_question : (zone : Contents) (m : Message) (questions : List Question) → questions ≡ m.questions → AllByRecursion ReadsBack m.authority → IsFit zone (question_case zone m (only_question questions))
+fit_question zone m [] e back = tt
+fit_question zone m (q ∷ []) e back = fit_either zone (m.header.opcode == 5) (Update m) (query_case zone q) (ap length (sym e), back) (fit_query zone q)
+fit_question zone m (q ∷ r ∷ qs) e back = tt
+
+fit_message : (zone : Contents) (m : Message) → AllByRecursion ReadsBack m.authority → IsFit zone (message_case zone m)
 unfolding message_case
-inside_message zone m =
-    inside_either zone (is_newer m.edns) (UnsupportedVersion (only_question m.questions)) _ tt
-    (inside_either zone (not (m.header.opcode == 0)) (NotImplemented (only_question m.questions)) _ tt (inside_query zone (only_question m.questions)))
+fit_message zone m back =
+    fit_either zone (is_newer m.edns) (UnsupportedVersion (only_question m.questions)) _ tt
+    (fit_either zone (not ((m.header.opcode == 0) || (m.header.opcode == 5))) (NotImplemented (only_question m.questions)) _ tt (fit_question zone m m.questions refl back))
 
-decided_inside : (zone : Contents) (access : Access) (ask : Ask) (decision : Option Decision) → Decides zone access ask decision → IfSome decision (λ d. IsInside zone d.case)
-decided_inside zone access ask _ (silent none) = tt
-decided_inside zone access ask _ (shut_out h e out q asked) = tt
-decided_inside zone access ask _ (malformed h e let_in none) = tt
-decided_inside zone access ask _ (read h e let_in m at) = inside_message zone m
+-- the records of updates that are read from bytes read as themselves
+abbrev pub ReadUpdates : List ℕ → Type 0
+ReadUpdates bytes = (m : Message) → MessageAt bytes m → AllByRecursion ReadsBack m.authority
+
+decided_fit : (zone : Contents) (access : Access) (ask : Ask) (decision : Option Decision) → ReadUpdates ask.bytes → Decides zone access ask decision → IfSome decision (λ d. IsFit zone d.case)
+decided_fit zone access ask _ law (silent none) = tt
+decided_fit zone access ask _ law (shut_out h e out q asked) = tt
+decided_fit zone access ask _ law (malformed h e let_in none) = tt
+decided_fit zone access ask _ law (read h e let_in m at) = fit_message zone m (law m at)
 
 -- the case of a message whose decision is at hand
-pub inside_decided : (zone : Contents) (access : Access) (ask : Ask) (found : Option Decision) (d : Decision) → Decides zone access ask found → found ≡ Some d → IsInside zone d.case
-inside_decided zone access ask found d decided is = subst (λ (x : Option Decision). IfSome x (λ e. IsInside zone e.case)) is (decided_inside zone access ask found decided)
-
--- a message that was answered is counted once
-pub counted_once : (zone : Contents) (found : Option Decision) (d : Decision) (reply : Reply) (bytes : List ℕ) (asked : Asked) (replied : Replied) (flags count : ℕ) (before after : List (List ℕ)) → found ≡ Some d
-    → asked ≡ asked_of d → reply ≡ reply_of zone d → flags ≡ word_at bytes 2 → count ≡ word_at bytes 6
-    → replied ≡ record { code = reply.code; flags = flags; answers = kinds_of count reply.answers } → after ≡ recorded asked replied before
-    → after ≡ counts_after zone found (Some bytes) before
-counted_once zone found d reply bytes asked replied flags count before after is told owed flagged counted answered grown =
-    let third : replied ≡ replied_of reply bytes =
-    answered ∙ ap (λ (n : ℕ). record { code = reply.code; flags = n; answers = kinds_of count reply.answers }) flagged
-    ∙ ap (λ (n : ℕ). record { code = reply.code; flags = word_at bytes 2; answers = kinds_of n reply.answers }) counted
-    in
-    let first : after ≡ recorded (asked_of d) replied before = grown ∙ ap (λ (a : Asked). recorded a replied before) told in
-    let second : after ≡ recorded (asked_of d) (replied_of reply bytes) before = first ∙ ap (λ (r : Replied). recorded (asked_of d) r before) third in
-    let fourth : after ≡ recorded (asked_of d) (replied_of (reply_of zone d) bytes) before = second ∙ ap (λ (r : Reply). recorded (asked_of d) (replied_of r bytes) before) owed in
-    subst (λ (x : Option Decision). after ≡ counts_after zone x (Some bytes) before) (sym is) fourth
+pub fit_decided : (zone : Contents) (access : Access) (ask : Ask) (found : Option Decision) (d : Decision) (bytes : List ℕ) → ReadUpdates bytes → bytes ≡ ask.bytes → Decides zone access ask found → found ≡ Some d → IsFit zone d.case
+fit_decided zone access ask found d bytes law same decided is =
+    subst (λ (x : Option Decision). IfSome x (λ e. IsFit zone e.case)) is
+    (decided_fit zone access ask found (subst ReadUpdates same law) decided)

@@ -1,5 +1,11 @@
 pub mod Opened
+pub mod Growing
+pub mod Codes
+pub mod Carried
+pub mod Failing
+pub mod ServFail
 pub mod Deciding
 pub mod Replying
 pub mod FirstBits
 pub mod Fronts
+pub mod ReadRows

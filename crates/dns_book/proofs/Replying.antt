@@ -11,15 +11,14 @@ use Rattle.dns_wire.specs.declared.reply.Reply.{Reply}
 use Rattle.dns_wire.specs.Header.{header_of}
 use Rattle.dns_wire.specs.Messages.{MessageAt}
 use Rattle.dns_wire.specs.Written.{Written}
-use Rattle.dns_zone_map.specs.Zone.{Contents}
 use Rattle.dns_book.specs.declared.ask.Ask.{Ask}
 use Rattle.dns_book.specs.declared.decision.Request.{Request}
 use Rattle.dns_book.specs.declared.decision.Case.{Case}
-use Rattle.dns_book.specs.declared.decision.Case.TheVariants.{ShutOut, Malformed, UnsupportedVersion, NotImplemented, NotOneQuestion, Foreign, Query}
+use Rattle.dns_book.specs.declared.decision.Case.TheVariants.{ShutOut, Malformed, UnsupportedVersion, NotImplemented, NotOneQuestion, Foreign, Query, Update}
 use Rattle.dns_book.specs.declared.decision.Decision.{Decision}
 use Rattle.dns_book.specs.Access.{Access, lets_in}
 use Rattle.dns_book.specs.Cases.{message_case, request_by, Decides, silent, shut_out, malformed, read}
-use Rattle.dns_book.specs.Owed.{id_for, edns_for, limit_of, case_reply, reply_of, Owes, IsWritten, OwesBytes}
+use Rattle.dns_book.specs.Owed.{Grounds, id_for, edns_for, limit_of, case_reply, reply_of, Owes, IsWritten, OwesBytes}
 use Rattle.dns_book.proofs.Deciding.{OneMessage, decided_head, in_or_out, same_decision, some_same}
 
 -- what any reply to a request has of it
@@ -28,14 +27,15 @@ pub record IsOf (request : Request) (reply : Reply) : Type 0 where
   pub code : ℕ
   pub opt : reply.edns ≡ edns_for code request.edns
 
-of_case : (zone : Contents) (request : Request) (one : Case) → IsOf request (case_reply zone request one)
-of_case zone request (ShutOut q) = record { id = refl; code = 5; opt = refl }
-of_case zone request Malformed = record { id = refl; code = 1; opt = refl }
-of_case zone request (UnsupportedVersion q) = record { id = refl; code = 16; opt = refl }
-of_case zone request (NotImplemented q) = record { id = refl; code = 4; opt = refl }
-of_case zone request NotOneQuestion = record { id = refl; code = 1; opt = refl }
-of_case zone request (Foreign q) = record { id = refl; code = 5; opt = refl }
-of_case zone request (Query q) = record { id = refl; code = (case_reply zone request (Query q)).code; opt = refl }
+of_case : (grounds : Grounds) (request : Request) (one : Case) → IsOf request (case_reply grounds request one)
+of_case grounds request (ShutOut q) = record { id = refl; code = 5; opt = refl }
+of_case grounds request Malformed = record { id = refl; code = 1; opt = refl }
+of_case grounds request (UnsupportedVersion q) = record { id = refl; code = 16; opt = refl }
+of_case grounds request (NotImplemented q) = record { id = refl; code = 4; opt = refl }
+of_case grounds request NotOneQuestion = record { id = refl; code = 1; opt = refl }
+of_case grounds request (Foreign q) = record { id = refl; code = 5; opt = refl }
+of_case grounds request (Query q) = record { id = refl; code = (case_reply grounds request (Query q)).code; opt = refl }
+of_case grounds request (Update m) = record { id = refl; code = (case_reply grounds request (Update m)).code; opt = refl }
 
 id_small : (protocol : Protocol) (id : ℕ) → id < 2 ^ 16 → id_for protocol id < 2 ^ 16
 id_small Udp id small = small
@@ -72,32 +72,32 @@ same_written one protocol (Some r) None b x y = absurd x
 same_written one protocol (Some r) (Some bytes) None x y = absurd y
 same_written one protocol (Some r) (Some bytes) (Some others) x y = ap Some (one r (limit_of protocol r.edns) bytes others x y)
 
-pub Owes-one : OneMessage → (zone : Contents) (access : Access) (ask : Ask) (a b : Option Reply) → Owes zone access ask a → Owes zone access ask b → a ≡ b
-Owes-one message zone access ask a b x y =
-    let same : x.decision ≡ y.decision = same_decision message zone access ask x.decision y.decision x.decided y.decided in
-    x.is ∙ ap (option_map (reply_of zone)) same ∙ sym y.is
+pub Owes-one : OneMessage → (grounds : Grounds) (access : Access) (ask : Ask) (a b : Option Reply) → Owes grounds access ask a → Owes grounds access ask b → a ≡ b
+Owes-one message grounds access ask a b x y =
+    let same : x.decision ≡ y.decision = same_decision message grounds.zone access ask x.decision y.decision x.decided y.decided in
+    x.is ∙ ap (option_map (reply_of grounds)) same ∙ sym y.is
 
-pub OwesBytes-one : OneMessage → OneForm → (zone : Contents) (access : Access) (ask : Ask) (a b : Option (List ℕ)) → OwesBytes zone access ask a → OwesBytes zone access ask b → a ≡ b
-OwesBytes-one message form zone access ask a b x y =
-    let same : y.decision ≡ x.decision = same_decision message zone access ask y.decision x.decision y.decided x.decided in
-    same_written form ask.protocol (option_map (reply_of zone) x.decision) a b x.written (subst (λ (d : Option Decision). IsWritten ask.protocol (option_map (reply_of zone) d) b) same y.written)
+pub OwesBytes-one : OneMessage → OneForm → (grounds : Grounds) (access : Access) (ask : Ask) (a b : Option (List ℕ)) → OwesBytes grounds access ask a → OwesBytes grounds access ask b → a ≡ b
+OwesBytes-one message form grounds access ask a b x y =
+    let same : y.decision ≡ x.decision = same_decision message grounds.zone access ask y.decision x.decision y.decided x.decided in
+    same_written form ask.protocol (option_map (reply_of grounds) x.decision) a b x.written (subst (λ (d : Option Decision). IsWritten ask.protocol (option_map (reply_of grounds) d) b) same y.written)
 
-head_of : HeadBack → (zone : Contents) (access : Access) (ask : Ask) (h : Header) (decision : Option Decision) (bytes : List ℕ) → header_of ask.bytes ≡ Some h → h.id < 2 ^ 16
-    → Decides zone access ask decision → IsWritten ask.protocol (option_map (reply_of zone) decision) (Some bytes)
+head_of : HeadBack → (grounds : Grounds) (access : Access) (ask : Ask) (h : Header) (decision : Option Decision) (bytes : List ℕ) → header_of ask.bytes ≡ Some h → h.id < 2 ^ 16
+    → Decides grounds.zone access ask decision → IsWritten ask.protocol (option_map (reply_of grounds) decision) (Some bytes)
     → IsSomeAnd (header_of bytes) (λ r. (r.id ≡ id_for ask.protocol h.id) × (r.qr ≡ true))
-head_of back zone access ask h None bytes head small decided written = absurd written
-head_of back zone access ask h (Some d) bytes head small decided written =
-    let facts = decided_head zone access ask (Some d) decided in
+head_of back grounds access ask h None bytes head small decided written = absurd written
+head_of back grounds access ask h (Some d) bytes head small decided written =
+    let facts = decided_head grounds.zone access ask (Some d) decided in
     let same : d.request.header ≡ h = some_same (sym facts.0 ∙ head) in
-    let id : (reply_of zone d).id ≡ id_for ask.protocol h.id =
-    (of_case zone d.request d.case).id ∙ ap (λ (p : Protocol). id_for p d.request.header.id) facts.2 ∙ ap (λ (x : Header). id_for ask.protocol x.id) same
+    let id : (reply_of grounds d).id ≡ id_for ask.protocol h.id =
+    (of_case grounds d.request d.case).id ∙ ap (λ (p : Protocol). id_for p d.request.header.id) facts.2 ∙ ap (λ (x : Header). id_for ask.protocol x.id) same
     in
-    let little : (reply_of zone d).id < 2 ^ 16 = subst (λ (n : ℕ). n < 2 ^ 16) (sym id) (id_small ask.protocol h.id small) in
-    subst (λ (n : ℕ). IsSomeAnd (header_of bytes) (λ r. (r.id ≡ n) × (r.qr ≡ true))) id (back (reply_of zone d) (limit_of ask.protocol (reply_of zone d).edns) bytes little written)
+    let little : (reply_of grounds d).id < 2 ^ 16 = subst (λ (n : ℕ). n < 2 ^ 16) (sym id) (id_small ask.protocol h.id small) in
+    subst (λ (n : ℕ). IsSomeAnd (header_of bytes) (λ r. (r.id ≡ n) × (r.qr ≡ true))) id (back (reply_of grounds d) (limit_of ask.protocol (reply_of grounds d).edns) bytes little written)
 
-pub OwesBytes-header : HeadBack → (zone : Contents) (access : Access) (ask : Ask) (h : Header) (bytes : List ℕ) → header_of ask.bytes ≡ Some h → h.id < 2 ^ 16 → OwesBytes zone access ask (Some bytes)
+pub OwesBytes-header : HeadBack → (grounds : Grounds) (access : Access) (ask : Ask) (h : Header) (bytes : List ℕ) → header_of ask.bytes ≡ Some h → h.id < 2 ^ 16 → OwesBytes grounds access ask (Some bytes)
     → IsSomeAnd (header_of bytes) (λ r. (r.id ≡ id_for ask.protocol h.id) × (r.qr ≡ true))
-OwesBytes-header back zone access ask h bytes head small x = head_of back zone access ask h x.decision bytes head small x.decided x.written
+OwesBytes-header back grounds access ask h bytes head small x = head_of back grounds access ask h x.decision bytes head small x.decided x.written
 
 -- what a reply without an OPT may take, one with an OPT may take too
 limit_least : (protocol : Protocol) (edns : Option Edns) → limit_of protocol None ≤ limit_of protocol (edns_for 0 edns)
@@ -110,36 +110,36 @@ limit_least Quic edns = omega arith
 limit_least H3 edns = omega arith
 
 -- a reply's written form takes no more than what bounds its limit
-within : IsShorter → (zone : Contents) (ask : Ask) (decision : Option Decision) (most : ℕ) (bytes : List ℕ) → IfSome decision (λ d. limit_of ask.protocol (reply_of zone d).edns ≤ most)
-    → IsWritten ask.protocol (option_map (reply_of zone) decision) (Some bytes) → length bytes ≤ most
-within short zone ask None most bytes bound written = absurd written
-within short zone ask (Some d) most bytes bound written = omega (arith, bound, short (reply_of zone d) (limit_of ask.protocol (reply_of zone d).edns) bytes written)
+within : IsShorter → (grounds : Grounds) (ask : Ask) (decision : Option Decision) (most : ℕ) (bytes : List ℕ) → IfSome decision (λ d. limit_of ask.protocol (reply_of grounds d).edns ≤ most)
+    → IsWritten ask.protocol (option_map (reply_of grounds) decision) (Some bytes) → length bytes ≤ most
+within short grounds ask None most bytes bound written = absurd written
+within short grounds ask (Some d) most bytes bound written = omega (arith, bound, short (reply_of grounds d) (limit_of ask.protocol (reply_of grounds d).edns) bytes written)
 
-room_of : OneMessage → (zone : Contents) (access : Access) (ask : Ask) (m : Message) (decision : Option Decision) → MessageAt ask.bytes m → Decides zone access ask decision
-    → IfSome decision (λ d. limit_of ask.protocol (reply_of zone d).edns ≤ limit_of ask.protocol (edns_for 0 m.edns))
-room_of one zone access ask m _ at (silent none) = tt
-room_of one zone access ask m _ at (shut_out h e out q asked) = limit_least ask.protocol m.edns
-room_of one zone access ask m _ at (malformed h e let_in none) = absurd (none m at)
-room_of one zone access ask m _ at (read h e let_in n there) =
+room_of : OneMessage → (grounds : Grounds) (access : Access) (ask : Ask) (m : Message) (decision : Option Decision) → MessageAt ask.bytes m → Decides grounds.zone access ask decision
+    → IfSome decision (λ d. limit_of ask.protocol (reply_of grounds d).edns ≤ limit_of ask.protocol (edns_for 0 m.edns))
+room_of one grounds access ask m _ at (silent none) = tt
+room_of one grounds access ask m _ at (shut_out h e out q asked) = limit_least ask.protocol m.edns
+room_of one grounds access ask m _ at (malformed h e let_in none) = absurd (none m at)
+room_of one grounds access ask m _ at (read h e let_in n there) =
     let same : n ≡ m = one ask.bytes n m there at in
-    let of = of_case zone (request_by ask.protocol n) (message_case zone n) in
-    let room : limit_of ask.protocol (case_reply zone (request_by ask.protocol n) (message_case zone n)).edns ≡ limit_of ask.protocol (edns_for 0 m.edns) =
+    let of = of_case grounds (request_by ask.protocol n) (message_case grounds.zone n) in
+    let room : limit_of ask.protocol (case_reply grounds (request_by ask.protocol n) (message_case grounds.zone n)).edns ≡ limit_of ask.protocol (edns_for 0 m.edns) =
     ap (λ (e : Option Edns). limit_of ask.protocol e) of.opt ∙ limit_same ask.protocol of.code n.edns ∙ ap (λ (x : Message). limit_of ask.protocol (edns_for 0 x.edns)) same
     in
     omega (arith, room)
 
-pub OwesBytes-limit : OneMessage → IsShorter → (zone : Contents) (access : Access) (ask : Ask) (m : Message) (bytes : List ℕ) → MessageAt ask.bytes m → OwesBytes zone access ask (Some bytes) → length bytes ≤ limit_of ask.protocol (edns_for 0 m.edns)
-OwesBytes-limit one short zone access ask m bytes at x = within short zone ask x.decision _ bytes (room_of one zone access ask m x.decision at x.decided) x.written
+pub OwesBytes-limit : OneMessage → IsShorter → (grounds : Grounds) (access : Access) (ask : Ask) (m : Message) (bytes : List ℕ) → MessageAt ask.bytes m → OwesBytes grounds access ask (Some bytes) → length bytes ≤ limit_of ask.protocol (edns_for 0 m.edns)
+OwesBytes-limit one short grounds access ask m bytes at x = within short grounds ask x.decision _ bytes (room_of one grounds access ask m x.decision at x.decided) x.written
 
-no_room_of : (zone : Contents) (access : Access) (ask : Ask) (decision : Option Decision) → ((m : Message) → MessageAt ask.bytes m → ⊥) → Decides zone access ask decision
-    → IfSome decision (λ d. limit_of ask.protocol (reply_of zone d).edns ≤ limit_of ask.protocol None)
-no_room_of zone access ask _ none (silent nor) = tt
-no_room_of zone access ask _ none (shut_out h e out q asked) = omega arith
-no_room_of zone access ask _ none (malformed h e let_in nor) = omega arith
-no_room_of zone access ask _ none (read h e let_in m at) = absurd (none m at)
+no_room_of : (grounds : Grounds) (access : Access) (ask : Ask) (decision : Option Decision) → ((m : Message) → MessageAt ask.bytes m → ⊥) → Decides grounds.zone access ask decision
+    → IfSome decision (λ d. limit_of ask.protocol (reply_of grounds d).edns ≤ limit_of ask.protocol None)
+no_room_of grounds access ask _ none (silent nor) = tt
+no_room_of grounds access ask _ none (shut_out h e out q asked) = omega arith
+no_room_of grounds access ask _ none (malformed h e let_in nor) = omega arith
+no_room_of grounds access ask _ none (read h e let_in m at) = absurd (none m at)
 
-pub OwesBytes-malformed : IsShorter → (zone : Contents) (access : Access) (ask : Ask) (bytes : List ℕ) → ((m : Message) → MessageAt ask.bytes m → ⊥) → OwesBytes zone access ask (Some bytes) → length bytes ≤ limit_of ask.protocol None
-OwesBytes-malformed short zone access ask bytes none x = within short zone ask x.decision _ bytes (no_room_of zone access ask x.decision none x.decided) x.written
+pub OwesBytes-malformed : IsShorter → (grounds : Grounds) (access : Access) (ask : Ask) (bytes : List ℕ) → ((m : Message) → MessageAt ask.bytes m → ⊥) → OwesBytes grounds access ask (Some bytes) → length bytes ≤ limit_of ask.protocol None
+OwesBytes-malformed short grounds access ask bytes none x = within short grounds ask x.decision _ bytes (no_room_of grounds access ask x.decision none x.decided) x.written
 
 no_reply : (a : Header) (n : ℕ) (found : Option Header) → IsSomeAnd found (λ r. (r.id ≡ n) × (r.qr ≡ true)) → found ≡ Some a → a.qr ≡ false → ⊥
 no_reply a n None is e qr = absurd is
@@ -148,42 +148,42 @@ no_reply a n (Some r) is e qr =
     let set : a.qr ≡ true = subst (λ (x : Header). x.qr ≡ true) same is.1 in
     absurd cc
 
-owed_none : (other : Contents) (others : Access) (again : Ask) (n : ℕ) (decision : Option Decision) (reply : Option (List ℕ)) → IsSomeAnd (header_of again.bytes) (λ r. (r.id ≡ n) × (r.qr ≡ true))
-    → Decides other others again decision → IsWritten again.protocol (option_map (reply_of other) decision) reply → reply ≡ None
+owed_none : (other : Grounds) (others : Access) (again : Ask) (n : ℕ) (decision : Option Decision) (reply : Option (List ℕ)) → IsSomeAnd (header_of again.bytes) (λ r. (r.id ≡ n) × (r.qr ≡ true))
+    → Decides other.zone others again decision → IsWritten again.protocol (option_map (reply_of other) decision) reply → reply ≡ None
 owed_none other others again n None None head decided written = refl
 owed_none other others again n None (Some bytes) head decided written = absurd written
 owed_none other others again n (Some d) reply head decided written =
-    let facts = decided_head other others again (Some d) decided in
+    let facts = decided_head other.zone others again (Some d) decided in
     absurd (no_reply d.request.header n (header_of again.bytes) head facts.0 facts.1)
 
-pub OwesBytes-silent : HeadBack → (zone other : Contents) (access others : Access) (ask again : Ask) (h : Header) (bytes : List ℕ) (reply : Option (List ℕ)) → header_of ask.bytes ≡ Some h → h.id < 2 ^ 16
-    → OwesBytes zone access ask (Some bytes) → again.bytes ≡ bytes → OwesBytes other others again reply → reply ≡ None
-OwesBytes-silent back zone other access others ask again h bytes reply head small x same y =
-    let there = OwesBytes-header back zone access ask h bytes head small x in
+pub OwesBytes-silent : HeadBack → (grounds other : Grounds) (access others : Access) (ask again : Ask) (h : Header) (bytes : List ℕ) (reply : Option (List ℕ)) → header_of ask.bytes ≡ Some h → h.id < 2 ^ 16
+    → OwesBytes grounds access ask (Some bytes) → again.bytes ≡ bytes → OwesBytes other others again reply → reply ≡ None
+OwesBytes-silent back grounds other access others ask again h bytes reply head small x same y =
+    let there = OwesBytes-header back grounds access ask h bytes head small x in
     let here = subst (λ (b : List ℕ). IsSomeAnd (header_of b) (λ r. (r.id ≡ id_for ask.protocol h.id) × (r.qr ≡ true))) (sym same) there in
     owed_none other others again (id_for ask.protocol h.id) y.decision reply here y.decided y.written
 
-refused : (zone : Contents) (access : Access) (ask : Ask) (decision : Option Decision) → lets_in access ask.source.ip ≡ false → Decides zone access ask decision
-    → IfSome decision (λ d. ((reply_of zone d).code ≡ 5) × ((reply_of zone d).answers ≡ []) × ((reply_of zone d).edns ≡ None))
-refused zone access ask _ out (silent none) = tt
-refused zone access ask _ out (shut_out h e shut q asked) = (refl, refl, refl)
-refused zone access ask _ out (malformed h e let_in none) = absurd (in_or_out _ let_in out)
-refused zone access ask _ out (read h e let_in m at) = absurd (in_or_out _ let_in out)
+refused : (grounds : Grounds) (access : Access) (ask : Ask) (decision : Option Decision) → lets_in access ask.source.ip ≡ false → Decides grounds.zone access ask decision
+    → IfSome decision (λ d. ((reply_of grounds d).code ≡ 5) × ((reply_of grounds d).answers ≡ []) × ((reply_of grounds d).edns ≡ None))
+refused grounds access ask _ out (silent none) = tt
+refused grounds access ask _ out (shut_out h e shut q asked) = (refl, refl, refl)
+refused grounds access ask _ out (malformed h e let_in none) = absurd (in_or_out _ let_in out)
+refused grounds access ask _ out (read h e let_in m at) = absurd (in_or_out _ let_in out)
 
-refused_reply : (zone : Contents) (decision : Option Decision) (reply : Reply) → IfSome decision (λ d. ((reply_of zone d).code ≡ 5) × ((reply_of zone d).answers ≡ []) × ((reply_of zone d).edns ≡ None))
-    → Some reply ≡ option_map (reply_of zone) decision → (reply.code ≡ 5) × (reply.answers ≡ []) × (reply.edns ≡ None)
-refused_reply zone None reply facts is = absurd cc
-refused_reply zone (Some d) reply facts is = subst (λ (r : Reply). (r.code ≡ 5) × (r.answers ≡ []) × (r.edns ≡ None)) (some_same (sym is)) facts
+refused_reply : (grounds : Grounds) (decision : Option Decision) (reply : Reply) → IfSome decision (λ d. ((reply_of grounds d).code ≡ 5) × ((reply_of grounds d).answers ≡ []) × ((reply_of grounds d).edns ≡ None))
+    → Some reply ≡ option_map (reply_of grounds) decision → (reply.code ≡ 5) × (reply.answers ≡ []) × (reply.edns ≡ None)
+refused_reply grounds None reply facts is = absurd cc
+refused_reply grounds (Some d) reply facts is = subst (λ (r : Reply). (r.code ≡ 5) × (r.answers ≡ []) × (r.edns ≡ None)) (some_same (sym is)) facts
 
-pub Owes-refused : (zone : Contents) (access : Access) (ask : Ask) (reply : Reply) → lets_in access ask.source.ip ≡ false → Owes zone access ask (Some reply) → (reply.code ≡ 5) × (reply.answers ≡ []) × (reply.edns ≡ None)
-Owes-refused zone access ask reply out x = refused_reply zone x.decision reply (refused zone access ask x.decision out x.decided) x.is
+pub Owes-refused : (grounds : Grounds) (access : Access) (ask : Ask) (reply : Reply) → lets_in access ask.source.ip ≡ false → Owes grounds access ask (Some reply) → (reply.code ≡ 5) × (reply.answers ≡ []) × (reply.edns ≡ None)
+Owes-refused grounds access ask reply out x = refused_reply grounds x.decision reply (refused grounds access ask x.decision out x.decided) x.is
 
-shut_room : (zone : Contents) (access : Access) (ask : Ask) (decision : Option Decision) → lets_in access ask.source.ip ≡ false → Decides zone access ask decision
-    → IfSome decision (λ d. limit_of ask.protocol (reply_of zone d).edns ≤ limit_of ask.protocol None)
-shut_room zone access ask _ out (silent none) = tt
-shut_room zone access ask _ out (shut_out h e shut q asked) = omega arith
-shut_room zone access ask _ out (malformed h e let_in none) = absurd (in_or_out _ let_in out)
-shut_room zone access ask _ out (read h e let_in m at) = absurd (in_or_out _ let_in out)
+shut_room : (grounds : Grounds) (access : Access) (ask : Ask) (decision : Option Decision) → lets_in access ask.source.ip ≡ false → Decides grounds.zone access ask decision
+    → IfSome decision (λ d. limit_of ask.protocol (reply_of grounds d).edns ≤ limit_of ask.protocol None)
+shut_room grounds access ask _ out (silent none) = tt
+shut_room grounds access ask _ out (shut_out h e shut q asked) = omega arith
+shut_room grounds access ask _ out (malformed h e let_in none) = absurd (in_or_out _ let_in out)
+shut_room grounds access ask _ out (read h e let_in m at) = absurd (in_or_out _ let_in out)
 
-pub OwesBytes-refused : IsShorter → (zone : Contents) (access : Access) (ask : Ask) (bytes : List ℕ) → lets_in access ask.source.ip ≡ false → OwesBytes zone access ask (Some bytes) → length bytes ≤ limit_of ask.protocol None
-OwesBytes-refused short zone access ask bytes out x = within short zone ask x.decision _ bytes (shut_room zone access ask x.decision out x.decided) x.written
+pub OwesBytes-refused : IsShorter → (grounds : Grounds) (access : Access) (ask : Ask) (bytes : List ℕ) → lets_in access ask.source.ip ≡ false → OwesBytes grounds access ask (Some bytes) → length bytes ≤ limit_of ask.protocol None
+OwesBytes-refused short grounds access ask bytes out x = within short grounds ask x.decision _ bytes (shut_room grounds access ask x.decision out x.decided) x.written

@@ -1,14 +1,18 @@
 -- What contracts see of a book, and what settling a message does.
-use Rattle.std.specs.Prelude.{◌≡◌, ℕ, List, ◌∷◌, length, Option, Some, None, Bool}
+use Rattle.std.specs.Prelude.{◌≡◌, ℕ, ◌+◌, ◌<◌, ◌≤◌, List, length, Option, Some, None, Bool, true, false, Ok}
+use Rattle.dns_io.specs.Edge.{Keeps, Rose}
 use Rattle.dns_wire.specs.declared.record.Record.{Record}
-use Rattle.dns_wire.specs.declared.rdata.Data.TheVariants.{Empty}
 use Rattle.dns_keeper.specs.declared.row.Row.{Row}
+use Rattle.dns_keeper.specs.Keeping.{GrowsByBatch}
 use Rattle.dns_zone_map.specs.Zone.{Contents}
+use Rattle.dns_update.specs.Change.{serial_after_batch}
+use Rattle.dns_update.specs.Replay.{Replays}
 use Rattle.dns_book.specs.declared.ask.Ask.{Ask}
+use Rattle.dns_book.specs.declared.ask.Receipt.{Receipt}
 use Rattle.dns_book.specs.declared.ask.Settled.{Settled}
 use Rattle.dns_book.specs.Access.{Access}
-use Rattle.dns_book.specs.Owed.{OwesBytes}
-use Rattle.dns_book.specs.Counted.{counts_after}
+use Rattle.dns_book.specs.Owed.{Grounds, OwesBytes, batch_by}
+use Rattle.dns_book.specs.Counted.{counts_after, zone_with, counts_with}
 
 -- the keeper of the rows, the zone that they stand for, whether updates are let in, the number of rows, and what was counted
 pub record SeenOf (K : Type 0) : Type 0 where
@@ -23,18 +27,62 @@ abbrev pub HasRows : Option (List Row) → ℕ → Type 0
 HasRows None n = Unit {0}
 HasRows (Some rows) n = length rows ≡ n
 
--- the record of a snapshot row: the origin, type 252, class IN, TTL 0, no data
-abbrev pub snapshot_of : List (List ℕ) → Record
-snapshot_of origin = record { name = origin; rtype = 252; class = 1; ttl = 0; rdata = Empty }
+-- the rows stand for this zone, where they are told
+abbrev pub StandFor : Option (List Row) → Contents → Type 0
+StandFor None zone = Unit {0}
+StandFor (Some rows) zone = Replays zone.origin rows (Ok zone.records)
 
--- what a journal begins with: the snapshot, and then the zone's records in order
-abbrev pub opening_of : Contents → List Record
-opening_of zone = snapshot_of zone.origin ∷ zone.records
+-- what always holds of a book: its rows are so many as it says, and its zone is what they stand for
+pub record IsKept {K : Type 0} (rows : K → Option (List Row)) (book : SeenOf K) : Type 0 where
+  pub count : HasRows (rows book.keeper) book.row_count
+  pub zone : StandFor (rows book.keeper) book.zone
 
--- one message is settled, where `access` says who is let in: its reply is what it is owed, it is counted by what was decided
--- of it, and nothing else changes
-pub record Settles {K : Type 0} (access : Access) (before : SeenOf K) (ask : Ask) (settled : Settled) (after : SeenOf K) : Type 0 where
-  pub reply : OwesBytes before.zone access ask settled.reply
+-- what the reply to a message depends on, which this book settles
+abbrev pub grounds_of : {K : Type 0} → SeenOf K → Bool → Grounds
+grounds_of book failed = record { zone = book.zone; allow_update = book.allow_update; failed = failed }
+
+-- the place of a batch behind the rows that there are
+abbrev pub receipt_of : {K : Type 0} → SeenOf K → Ask → List Record → Receipt
+receipt_of before ask batch = record { client = ask.client; first = before.row_count + 1; count = length batch }
+
+-- a book after a batch, with its keeper
+abbrev pub grown : {K : Type 0} → SeenOf K → K → List Record → SeenOf K
+grown before keeper batch = record {
+  keeper = keeper;
+  zone = zone_with before.zone batch;
+  allow_update = before.allow_update;
+  row_count = before.row_count + length batch;
+  counts = counts_with before.zone batch before.counts;
+}
+
+-- what becomes of the records that a message brings: there are none, and nothing changes; they come into the journal, all with
+-- the serial that they leave, and the zone is what they make of it; or the keeper fails, and nothing changes. The flag says that
+-- it failed.
+pub data Ends {K : Type 0} (rows : K → Option (List Row)) (faults : K → ℕ) (before : SeenOf K) (ask : Ask) (batch : List Record) : Bool → Option Receipt → SeenOf K → Type 0 where
+  idle : length batch ≡ 0 → Ends rows faults before ask batch false None before
+  journalled : 0 < length batch → (keeper : K)
+      → GrowsByBatch (rows before.keeper) (rows keeper) ask.client (serial_after_batch before.zone.origin before.zone.records batch) ask.at batch
+      → faults before.keeper ≤ faults keeper
+      → Ends rows faults before ask batch false (Some (receipt_of before ask batch)) (grown before keeper batch)
+  failed : 0 < length batch → (keeper : K) → Keeps (rows before.keeper) (rows keeper) → faults before.keeper ≤ faults keeper
+      → Rose (faults before.keeper) (faults keeper)
+      → Ends rows faults before ask batch true None (record before { keeper = keeper })
+
+-- one message is settled by a book whose zone is what its rows stand for, and stays so, where `access` says who is let in: its
+-- reply is what it is owed, the records that it brings come into the journal and the zone or, where the keeper fails, into
+-- neither, and it is counted by what was decided of it
+pub record Settles {K : Type 0} (rows : K → Option (List Row)) (faults : K → ℕ) (access : Access) (before : SeenOf K) (ask : Ask) (settled : Settled) (after : SeenOf K) : Type 0 where
+  pub stood : IsKept rows before
+  pub failed : Bool
+  pub reply : OwesBytes (grounds_of before failed) access ask settled.reply
+  pub ended : SeenOf K
+  pub ends : Ends rows faults before ask (batch_by before.zone before.allow_update reply.decision) failed settled.receipt ended
+  pub counted : after ≡ record ended { counts = counts_after (grounds_of before failed) reply.decision settled.reply ended.counts }
   pub length : settled.length ≡ after.row_count
-  pub receipt : settled.receipt ≡ None
-  pub same : after ≡ record before { counts = counts_after before.zone reply.decision settled.reply before.counts }
+  pub kept : IsKept rows after
+
+-- a book that found no memory: nothing has changed but what its keeper does not tell
+pub record IsLeft {K : Type 0} (rows : K → Option (List Row)) (faults : K → ℕ) (before after : SeenOf K) : Type 0 where
+  pub same : after ≡ record before { keeper = after.keeper }
+  pub kept : Keeps (rows before.keeper) (rows after.keeper)
+  pub uncounted : faults after.keeper ≡ faults before.keeper

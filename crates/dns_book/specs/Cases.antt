@@ -1,4 +1,4 @@
--- The case of a message, by the first rule that fits (RFC 1035 4.1.1, RFC 6891 6.1.3).
+-- The case of a message, by the first rule that fits (RFC 1035 4.1.1, RFC 2136 2.2, RFC 6891 6.1.3).
 use Rattle.std.specs.Prelude.{◌≡◌, List, [], ◌∷◌, Option, Some, None, Bool, true, false, not, is_err, nat_lt, ◌==◌, ◌||◌, if◌then◌else◌}
 use Rattle.dns_io.specs.declared.peer.Protocol.{Protocol}
 use Rattle.dns_wire.specs.declared.header.Header.{Header}
@@ -13,7 +13,7 @@ use Rattle.dns_zone_map.specs.Zone.{Contents}
 use Rattle.dns_book.specs.declared.ask.Ask.{Ask}
 use Rattle.dns_book.specs.declared.decision.Request.{Request}
 use Rattle.dns_book.specs.declared.decision.Case.{Case}
-use Rattle.dns_book.specs.declared.decision.Case.TheVariants.{ShutOut, Malformed, UnsupportedVersion, NotImplemented, NotOneQuestion, Foreign, Query}
+use Rattle.dns_book.specs.declared.decision.Case.TheVariants.{ShutOut, Malformed, UnsupportedVersion, NotImplemented, NotOneQuestion, Foreign, Query, Update}
 use Rattle.dns_book.specs.declared.decision.Decision.{Decision}
 use Rattle.dns_book.specs.Sources.{sanitized}
 use Rattle.dns_book.specs.Access.{Access, lets_in}
@@ -33,17 +33,22 @@ only_question (q ∷ r ∷ qs) = None
 abbrev pub is_foreign : Contents → Question → Bool
 is_foreign zone q = not (q.qclass == 1) || not (is_at_or_below q.name zone.origin) || (q.qtype == 251) || (q.qtype == 252)
 
--- the case of a query with this question alone, or without exactly one
-abbrev pub query_case : Contents → Option Question → Case
-query_case zone None = NotOneQuestion
-query_case zone (Some q) = if is_foreign zone q then Foreign q else Query q
+-- the case of a query with this question alone
+abbrev pub query_case : Contents → Question → Case
+query_case zone q = if is_foreign zone q then Foreign q else Query q
 
--- the case of a message that was read: an EDNS version that isn't known, another opcode than QUERY (0), or a query
+-- the case of a query (opcode 0) or an update (5), whose one question is this, if it has exactly one
+abbrev pub question_case : Contents → Message → Option Question → Case
+question_case zone m None = NotOneQuestion
+question_case zone m (Some q) = if m.header.opcode == 5 then Update m else query_case zone q
+
+-- the case of a message that was read: an EDNS version that isn't known, an opcode that is neither QUERY (0) nor UPDATE (5),
+-- or a query or an update
 unfoldable pub message_case : Contents → Message → Case
 message_case zone m =
     if is_newer m.edns then UnsupportedVersion (only_question m.questions)
-    else if not (m.header.opcode == 0) then NotImplemented (only_question m.questions)
-    else query_case zone (only_question m.questions)
+    else if not ((m.header.opcode == 0) || (m.header.opcode == 5)) then NotImplemented (only_question m.questions)
+    else question_case zone m (only_question m.questions)
 
 -- a header whose message is no reply itself
 abbrev pub request_in : Option Header → Option Header

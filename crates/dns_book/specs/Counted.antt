@@ -8,9 +8,11 @@ use Rattle.dns_counts.specs.declared.asked.Asked.{Asked}
 use Rattle.dns_counts.specs.declared.asked.Replied.{Replied}
 use Rattle.dns_counts.specs.Counters.{no_counts, recorded, changed}
 use Rattle.dns_book.specs.declared.decision.Case.{Case}
-use Rattle.dns_book.specs.declared.decision.Case.TheVariants.{ShutOut, Malformed, UnsupportedVersion, NotImplemented, NotOneQuestion, Foreign, Query}
+use Rattle.dns_book.specs.declared.decision.Case.TheVariants.{ShutOut, Malformed, UnsupportedVersion, NotImplemented, NotOneQuestion, Foreign, Query, Update}
 use Rattle.dns_book.specs.declared.decision.Decision.{Decision}
-use Rattle.dns_book.specs.Owed.{reply_of}
+use Rattle.dns_update.specs.Change.{serial_after_batch, applied}
+use Rattle.dns_update.specs.Modified.{modified_of}
+use Rattle.dns_book.specs.Owed.{Grounds, reply_of}
 
 -- the type and class of the question that is counted: that of a query with exactly one
 abbrev pub counted_question : Case → Option (ℕ × ℕ)
@@ -21,6 +23,7 @@ counted_question (NotImplemented q) = None
 counted_question NotOneQuestion = None
 counted_question (Foreign q) = Some (q.qtype, q.qclass)
 counted_question (Query q) = Some (q.qtype, q.qclass)
+counted_question (Update m) = None
 
 -- what is told of a message
 abbrev pub asked_of : Decision → Asked
@@ -35,10 +38,20 @@ abbrev pub replied_of : Reply → List ℕ → Replied
 replied_of reply bytes = record { code = reply.code; flags = word_at bytes 2; answers = kinds_of (word_at bytes 6) reply.answers }
 
 -- the counts after a message: a reply is counted once, and no reply leaves them
-abbrev pub counts_after : Contents → Option Decision → Option (List ℕ) → List (List ℕ) → List (List ℕ)
-counts_after zone (Some d) (Some bytes) before = recorded (asked_of d) (replied_of (reply_of zone d) bytes) before
-counts_after zone (Some d) None before = before
-counts_after zone None bytes before = before
+abbrev pub counts_after : Grounds → Option Decision → Option (List ℕ) → List (List ℕ) → List (List ℕ)
+counts_after grounds (Some d) (Some bytes) before = recorded (asked_of d) (replied_of (reply_of grounds d) bytes) before
+counts_after grounds (Some d) None before = before
+counts_after grounds None bytes before = before
+
+-- the zone after a batch
+abbrev pub zone_with : Contents → List Record → Contents
+zone_with zone batch = record { origin = zone.origin; records = applied zone.origin zone.records batch (serial_after_batch zone.origin zone.records batch) }
+
+-- the counts after a batch of this zone: how many of its records did what, and how many records the zone then has
+abbrev pub counts_with : Contents → List Record → List (List ℕ) → List (List ℕ)
+counts_with zone batch before =
+    let modified = modified_of zone.origin zone.records batch in
+    changed (record { added = modified.added; deleted = modified.deleted; updated = modified.updated; records = length (zone_with zone batch).records }) before
 
 -- the counts of a book that was opened: nothing but how many records its zone has
 abbrev pub counts_of_zone : List Record → List (List ℕ)

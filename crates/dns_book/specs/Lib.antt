@@ -5,4 +5,6 @@ pub mod Cases
 pub mod Owed
 pub mod Counted
 pub mod Book
+pub mod Outcome
 pub mod Opening
+pub mod Recovering

@@ -1,10 +1,10 @@
-//! The case of a message, by the first rule that fits (RFC 1035 4.1.1, RFC 6891 6.1.3).
+//! The case of a message, by the first rule that fits (RFC 1035 4.1.1, RFC 2136 2.2, RFC 6891 6.1.3).
 
 ghost use Rattle.std.specs.Prelude.{◌≡◌, IfOk, IfSome, IfNone, true, false};
 ghost use Rattle.dns_wire.specs.declared.message.Message.{Message as Read};
 ghost use Rattle.dns_wire.specs.Messages.{MessageAt};
 ghost use Rattle.dns_name.specs.Name.{is_at_or_below};
-ghost use Rattle.dns_book.specs.Cases.{is_newer, only_question, is_foreign, query_case, message_case, request_of, header_alone, request_by, Decides};
+ghost use Rattle.dns_book.specs.Cases.{is_newer, only_question, is_foreign, query_case, question_case, message_case, request_of, header_alone, request_by, Decides};
 
 use crate::access::AccessControl;
 use crate::ask::{Ask, sanitize_src_address};
@@ -36,14 +36,17 @@ pub(crate) enum Case {
     Malformed,
     /// Its EDNS version is not known here (RFC 6891 6.1.3); the question, where there is exactly one.
     UnsupportedVersion { question: Option<Question> },
-    /// Its opcode is not QUERY (RFC 1035 4.1.1); the question, where there is exactly one.
+    /// Its opcode is neither QUERY (RFC 1035 4.1.1) nor UPDATE (RFC 2136 2.2); the question, where there is exactly one.
     NotImplemented { question: Option<Question> },
-    /// It is a query without exactly one question.
+    /// It is a query or an update without exactly one question.
     NotOneQuestion,
     /// It is a query for another class or another zone, or for a zone transfer.
     Foreign { question: Question },
     /// It is a query that the zone is looked up for (RFC 1034 4.3.2).
     Query { question: Question },
+    /// It is an update: its question is its zone section, its answers are the prerequisites, its authority section has the
+    /// update records (RFC 2136 2).
+    Update { message: Message },
 }
 
 /// A message that is owed a reply.
@@ -140,23 +143,40 @@ fn decide_message(zone: &Zone, protocol: Protocol, message: Message) -> Decision
 fn message_case(zone: &Zone, message: Message) -> Case
     ensures { result ≡ message_case zone.now message }
 {
-    let question = only_question(message.questions);
     if is_newer(message.edns) {
-        return Case::UnsupportedVersion { question };
+        return Case::UnsupportedVersion {
+            question: only_question(message.questions),
+        };
     }
-    if message.header.opcode != opcode::QUERY {
-        return Case::NotImplemented { question };
+    let opcode = message.header.opcode;
+    if opcode != opcode::QUERY && opcode != opcode::UPDATE {
+        return Case::NotImplemented {
+            question: only_question(message.questions),
+        };
     }
-    query_case(zone, question)
+    question_case(zone, message)
 }
 
-/// The case of a query with this question alone, or without exactly one.
-fn query_case(zone: &Zone, question: Option<Question>) -> Case
+/// The case of a query or an update.
+fn question_case(zone: &Zone, message: Message) -> Case
+    ensures { result ≡ question_case zone.now message (only_question message.questions) }
+{
+    if message.questions.len() != 1 {
+        return Case::NotOneQuestion;
+    }
+    if message.header.opcode == opcode::UPDATE {
+        return Case::Update { message };
+    }
+    match only_question(message.questions) {
+        Some(question) => query_case(zone, question),
+        None => Case::NotOneQuestion,
+    }
+}
+
+/// The case of a query with this question alone.
+fn query_case(zone: &Zone, question: Question) -> Case
     ensures { result ≡ query_case zone.now question }
 {
-    let Some(question) = question else {
-        return Case::NotOneQuestion;
-    };
     if is_foreign(zone, &question) {
         return Case::Foreign { question };
     }
@@ -173,7 +193,7 @@ fn is_newer(edns: Option<Edns>) -> bool
 }
 
 /// The question of a message with exactly one. The question is moved.
-fn only_question(questions: Questions) -> Option<Question>
+pub(crate) fn only_question(questions: Questions) -> Option<Question>
     ensures { result ≡ only_question questions }
 {
     let mut questions = questions.into_vec();

@@ -1,35 +1,119 @@
-//! The reply that a message is owed (RFC 1034 4.3, RFC 6891 6.1).
+//! What a message is owed (RFC 1034 4.3, RFC 2136 3, RFC 6891 6.1).
 
-ghost use Rattle.std.specs.Prelude.{◌≡◌, ◌≤◌, ◌<◌, IfOk, IfSome, [], false};
-ghost use Rattle.dns_book.specs.Owed.{id_for, edns_for, limit_of, reply_to, looked_reply, reply_of, HasRoom, IsInside};
+ghost use Rattle.std.specs.Prelude.{◌≡◌, ◌≤◌, ◌<◌, length, IfOk, IfSome, [], false};
+ghost use Rattle.std.specs.List.{AllByRecursion};
+ghost use Rattle.dns_wire.specs.ReadBack.{ReadsBack};
+ghost use Rattle.dns_update.specs.declared.verdict.Verdict.TheVariants.{Passes};
+ghost use Rattle.dns_update.specs.Verdict.{prescan};
+ghost use Rattle.dns_update.specs.Change.{batch_of};
+ghost use Rattle.dns_book.specs.declared.decision.Case.TheVariants.{Update};
+ghost use Rattle.dns_book.specs.Owed.{id_for, edns_for, limit_of, reply_to, looked_reply, update_reply, reply_of, HasRoom, IsFit, case_batch};
+ghost use Rattle.dns_book.specs.Outcome.{AreMadeReady, records_in};
 
-use crate::decision::{Case, Decision, Request};
+use crate::decision::{Case, Decision, Request, only_question};
 use dns_io::{OutOfMemory, Protocol};
+use dns_update::laws::verdicts;
 use dns_wire::limits::{MAX_MESSAGE_LEN, MIN_UDP_PAYLOAD};
-use dns_wire::response_code::{BAD_VERS, FORM_ERR, NOT_IMP, REFUSED};
-use dns_wire::{Edns, Question, Records, Reply};
-use dns_zone::{Looked, Zone};
+use dns_wire::response_code::{BAD_VERS, FORM_ERR, NO_ERROR, NOT_IMP, REFUSED};
+use dns_wire::{Edns, Message, Question, Records, Reply};
+use dns_zone::{Looked, Prepared, Verdict, Zone};
 use std::alloc::Global;
 
-/// The reply that a message is owed, by its case.
-pub(crate) fn reply_of(alloc: Global, zone: &Zone, decision: Decision) -> Result<Reply, OutOfMemory>
-    requires { IsInside zone.now decision.case }
-    ensures is { IfOk result (λ reply. reply ≡ reply_of zone.now decision) }
-    ensures fits { IfOk result HasRoom }
+/// What a message is owed where the journal does not fail.
+#[derive(Drop)]
+pub(crate) struct Owed {
+    /// The reply.
+    pub(crate) reply: Reply,
+    /// The records that it brings into the journal and the zone after them, where there are any.
+    pub(crate) prepared: Option<Prepared>,
+}
+
+/// What a message is owed, by its case. `allow_update` says whether updates are let in (RFC 2136 3.3).
+pub(crate) fn owed_by(
+    alloc: Global,
+    zone: &Zone,
+    allow_update: bool,
+    decision: Decision,
+) -> Result<Owed, OutOfMemory>
+    requires { IsFit zone.now decision.case }
+    ensures reply { IfOk result (λ owed. owed.reply ≡ reply_of (record { zone = zone.now; allow_update = allow_update; failed = false }) decision) }
+    ensures fits { IfOk result (λ owed. HasRoom owed.reply) }
+    ensures batch { IfOk result (λ owed. records_in owed.prepared ≡ case_batch zone.now allow_update decision.case) }
+    ensures ready { IfOk result (λ owed. AreMadeReady zone.now owed.prepared) }
 {
     let request = decision.request;
     match decision.case {
-        Case::ShutOut { question } => Ok(refusal(alloc, &request, REFUSED, question)),
-        Case::Malformed => Ok(refusal(alloc, &request, FORM_ERR, None)),
-        Case::UnsupportedVersion { question } => Ok(refusal(alloc, &request, BAD_VERS, question)),
-        Case::NotImplemented { question } => Ok(refusal(alloc, &request, NOT_IMP, question)),
-        Case::NotOneQuestion => Ok(refusal(alloc, &request, FORM_ERR, None)),
-        Case::Foreign { question } => Ok(refusal(alloc, &request, REFUSED, Some(question))),
+        Case::ShutOut { question } => Ok(alone(refusal(alloc, &request, REFUSED, question))),
+        Case::Malformed => Ok(alone(refusal(alloc, &request, FORM_ERR, None))),
+        Case::UnsupportedVersion { question } => {
+            Ok(alone(refusal(alloc, &request, BAD_VERS, question)))
+        }
+        Case::NotImplemented { question } => Ok(alone(refusal(alloc, &request, NOT_IMP, question))),
+        Case::NotOneQuestion => Ok(alone(refusal(alloc, &request, FORM_ERR, None))),
+        Case::Foreign { question } => Ok(alone(refusal(alloc, &request, REFUSED, Some(question)))),
         Case::Query { question } => {
             let looked = zone.lookup(alloc, &question)?;
-            Ok(looked_reply(alloc, &request, question, looked))
+            Ok(alone(looked_reply(alloc, &request, question, looked)))
+        }
+        Case::Update { message } => owed_update(alloc, zone, allow_update, &request, message),
+    }
+}
+
+/// A reply beside which nothing is done.
+fn alone(reply: Reply) -> Owed
+    ensures { result ≡ record { reply = reply; prepared = None } }
+{
+    Owed {
+        reply,
+        prepared: None,
+    }
+}
+
+/// What an update is owed (RFC 2136 3).
+fn owed_update(
+    alloc: Global,
+    zone: &Zone,
+    allow_update: bool,
+    request: &Request,
+    message: Message,
+) -> Result<Owed, OutOfMemory>
+    requires { IsFit zone.now (Update message) }
+    ensures reply { IfOk result (λ owed. owed.reply ≡ update_reply (record { zone = zone.now; allow_update = allow_update; failed = false }) request.now message) }
+    ensures fits { IfOk result (λ owed. HasRoom owed.reply) }
+    ensures batch { IfOk result (λ owed. records_in owed.prepared ≡ case_batch zone.now allow_update (Update message)) }
+    ensures ready { IfOk result (λ owed. AreMadeReady zone.now owed.prepared) }
+{
+    match zone.judge(alloc, &message, allow_update)? {
+        Verdict::Fails(code) => {
+            let question = only_question(message.questions);
+            Ok(alone(refusal(alloc, request, code, question)))
+        }
+        Verdict::Passes => {
+            verdicts();
+            let prepared = prepared_batch(alloc, zone, &message.authority)?;
+            let question = only_question(message.questions);
+            let reply = refusal(alloc, request, NO_ERROR, question);
+            Ok(Owed { reply, prepared })
         }
     }
+}
+
+/// The batch of an update, made ready for the journal; none where it is empty (RFC 2136 3.4.2).
+fn prepared_batch(
+    alloc: Global,
+    zone: &Zone,
+    updates: &Records,
+) -> Result<Option<Prepared>, OutOfMemory>
+    requires passes { prescan zone.now.origin updates.now ≡ Passes }
+    requires back { AllByRecursion ReadsBack updates.now }
+    ensures batch { IfOk result (λ prepared. records_in prepared ≡ batch_of zone.now.origin zone.now.records updates.now) }
+    ensures ready { IfOk result (AreMadeReady zone.now) }
+{
+    let prepared = zone.prepare(alloc, updates)?;
+    if prepared.records().len() == 0 {
+        return Ok(None);
+    }
+    Ok(Some(prepared))
 }
 
 fn id_for(protocol: Protocol, id: u16) -> u16

@@ -1,5 +1,5 @@
 -- What a batch that is put does to what is told.
-use Rattle.std.proofs.Common.{◌≡◌, ◌&&◌, ◌+ℤ◌, ◌≤◌, ◌⊎◌, ℕ, ℤ, pos, negsuc, List, [], ◌∷◌, ◌++◌, map, true, Option, Some, None, IsTrue, inl, inr, refl, sym, ap, ◌∙◌, arith, int_eq, if◌then◌else◌}
+use Rattle.std.proofs.Common.{◌≡◌, ◌&&◌, ◌+ℤ◌, ◌≤◌, ◌⊎◌, ℕ, ℤ, pos, negsuc, List, [], ◌∷◌, ◌++◌, map, true, Option, Some, None, IsTrue, inl, inr, refl, sym, ap, subst, ◌∙◌, arith, int_eq, if◌then◌else◌}
 use Rattle.std.proofs.lemmas.Bool.{and_parts, cases_Bool}
 use Rattle.sqlite.specs.Order.{Row as Stored}
 use Rattle.sqlite.specs.Tree.{Trees}
@@ -13,13 +13,15 @@ use Rattle.dns_wire.specs.declared.record.Record.{Record}
 use Rattle.dns_wire.specs.WireFormat.{record_bytes}
 use Rattle.dns_sqlite.specs.Tables.{journal_schema}
 use Rattle.dns_sqlite.specs.Versions.{IsVersion, IsAtVersion}
-use Rattle.dns_sqlite.specs.Batch.{ArePut, batch, MayGrow, Grows}
+use Rattle.dns_sqlite.specs.Batch.{ArePut, batch, IsGrown, MayGrow, Grows}
 use Rattle.dns_sqlite.proofs.Rows.{put_appends, keyed_before}
 use Rattle.dns_keeper.specs.declared.row.Row.{Row}
-use Rattle.dns_keeper.specs.Rows.{appended, stamp_of, rows_of as batch_of}
-use Rattle.dns_keeper.specs.Keeping.{GrowsByBatch}
+use Rattle.dns_stamp.specs.Stamp.{IsStampOf}
+use Rattle.dns_keeper.specs.Rows.{appended, rows_of as batch_of}
+use Rattle.dns_keeper.specs.Keeping.{IsStampFor, GrowsByBatch}
 use Rattle.dns_journal.specs.Told.{is_signed, joined, rows_of, told, rows_in}
 use Rattle.dns_journal.specs.Crash.{MayLeave, IsGrownFrom}
+use Rattle.dns_journal.specs.Stored.{LeavesBatch}
 use Rattle.dns_journal.proofs.Order.{split, told_is, is_told, next_is}
 
 -- a batch reads as its rows, if it reads
@@ -56,16 +58,15 @@ front_of (s ∷ ss) more rows e =
     let rest = front_of ss more it.rest it.more in
     record { front = it.first ∷ rest.front; back = rest.back; reads = rw (it.reads, rest.reads) refl; rest = rest.rest; is = it.is ∙ ap (λ xs. it.first ∷ xs) rest.is }
 
-pub record WasTold (was : List Stored) (after : List Row) (client serial moment : ℕ) (records : List Record) : Type 0 where
+pub record WasTold (was : List Stored) (after : List Row) (client serial : ℕ) (stamp : List ℕ) (records : List Record) : Type 0 where
   pub before : List Row
   pub is : told was ≡ Some before
-  pub grown : after ≡ appended before client serial moment records
+  pub grown : after ≡ appended before client serial stamp records
 
 -- What is told after a batch was told before it.
-pub told_before : (client serial moment : ℕ) (records : List Record) (was is : List Stored) (after : List Row) → ArePut client serial (stamp_of moment) (map record_bytes records) was is → told is ≡ Some after
-    → WasTold was after client serial moment records
-told_before client serial moment records was is after put e =
-    let stamp = stamp_of moment in
+pub told_before : (client serial : ℕ) (stamp : List ℕ) (records : List Record) (was is : List Stored) (after : List Row) → ArePut client serial stamp (map record_bytes records) was is → told is ≡ Some after
+    → WasTold was after client serial stamp records
+told_before client serial stamp records was is after put e =
     let encoded = map record_bytes records in
     let now = told_is is after e in
     let keyed = keyed_before client serial stamp encoded was is put now.keyed in
@@ -78,6 +79,13 @@ told_before client serial moment records was is after put e =
       grown = front.is ∙ ap (λ xs. front.front ++ xs) back ∙ ap (λ id. front.front ++ batch_of id client serial stamp records) (next_is was front.front front.reads);
     }
 
+-- ---- the stamp of a batch
+
+-- the text of a moment is the stamp of each of its batches
+pub stamp_for : (moment : ℕ) (records : List Record) (stamp : List ℕ) → IsStampOf moment stamp → IsStampFor moment records stamp
+stamp_for moment [] stamp is = tt
+stamp_for moment (r ∷ rs) stamp is = is
+
 -- ---- of a connection
 
 -- what shows now showed before
@@ -85,9 +93,9 @@ module _ (old new : State) (falls : doubt old.is_clean ≤ doubt new.is_clean) w
   earlier : HasCleanDisk new → IsTrue old.is_clean
   earlier clean = clean_of old.is_clean (omega (arith, falls, clean))
 
-  pub grows_told : (client serial moment : ℕ) (records : List Record) → (HasCleanDisk new → IsTrue new.is_open → Grows client serial (stamp_of moment) (map record_bytes records) old new)
-      → GrowsByBatch (rows_in old) (rows_in new) client serial moment records
-  grows_told client serial moment records h = elim (cases_Bool (new.is_clean && new.is_open)) [
+  pub grows_told : (client serial moment : ℕ) (stamp : List ℕ) (records : List Record) → IsStampFor moment records stamp
+      → (HasCleanDisk new → IsTrue new.is_open → Grows client serial stamp (map record_bytes records) old new) → GrowsByBatch (rows_in old) (rows_in new) client serial moment records
+  grows_told client serial moment stamp records stamped h = elim (cases_Bool (new.is_clean && new.is_open)) [
     | inl shows ↦
         let both = and_parts new.is_clean new.is_open shows in
         let clean : HasCleanDisk new = no_doubt new.is_clean both.0 in
@@ -96,11 +104,11 @@ module _ (old new : State) (falls : doubt old.is_clean ≤ doubt new.is_clean) w
     | inr hidden ↦ rw hidden tt
   ]
     where
-      go : Grows client serial (stamp_of moment) (map record_bytes records) old new → IsTrue old.is_clean → (o : Option (List Row)) → told (new.now.trees 1) ≡ o → GrowsByBatch (rows_in old) o client serial moment records
+      go : Grows client serial stamp (map record_bytes records) old new → IsTrue old.is_clean → (o : Option (List Row)) → told (new.now.trees 1) ≡ o → GrowsByBatch (rows_in old) o client serial moment records
       go g clean None e = tt
       go g clean (Some after) e =
-          let t = told_before client serial moment records (old.now.trees 1) (new.now.trees 1) after g.grown.rows e in
-          rw (clean, g.was_open, t.is) t.grown
+          let t = told_before client serial stamp records (old.now.trees 1) (new.now.trees 1) after g.grown.rows e in
+          rw (clean, g.was_open, t.is) (record { stamp = stamp; stamped = stamped; is = t.grown })
 
   pub keeps_told : (HasCleanDisk new → IsTrue new.is_open → IsTrue old.is_open × (new.now ≡ old.now)) → Keeps (rows_in old) (rows_in new)
   keeps_told h = elim (cases_Bool (new.is_clean && new.is_open)) [
@@ -116,18 +124,26 @@ module _ (old new : State) (falls : doubt old.is_clean ≤ doubt new.is_clean) w
       go k clean None e = tt
       go k clean (Some after) e = rw (clean, k.0, sym (ap (λ (d : Database). told (d.trees 1)) k.1) ∙ e) refl
 
+  -- What a crash may leave with the stamp of a batch, as it is said of the batch.
+  pub leaves_batch : (client serial moment : ℕ) (stamp : List ℕ) (records : List Record) → IsStampFor moment records stamp
+      → (HasCleanDisk new → (db : Trees) → new.may_leave db → old.may_leave db ⊎ MayGrow client serial stamp (map record_bytes records) old db) → LeavesBatch client serial moment records old new
+  leaves_batch client serial moment stamp records stamped crash = λ clean db left. elim (crash clean db left) [
+    | inl before ↦ inl before
+    | inr grown ↦ inr (stamp, stamped, grown)
+  ]
+
   -- After a call what might be left before, or the rows with the whole batch.
   pub left_of : (client serial moment : ℕ) (records : List Record) → (HasCleanDisk old → IsTrue old.is_open → old.now.schema ≡ journal_schema)
-      → ((db : Trees) → new.may_leave db → old.may_leave db ⊎ MayGrow client serial (stamp_of moment) (map record_bytes records) old db) → HasCleanDisk new → (rows : List Row) → MayLeave new rows
-      → MayLeave old rows ⊎ IsGrownFrom (rows_in old) client serial moment records rows
-  left_of client serial moment records has crash clean rows m =
+      → LeavesBatch client serial moment records old new → HasCleanDisk new → (rows : List Row) → MayLeave new rows → MayLeave old rows ⊎ IsGrownFrom (rows_in old) client serial moment records rows
+  left_of client serial moment records has leaves clean rows m =
       let was : HasCleanDisk old = omega (arith, falls, clean) in
-      elim (crash m.db m.left) [
+      elim (leaves clean m.db m.left) [
         | inl before ↦ inl (record { db = m.db; left = before; opens = m.opens })
         | inr grown ↦
-            let it = grown.1 (has was grown.0) in
-            let t = told_before client serial moment records (old.now.trees 1) (it.0.trees 1) rows it.1.rows (ap (λ (t : Trees). told (t 1)) (sym it.2 ∙ m.opens.2) ∙ m.opens.1.told) in
-            inr (rw (clean_of old.is_clean was, grown.0, t.is) t.grown)
+            let may = grown.2 in
+            let it = may.1 (has was may.0) in
+            let t = told_before client serial grown.0 records (old.now.trees 1) (it.0.trees 1) rows it.1.rows (ap (λ (t : Trees). told (t 1)) (sym it.2 ∙ m.opens.2) ∙ m.opens.1.told) in
+            inr (rw (clean_of old.is_clean was, may.0, t.is) (record { stamp = grown.0; stamped = grown.1; is = t.grown }))
       ]
 
 -- the current version
@@ -138,6 +154,17 @@ pub tables_at : (version : ℤ) (d : Database) → version ≡ pos 1 → IsAtVer
 tables_at version d is (inl it) = absurd (let e : pos 1 ≡ negsuc 0 = sym is ∙ it.0 in cc)
 tables_at version d is (inr (inl it)) = absurd (let e : pos 1 ≡ pos 0 = sym is ∙ it.0 in cc)
 tables_at version d is (inr (inr it)) = (it.1, it.2)
+
+-- a batch leaves the version as it is
+pub still_current : (version : ℤ) (client serial : ℕ) (stamp : List ℕ) (encoded : List (List ℕ)) (was is : Database) → version ≡ pos 1 → IsGrown client serial stamp encoded was is → IsVersion (pos 1) (was.trees 0)
+    → IsAtVersion version is
+still_current version client serial stamp encoded was is current grown at =
+    let same : is.trees 0 ≡ was.trees 0 = grown.others 0 (λ e. absurd (cc)) in
+    inr (inr (current, grown.schema, subst (IsVersion (pos 1)) (sym same) at))
+
+-- where a crash leaves what the connection shows, it leaves the rows that are told
+pub left_told : (s : State) → HasCleanDisk s → IsTrue s.is_open → ((db : Trees) → s.may_leave db → db ≡ s.now.trees) → (rows : List Row) → MayLeave s rows → rows_in s ≡ Some rows
+left_told s clean live shown rows m = rw (clean_of s.is_clean clean, live) (ap (λ (t : Trees). told (t 1)) (sym (shown m.db m.left) ∙ m.opens.2) ∙ m.opens.1.told)
 
 -- ---- what is told is of the current version, a clean disk and an open connection
 

@@ -7,7 +7,7 @@ use Rattle.dns_sqlite.specs.Tables.{journal_schema}
 use Rattle.dns_sqlite.specs.Versions.{IsVersion}
 use Rattle.dns_wire.specs.declared.record.Record.{Record}
 use Rattle.dns_keeper.specs.declared.row.Row.{Row}
-use Rattle.dns_keeper.specs.Rows.{appended}
+use Rattle.dns_keeper.specs.Keeping.{HasBatch}
 use Rattle.dns_journal.specs.Told.{told}
 
 -- a database of version 1 with exactly these rows
@@ -38,4 +38,4 @@ LeavesTrees s P = HasCleanDisk s → (db : Trees) → s.may_leave db → P db
 -- rows that are told, and a whole batch after them
 abbrev pub IsGrownFrom : Option (List Row) → ℕ → ℕ → ℕ → List Record → List Row → Type 0
 IsGrownFrom None client serial moment records rows = ⊥
-IsGrownFrom (Some before) client serial moment records rows = rows ≡ appended before client serial moment records
+IsGrownFrom (Some before) client serial moment records rows = HasBatch before client serial moment records rows

@@ -8,7 +8,7 @@ use Rattle.dns_sqlite.specs.Tables.{HasRow}
 use Rattle.dns_sqlite.specs.Batch.{Grows, MayGrow}
 use Rattle.dns_sqlite.specs.Versions.{KeepsNow}
 use Rattle.dns_keeper.specs.declared.row.Row.{Row}
-use Rattle.dns_keeper.specs.Rows.{stamp_of}
+use Rattle.dns_keeper.specs.Keeping.{IsStampFor}
 use Rattle.dns_journal.specs.Reads.{FirstReadsAs}
 use Rattle.dns_journal.specs.Crash.{LeavesTrees}
 use Rattle.dns_journal.specs.Records.{IsOneRecord, IsRecordOf, IsNoRecord}
@@ -17,13 +17,17 @@ use Rattle.dns_journal.specs.Records.{IsOneRecord, IsRecordOf, IsNoRecord}
 abbrev pub KeepsDatabase : State → State → Type 0
 KeepsDatabase old new = HasCleanDisk new → IsTrue new.is_open → KeepsNow old new
 
+-- this holds with the stamp of a batch
+abbrev pub HasStamp : ℕ → List Record → (List ℕ → Type 0) → Type 0
+HasStamp moment records P = (stamp : List ℕ) × IsStampFor moment records stamp × P stamp
+
 -- where the disk is clean, a row for each record came to the table of rows, and they are committed
 abbrev pub PutsBatch : ℕ → ℕ → ℕ → List Record → State → State → Type 0
-PutsBatch client serial moment records old new = HasCleanDisk new → Grows client serial (stamp_of moment) (map record_bytes records) old new
+PutsBatch client serial moment records old new = HasCleanDisk new → HasStamp moment records (λ stamp. Grows client serial stamp (map record_bytes records) old new)
 
 -- a crash may leave what it might leave before, or a row for each record beside the rows that there were
 abbrev pub LeavesBatch : ℕ → ℕ → ℕ → List Record → State → State → Type 0
-LeavesBatch client serial moment records old new = LeavesTrees new (λ db. old.may_leave db ⊎ MayGrow client serial (stamp_of moment) (map record_bytes records) old db)
+LeavesBatch client serial moment records old new = LeavesTrees new (λ db. old.may_leave db ⊎ HasStamp moment records (λ stamp. MayGrow client serial stamp (map record_bytes records) old db))
 
 -- a crash leaves the database that the connection shows, and no other
 abbrev pub LeavesShown : State → Type 0

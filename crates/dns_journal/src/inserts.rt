@@ -17,7 +17,6 @@ ghost use Rattle.dns_journal.specs.declared.error.PersistenceError.TheVariants.{
 use crate::error::PersistenceError;
 use crate::journal::{Journal, is_current};
 use crate::row::first_in;
-use crate::stamp::stamp_text;
 use dns_io::Octets;
 use dns_keeper::{KeepFault, Keeper, Row};
 use dns_sqlite::{insert_batch, select_row_from};
@@ -40,10 +39,10 @@ fn encoded(alloc: Global, records: &[Record]) -> Result<Vec<Octets>, ProtoError>
 
 impl<S: Alter> Journal<S> {
     /// Adds one row a record, in order, in one transaction: all or none. Their ids follow the greatest id there is, 0
-    /// where there is no row; all bear this client, this serial and, for now, the empty stamp, whatever the moment, in
-    /// milliseconds since 1970. `Proto` says that a record cannot be written; `Sqlite` that the journal is not at the
-    /// current version or the connection refused. After a refusal the rows are as before; a crash leaves them so, or
-    /// with the whole batch.
+    /// where there is no row; all bear this client, this serial and the stamp of this moment, which is in milliseconds
+    /// since 1970. `Proto` says that a record cannot be written; `Sqlite` that the journal is not at the current version
+    /// or the connection refused. After a refusal the rows are as before; a crash leaves them so, or with the whole
+    /// batch.
     pub fn insert_records(
         &mut self,
         client: u32,
@@ -74,7 +73,7 @@ impl<S: Alter> Journal<S> {
         self.insert_slice(client, soa_serial, moment, records.as_slice())
     }
 
-    /// Adds one row, of client 0, as a batch of one record.
+    /// Adds one row, of client 0 and with the stamp of this moment, as a batch of one record.
     pub fn insert_record(
         &mut self,
         soa_serial: u32,
@@ -138,7 +137,7 @@ impl<S: Alter> Journal<S> {
         if all.is_empty() {
             return Ok(());
         }
-        let stamp = stamp_text(self.alloc, moment)?;
+        let stamp = dns_stamp::stamp(self.alloc, moment)?;
         match insert_batch(
             &mut self.conn,
             client,

@@ -1,88 +1,62 @@
 //! The life of a journal over a connection in memory: its tables, its rows and their records, a row that is damaged, a
 //! statement that is refused, and the texts of the refusals.
 
-ghost use Rattle.std.specs.Prelude.{IfOk};
-ghost use Rattle.dns_wire.specs.WireFormat.{IsShort, AreShort};
-
-use dns_journal::{Journal, KeepFault, Keeper, PersistenceError, RecoveryKind};
-use dns_name::Name;
-use dns_wire::{Data, ProtoError, Record, Records};
-use sqlite::Connection;
-use std::alloc::Global;
+use crate::samples::{
+    after, eight_records, empty_journal, has_row, new_journal, record, record_count, two_records,
+};
+use dns_journal::{KeepFault, Keeper, PersistenceError, RecoveryKind};
+use dns_wire::ProtoError;
 use std::fmt::Write;
 use std::test::Fail;
-
-fn record(alloc: Global, address: u32) -> Result<Record, Fail>
-    ensures { IfOk result IsShort }
-{
-    Ok(Record {
-        name: Name::parse(alloc, "a.")?,
-        rtype: 1,
-        class: 1,
-        ttl: 5,
-        rdata: Data::A(address),
-    })
-}
-
-fn two_records(alloc: Global) -> Result<Records, Fail>
-    ensures { IfOk result AreShort }
-{
-    let mut two = Records::new(alloc);
-    two.push(record(alloc, 2)?)?;
-    two.push(record(alloc, 3)?)?;
-    Ok(two)
-}
 
 /// A journal has no version and refuses to be read, until its tables are made.
 #[test]
 fn tables(rt: HostRuntime) -> Result<(), Fail> {
-    let alloc = rt.alloc();
-    let conn = Connection::open_in_memory(alloc)?;
-    let mut journal = Journal::new(alloc, conn).ok().ok_or("new")?;
+    let mut journal = empty_journal(rt.alloc())?;
     assert_eq!(rt; journal.schema_version(), -1);
     assert_eq!(rt; journal.row_from(0).err(), Some(KeepFault::Failed));
     assert_eq!(rt; journal.fault_count(), 1);
     assert_eq!(rt; journal.schema_up(), Ok(1));
     assert_eq!(rt; journal.schema_version(), 1);
-    assert!(rt; journal.select_record(0).ok().ok_or("select")?.is_none());
+    assert_eq!(rt; record_count(&mut journal), Ok(0));
     Ok(())
 }
 
-/// Rows are numbered from 1, and records come back in their order; a row that is cut is named.
+/// Rows are numbered from 1, and bear the stamp of their moment.
 #[test]
 fn rows(rt: HostRuntime) -> Result<(), Fail> {
     let alloc = rt.alloc();
-    let conn = Connection::open_in_memory(alloc)?;
-    let mut journal = Journal::new(alloc, conn).ok().ok_or("new")?;
-    assert_eq!(rt; journal.schema_up(), Ok(1));
-    assert_eq!(rt;
-        journal.insert_record(8, 1700000000000, &record(alloc, 1)?),
-        Ok(())
-    );
-    assert_eq!(rt;
-        journal.append(7, 9, 1700000000000, &two_records(alloc)?),
-        Ok(())
-    );
-    let row = journal.row_from(2)?.ok_or("no row")?;
-    assert_eq!(rt; row.id, 2);
-    assert_eq!(rt; row.client, 7);
-    assert_eq!(rt; row.serial, 9);
+    let mut journal = new_journal(alloc)?;
+    let one = record(alloc, 1)?;
+    let two = two_records(alloc)?;
+    assert_eq!(rt; journal.insert_record(8, 0, &one), Ok(()));
+    assert_eq!(rt; journal.append(7, 9, 1700000000123, &two), Ok(()));
+    assert!(rt; has_row(&mut journal, 1, 0, 8, "1970-01-01 00:00:00.000"));
+    assert!(rt; has_row(&mut journal, 2, 7, 9, "2023-11-14 22:13:20.123"));
+    assert!(rt; has_row(&mut journal, 3, 7, 9, "2023-11-14 22:13:20.123"));
     assert!(rt; journal.try_next(3).ok().ok_or("next")?.is_none());
-    let mut iter = journal.iter().ok().ok_or("iter")?;
-    assert!(rt; iter.next().is_some());
-    assert!(rt; iter.next().is_some());
-    assert!(rt; iter.next().is_some());
-    assert!(rt; iter.next().is_none());
-    let mut conn = journal.into_conn();
-    conn.execute("UPDATE records SET record = x'00' WHERE id = 2", &[])?;
-    if !conn.is_autocommit() {
-        return Err(Fail::from("in a transaction"));
-    }
-    let mut again = Journal::new(alloc, conn).ok().ok_or("again")?;
-    assert_eq!(rt;
-        again.iter().err(),
-        Some(PersistenceError::Recovery(RecoveryKind::NoRecord))
-    );
+    assert_eq!(rt; record_count(&mut journal), Ok(3));
+    Ok(())
+}
+
+/// A row whose record was cut by its last byte is no record; the rows beside it are read.
+#[test]
+fn cut_record(rt: HostRuntime) -> Result<(), Fail> {
+    let alloc = rt.alloc();
+    let mut journal = new_journal(alloc)?;
+    let eight = eight_records(alloc)?;
+    assert_eq!(rt; journal.insert_records(0, 7, 0, &eight), Ok(()));
+    let mut cut = after(
+        alloc,
+        journal,
+        "UPDATE records SET record = x'01610000010001000000050004000000' WHERE id = 5",
+    )?;
+    let no_record = PersistenceError::Recovery(RecoveryKind::NoRecord);
+    assert_eq!(rt; record_count(&mut cut), Err(no_record));
+    assert_eq!(rt; cut.select_record(5).err(), Some(no_record));
+    assert!(rt; cut.select_record(4).ok().ok_or("before")?.is_some());
+    assert!(rt; cut.try_next(5).ok().ok_or("behind")?.is_some());
+    assert_eq!(rt; cut.fault_count(), 0);
     Ok(())
 }
 
@@ -90,24 +64,19 @@ fn rows(rt: HostRuntime) -> Result<(), Fail> {
 #[test]
 fn refused(rt: HostRuntime) -> Result<(), Fail> {
     let alloc = rt.alloc();
-    let conn = Connection::open_in_memory(alloc)?;
-    let mut journal = Journal::new(alloc, conn).ok().ok_or("new")?;
-    assert_eq!(rt; journal.schema_up(), Ok(1));
-    let mut conn = journal.into_conn();
-    conn.execute(
+    let mut journal = after(
+        alloc,
+        new_journal(alloc)?,
         "INSERT INTO records VALUES (9223372036854775806, 0, 8, '', x'00')",
-        &[],
     )?;
-    if !conn.is_autocommit() {
-        return Err(Fail::from("in a transaction"));
-    }
-    let mut again = Journal::new(alloc, conn).ok().ok_or("again")?;
+    let two = two_records(alloc)?;
     assert_eq!(rt;
-        again.insert_records(7, 9, 1700000000000, &two_records(alloc)?),
+        journal.insert_records(7, 9, 1700000000000, &two),
         Err(PersistenceError::Sqlite)
     );
-    assert_eq!(rt; again.fault_count(), 1);
-    assert!(rt; again.row_from(9223372036854775807)?.is_none());
+    assert_eq!(rt; journal.fault_count(), 1);
+    assert!(rt; has_row(&mut journal, 9223372036854775806, 0, 8, ""));
+    assert!(rt; journal.row_from(9223372036854775807)?.is_none());
     Ok(())
 }
 
@@ -115,19 +84,15 @@ fn refused(rt: HostRuntime) -> Result<(), Fail> {
 #[test]
 fn text_for_bytes(rt: HostRuntime) -> Result<(), Fail> {
     let alloc = rt.alloc();
-    let conn = Connection::open_in_memory(alloc)?;
-    let mut journal = Journal::new(alloc, conn).ok().ok_or("new")?;
-    assert_eq!(rt; journal.schema_up(), Ok(1));
-    let mut conn = journal.into_conn();
-    conn.execute("INSERT INTO records VALUES (1, 0, 8, '', 'text')", &[])?;
-    if !conn.is_autocommit() {
-        return Err(Fail::from("in a transaction"));
-    }
-    let mut again = Journal::new(alloc, conn).ok().ok_or("again")?;
-    assert_eq!(rt; again.row_from(1).err(), Some(KeepFault::Failed));
-    assert_eq!(rt; again.iter().err(), Some(PersistenceError::Sqlite));
-    assert_eq!(rt; again.fault_count(), 2);
-    assert!(rt; again.row_from(2)?.is_none());
+    let mut journal = after(
+        alloc,
+        new_journal(alloc)?,
+        "INSERT INTO records VALUES (1, 0, 8, '', 'text')",
+    )?;
+    assert_eq!(rt; journal.row_from(1).err(), Some(KeepFault::Failed));
+    assert_eq!(rt; record_count(&mut journal), Err(PersistenceError::Sqlite));
+    assert_eq!(rt; journal.fault_count(), 2);
+    assert!(rt; journal.row_from(2)?.is_none());
     Ok(())
 }
 

@@ -3,3 +3,7 @@
 
 #[cfg(test)]
 mod journal;
+#[cfg(test)]
+mod samples;
+#[cfg(test)]
+mod stops;

@@ -1,15 +1,27 @@
 -- What the calls of a keeper do to its rows, where it tells them afterwards, and to its count of faults.
-use Rattle.std.specs.Prelude.{◌≡◌, ℕ, ℤ, ◌≤◌, List, Option, Some, None, Result, IsErrOf}
+use Rattle.std.specs.Prelude.{◌≡◌, ℕ, ℤ, ◌≤◌, List, [], ◌∷◌, Option, Some, None, Result, IsErrOf}
 use Rattle.dns_io.specs.Edge.{Rose, Told}
+use Rattle.dns_stamp.specs.Stamp.{IsStampOf}
 use Rattle.dns_wire.specs.declared.record.Record.{Record}
 use Rattle.dns_keeper.specs.declared.row.Row.{Row}
 use Rattle.dns_keeper.specs.declared.keeper.KeepFault.{KeepFault}
 use Rattle.dns_keeper.specs.declared.keeper.KeepFault.TheVariants.{Failed}
 use Rattle.dns_keeper.specs.Rows.{appended, first_of, first_from, AreAscending}
 
+-- the stamp of a batch, where it has any records: the text of its moment
+abbrev pub IsStampFor : ℕ → List Record → List ℕ → Type 0
+IsStampFor moment [] stamp = Unit {0}
+IsStampFor moment (r ∷ rs) stamp = IsStampOf moment stamp
+
+-- rows are those of before and a batch, whose rows bear the stamp of its moment
+pub record HasBatch (old : List Row) (client serial moment : ℕ) (records : List Record) (new : List Row) : Type 0 where
+  pub stamp : List ℕ
+  pub stamped : IsStampFor moment records stamp
+  pub is : new ≡ appended old client serial stamp records
+
 -- a batch came to the rows
 abbrev pub GrowsByBatch : Option (List Row) → Option (List Row) → ℕ → ℕ → ℕ → List Record → Type 0
-GrowsByBatch before after client serial moment records = Told (λ old new. new ≡ appended old client serial moment records) before after
+GrowsByBatch before after client serial moment records = Told (λ old new. HasBatch old client serial moment records new) before after
 
 -- told rows have ascending ids
 abbrev pub TellsAscending : Option (List Row) → Type 0

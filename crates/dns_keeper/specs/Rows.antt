@@ -14,10 +14,6 @@ id_of (Some r) = r.id
 abbrev pub last_id : List Row → ℤ
 last_id rows = id_of (slice_get rows (length rows - 1))
 
--- the stamp of a moment; no stamp is kept for now
-abbrev pub stamp_of : ℕ → List ℕ
-stamp_of moment = []
-
 -- one row a record, in order: ids from this one on, one client, one serial, one stamp, the record uncompressed
 abbrev pub rows_of : ℤ → ℕ → ℕ → List ℕ → List Record → List Row
 rows_of id client serial stamp [] = []
@@ -26,9 +22,9 @@ rows_of id client serial stamp (r ∷ rs) =
     ∷ rows_of (id +ℤ pos 1) client serial stamp rs
 
 -- rows and, after them, a batch of records with the ids that follow
-abbrev pub appended : List Row → ℕ → ℕ → ℕ → List Record → List Row
-appended rows client serial moment records =
-    rows ++ rows_of (last_id rows +ℤ pos 1) client serial (stamp_of moment) records
+abbrev pub appended : List Row → ℕ → ℕ → List ℕ → List Record → List Row
+appended rows client serial stamp records =
+    rows ++ rows_of (last_id rows +ℤ pos 1) client serial stamp records
 
 -- the first row, if there is one
 abbrev pub first_of : List Row → Option Row

@@ -5,8 +5,9 @@ ghost use Rattle.std.specs.Option.{option_copied};
 ghost use Rattle.std.specs.Int.{w64};
 ghost use Rattle.dns_wire.specs.WireFormat.{AreShort};
 ghost use Rattle.dns_keeper.specs.declared.keeper.KeepFault.TheVariants.{Failed, OutOfMemory as NoMemory};
-ghost use Rattle.dns_keeper.specs.Rows.{appended, stamp_of, last_id, first_of, first_from, AreAscending};
-ghost use Rattle.dns_keeper.specs.Keeping.{HasCause};
+ghost use Rattle.dns_stamp.specs.Stamp.{IsStampOf};
+ghost use Rattle.dns_keeper.specs.Rows.{appended, last_id, first_of, first_from, AreAscending};
+ghost use Rattle.dns_keeper.specs.Keeping.{HasBatch, HasCause};
 ghost use Rattle.dns_keeper.specs.Memory.{raised, called, is_next_failing, faults_after, LacksIds};
 
 use crate::keeper::{KeepFault, Keeper};
@@ -111,7 +112,7 @@ impl Keeper for MemoryKeeper {
     ) -> Result<(), KeepFault>
         requires moment { moment < 2 ^ 47 }
         requires short { AreShort records.now }
-        ensures ok { OnOk result (self.new.rows ≡ appended self.old.rows client serial moment records.now) }
+        ensures ok { OnOk result (HasBatch self.old.rows client serial moment records.now self.new.rows) }
         ensures err { OnErr result (self.new.rows ≡ self.old.rows) }
         ensures ascending { AreAscending self.new.rows }
         ensures faults { self.new.faults ≡ faults_after result self.old.faults }
@@ -125,7 +126,7 @@ impl Keeper for MemoryKeeper {
         if self.appends.next_fails() {
             return Err(self.fail());
         }
-        match new_rows(self.alloc, &self.rows, client, serial, moment, records) {
+        match stamped_rows(self.alloc, &self.rows, client, serial, moment, records) {
             Ok(mut batch) => Ok(self.rows.append(&mut batch)?),
             Err(KeepFault::Failed) => Err(self.fail()),
             Err(KeepFault::OutOfMemory) => Err(KeepFault::OutOfMemory),
@@ -207,15 +208,17 @@ fn id_after(id: i64) -> Option<i64>
     if id == i64::MAX { None } else { Some(id + 1) }
 }
 
-/// The stamp of a moment.
-fn stamp_of(alloc: Global, _moment: u64) -> Result<Octets, OutOfMemory>
-    ensures { IfOk result (λ stamp. stamp ≡ stamp_of _moment) }
+/// The stamp of a moment, in milliseconds since 1970.
+fn stamp_of(alloc: Global, moment: u64) -> Result<Octets, OutOfMemory>
+    requires { moment < 2 ^ 47 }
+    ensures { IfOk result (IsStampOf moment) }
 {
-    Ok(Octets::new(alloc))
+    let text = dns_stamp::stamp(alloc, moment)?;
+    Octets::from_slice(alloc, text.as_bytes())
 }
 
 /// The rows of a batch, with the ids that follow those of these rows; a fault where the ids run out.
-fn new_rows(
+fn stamped_rows(
     alloc: Global,
     rows: &[Row],
     client: u32,
@@ -223,8 +226,26 @@ fn new_rows(
     moment: u64,
     records: &Records,
 ) -> Result<Vec<Row>, KeepFault>
+    requires moment { moment < 2 ^ 47 }
+    requires short { AreShort records.now }
+    ensures ok { IfOk result (λ batch. HasBatch rows.now client serial moment records.now (rows.now ++ batch.items)) }
+    ensures failed { IsErrOf result Failed → LacksIds rows.now records.now }
+{
+    let stamp = stamp_of(alloc, moment)?;
+    new_rows(alloc, rows, client, serial, stamp.as_slice(), records)
+}
+
+/// The rows of a batch that bear this stamp.
+fn new_rows(
+    alloc: Global,
+    rows: &[Row],
+    client: u32,
+    serial: u32,
+    stamp: &[u8],
+    records: &Records,
+) -> Result<Vec<Row>, KeepFault>
     requires { AreShort records.now }
-    ensures ok { IfOk result (λ batch. rows.now ++ batch.items ≡ appended rows.now client serial moment records.now) }
+    ensures ok { IfOk result (λ batch. rows.now ++ batch.items ≡ appended rows.now client serial stamp.now records.now) }
     ensures failed { IsErrOf result Failed → LacksIds rows.now records.now }
 {
     let mut batch = Vec::with_capacity(alloc, records.len())?;
@@ -241,7 +262,7 @@ fn new_rows(
             id,
             client: i64::from(client),
             serial: i64::from(serial),
-            stamp: stamp_of(alloc, moment)?,
+            stamp: Octets::from_slice(alloc, stamp)?,
             bytes,
         })?;
         last = id;

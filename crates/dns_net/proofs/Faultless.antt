@@ -3,10 +3,11 @@ use Rattle.std.proofs.Common.{◌≡◌, ℕ, ◌<◌, List, length, Option, tru
 use Rattle.std.proofs.lemmas.List.{length-append}
 use Rattle.std.proofs.lemmas.Bool.Decides.{nat_tests}
 use Rattle.std.specs.Prelude.{Result, Ok, Err, IsErrOf, nat_lt}
-use Rattle.dns_net.specs.declared.error.NetError.{NetError}
-use Rattle.dns_net.specs.declared.error.NetError.TheVariants.{RequestTooLarge, BadRequest, Build, Response, QuicMessageIdNot0, FinishedEarly, MaxBufferSizeExceeded, UnknownStream, NotMulticast, Timeout, Io, ShutDown, Proto, OutOfMemory}
-use Rattle.dns_net.specs.declared.error.BadRequestKind.TheVariants as bad
-use Rattle.dns_net.specs.Bodies.{joined, Fetches, TakesPast, whole_body}
+use Rattle.dns_transport.specs.declared.error.NetError.{NetError}
+use Rattle.dns_transport.specs.declared.error.NetError.TheVariants.{RequestTooLarge, BadRequest, Build, Response, QuicMessageIdNot0, FinishedEarly, MaxBufferSizeExceeded, UnknownStream, NotMulticast, Timeout, Io, ShutDown, Proto, OutOfMemory}
+use Rattle.dns_transport.specs.declared.error.BadRequestKind.TheVariants as bad
+use Rattle.dns_transport.specs.Pieces.{joined}
+use Rattle.dns_net.specs.Bodies.{Fetches, TakesPast, whole_body}
 use Rattle.dns_net.proofs.Fetching.{joined-append}
 
 past-too-large : (said : Option ℕ) (left rest : List (List ℕ)) → TakesPast left rest → whole_body said (joined left) ≡ Err RequestTooLarge

@@ -1,13 +1,15 @@
 -- How what is told of a body goes on from piece to piece.
 use Rattle.std.proofs.Common.{◌≡◌, ℕ, ◌+◌, ◌<◌, ◌≤◌, List, [], ◌∷◌, ◌++◌, length, Option, Some, None, refl, sym, ap, subst, ◌∙◌, arith}
-use Rattle.std.proofs.lemmas.List.{append_assoc, append-nil}
+use Rattle.std.proofs.lemmas.List.{append_assoc, append-nil, length-append}
 use Rattle.std.specs.Prelude.{Result, Ok, Err, true, false, nat_lt}
 use Rattle.std.proofs.lemmas.Bool.Decides.{nat_tests}
-use Rattle.dns_io.specs.Edge.{Told}
-use Rattle.dns_net.specs.declared.error.NetError.{NetError}
-use Rattle.dns_net.specs.declared.error.NetError.TheVariants.{BadRequest, OutOfMemory}
-use Rattle.dns_net.specs.declared.error.BadRequestKind.TheVariants.{Length}
-use Rattle.dns_net.specs.Bodies.{joined, from_bytes, GivesNext, TakesShort, TakesPast, Fetches, is_said, whole_body}
+use Rattle.dns_io.specs.Edge.{Told, Takes}
+use Rattle.dns_io.proofs.ToldContents.{Told-same}
+use Rattle.dns_transport.specs.declared.error.NetError.{NetError}
+use Rattle.dns_transport.specs.declared.error.NetError.TheVariants.{BadRequest, OutOfMemory}
+use Rattle.dns_transport.specs.declared.error.BadRequestKind.TheVariants.{Length}
+use Rattle.dns_transport.specs.Pieces.{joined, from_bytes, NextOf, GivesNext, GivesBytes}
+use Rattle.dns_net.specs.Bodies.{TakesShort, TakesPast, TakesLong, TakesWithin, Fetches, FetchesBytes, is_said, whole_body}
 
 -- pieces with these bytes were taken
 pub record TakesBytes (bytes : List ℕ) (left rest : List (List ℕ)) : Type 0 where
@@ -91,3 +93,46 @@ whole-not-said said bytes short other =
 -- want of memory ends it
 pub no-memory : (said : Option ℕ) (result : Result (List ℕ) NetError) (a b : Option (List (List ℕ))) → result ≡ Err OutOfMemory → Told TakesShort a b → Told (Fetches said result) a b
 no-memory said result a b is told = rw is told
+
+-- the bytes of pieces do not depend on the empty ones
+joined-from_bytes : (pieces : List (List ℕ)) → joined (from_bytes pieces) ≡ joined pieces
+joined-from_bytes [] = refl
+joined-from_bytes ([] ∷ pieces) = joined-from_bytes pieces
+joined-from_bytes ((byte ∷ bytes) ∷ pieces) = refl
+
+-- the next piece has the next bytes
+pub gives-bytes : (piece : Option (List ℕ)) (left rest : List (List ℕ)) → NextOf piece left rest → GivesBytes (Some (joined left)) (Some (joined rest)) piece
+gives-bytes None left rest next = (sym (joined-from_bytes left) ∙ ap joined next.0, ap joined next.1)
+gives-bytes (Some piece) left rest next = sym (joined-from_bytes left) ∙ ap joined next
+
+pub Takes-nothing : (a : Option (List ℕ)) → Takes a a []
+Takes-nothing a = Told-same (λ left rest. left ≡ [] ++ rest) (λ x. refl) a
+
+pub bytes-more : (a b c : Option (List ℕ)) (bytes piece : List ℕ) → Takes a b bytes → GivesBytes b c (Some piece) → Takes a c (bytes ++ piece)
+bytes-more a b None bytes piece took next = tt
+bytes-more a None (Some rest) bytes piece took next = absurd next
+bytes-more None (Some left) (Some rest) bytes piece took next = absurd took
+bytes-more (Some all) (Some left) (Some rest) bytes piece took next = took ∙ ap (λ (l : List ℕ). bytes ++ l) next ∙ sym (append_assoc bytes piece rest)
+
+pub bytes-past : (a c : Option (List ℕ)) (bytes piece : List ℕ) → Takes a c (bytes ++ piece) → 65535 < length bytes + length piece → Told TakesLong a c
+bytes-past a None bytes piece took past = tt
+bytes-past None (Some rest) bytes piece took past = absurd took
+bytes-past (Some all) (Some rest) bytes piece took past = record { front = bytes ++ piece; parts = took; long = rw length-append past }
+
+pub bytes-within : (a b : Option (List ℕ)) (bytes : List ℕ) → Takes a b bytes → length bytes ≤ 65535 → Told TakesWithin a b
+bytes-within a None bytes took short = tt
+bytes-within None (Some rest) bytes took short = absurd took
+bytes-within (Some left) (Some rest) bytes took short = record { front = bytes; parts = took; short = short }
+
+-- a body that is told to its end
+pub bytes-ended : (said : Option ℕ) (a b c : Option (List ℕ)) (bytes : List ℕ) (result : Result (List ℕ) NetError) → Takes a b bytes → GivesBytes b c None → whole_body said bytes ≡ result
+    → ((left rest : List ℕ) → rest ≡ [] → whole_body said left ≡ result → FetchesBytes said result left rest) → Told (FetchesBytes said result) a c
+bytes-ended said a b None bytes result took end whole gives = tt
+bytes-ended said a None (Some rest) bytes result took end whole gives = absurd end
+bytes-ended said None (Some left) (Some rest) bytes result took end whole gives = absurd took
+bytes-ended said (Some all) (Some left) (Some rest) bytes result took end whole gives =
+    gives all rest end.1 (ap (whole_body said) (took ∙ ap (λ (l : List ℕ). bytes ++ l) end.0 ∙ append-nil bytes) ∙ whole)
+
+-- want of memory ends it
+pub bytes-no-memory : (said : Option ℕ) (result : Result (List ℕ) NetError) (a b : Option (List ℕ)) → result ≡ Err OutOfMemory → Told TakesWithin a b → Told (FetchesBytes said result) a b
+bytes-no-memory said result a b is told = rw is told

@@ -8,7 +8,7 @@ use Rattle.http.specs.declared.request.Parts.{Parts as Head}
 use Rattle.http_header.specs.HeaderMap.{get}
 use Rattle.http_uri.specs.Grammar.{authority_host}
 use Rattle.http_uri.specs.Uri.{uri_path, uri_authority}
-use Rattle.dns_net.specs.declared.error.NetError.{NetError}
+use Rattle.dns_transport.specs.declared.error.NetError.{NetError}
 use Rattle.dns_net.specs.declared.version.Version.{Version}
 use Rattle.dns_net.specs.declared.version.Version.TheVariants.{Http2, Http3}
 use Rattle.dns_net.specs.Building.{IsRequest, request_headers}

@@ -1,5 +1,5 @@
 -- What a client makes of a message and of the response to it (RFC 8484 4.1, 4.2).
-use Rattle.std.specs.Prelude.{◌≡◌, ◌⊎◌, ℕ, ◌≤◌, ◌&&◌, nat_le, nat_lt, Bool, true, MatchBool, List, [], ◌∷◌, length, codes, Option, Some, None, Result, Ok, Err, IsErrOf, MatchResult}
+use Rattle.std.specs.Prelude.{◌≡◌, ◌⊎◌, ℕ, ◌≤◌, ◌&&◌, nat_le, nat_lt, Bool, true, MatchBool, List, [], ◌∷◌, length, codes, Option, Some, None, Result, Err, IsErrOf, MatchResult}
 use Rattle.http.specs.Request.{head_of as request_head, body_of as request_body}
 use Rattle.http.specs.Response.{head_of, body_of}
 use Rattle.http.specs.declared.request.Request.{Request}
@@ -9,26 +9,21 @@ use Rattle.http_header.specs.HeaderMap.{Entries, get}
 use Rattle.http_header.specs.FieldValue.{FieldValue}
 use Rattle.dns_io.specs.Edge.{Told, Rose, Grows}
 use Rattle.dns_name.specs.declared.fault.ProtoError.{ProtoError}
-use Rattle.dns_name.specs.declared.fault.ProtoError.TheVariants.{OutsideGrammar}
 use Rattle.dns_wire.specs.declared.message.Message.{Message}
 use Rattle.dns_wire.specs.MessageBytes.{message_bytes, TellsTooLong}
-use Rattle.dns_wire.specs.Messages.{MessageAt, TellsWhere}
 use Rattle.dns_net.specs.declared.version.Version.{Version}
-use Rattle.dns_net.specs.declared.error.LinkFault.{LinkFault}
-use Rattle.dns_net.specs.declared.error.NetError.{NetError}
-use Rattle.dns_net.specs.declared.error.NetError.TheVariants as net
-use Rattle.dns_net.specs.declared.error.ResponseKind.TheVariants as bad
+use Rattle.dns_transport.specs.declared.error.LinkFault.{LinkFault}
+use Rattle.dns_transport.specs.declared.error.NetError.{NetError}
+use Rattle.dns_transport.specs.declared.error.NetError.TheVariants as net
+use Rattle.dns_transport.specs.declared.error.ResponseKind.TheVariants as bad
 use Rattle.dns_net.specs.declared.link.LinkCall.{LinkCall}
 use Rattle.dns_net.specs.declared.link.LinkCall.TheVariants.{Returned}
 use Rattle.dns_net.specs.Bodies.{Fetches, IsFetched}
 use Rattle.dns_net.specs.Building.{IsRequest, CanBuild, TellsBuild}
 use Rattle.dns_net.specs.Checks.{said_length, is_dns_message}
-use Rattle.dns_net.specs.Faults.{HasCause, of_proto, of_link}
+use Rattle.dns_transport.specs.Faults.{HasCause, of_proto, of_link}
+use Rattle.dns_transport.specs.Messages.{with_id_0, ReadsMessage}
 use Rattle.dns_net.specs.Links.{TellsAsked}
-
--- the message with the id 0, by which all askers share an answer in a cache (RFC 8484 4.1)
-abbrev pub with_id_0 : Message → Message
-with_id_0 message = record message { header = record message.header { id = 0 } }
 
 -- a request that carries this message, by this version, to this server and path, with these header fields beside the
 -- usual ones
@@ -52,13 +47,6 @@ is_success status = nat_le 200 status && nat_lt status 300
 abbrev pub is_answer_type : Option FieldValue → Bool
 is_answer_type None = true
 is_answer_type (Some value) = is_dns_message (Some value)
-
--- the message that stands in the bytes, or where none can be read
-abbrev pub ReadsMessage : List ℕ → Result Message NetError → Type 0
-ReadsMessage bytes (Ok message) = MessageAt bytes message × ((other : Message) → MessageAt bytes other → message ≡ other)
-ReadsMessage bytes (Err (net.Proto (OutsideGrammar at))) = TellsWhere bytes (OutsideGrammar at)
-ReadsMessage bytes (Err net.OutOfMemory) = Unit {0}
-ReadsMessage bytes (Err _) = ⊥
 
 -- what a response says, once its body is fetched
 abbrev pub ReadsResponse : Parts → List ℕ → Result Message NetError → Type 0

@@ -1,34 +1,9 @@
--- The bodies of requests and responses, which come in pieces.
+-- What comes of fetching the body of a request or a response.
 use Rattle.std.specs.Prelude.{◌≡◌, ℕ, ◌+◌, ◌<◌, ◌≤◌, ◌==◌, nat_lt, Bool, true, if◌then◌else◌, List, [], ◌∷◌, ◌++◌, length, Option, Some, None, IsSome, Result, Ok, Err}
-use Rattle.dns_io.specs.Edge.{Told}
-use Rattle.dns_net.specs.declared.error.NetError.{NetError}
-use Rattle.dns_net.specs.declared.error.NetError.TheVariants.{RequestTooLarge, BadRequest, Io, OutOfMemory}
-use Rattle.dns_net.specs.declared.error.BadRequestKind.TheVariants.{Length}
-
--- all bytes of these pieces, one after another
-abbrev pub joined : List (List ℕ) → List ℕ
-joined [] = []
-joined (piece ∷ pieces) = piece ++ joined pieces
-
--- these pieces, without the empty ones that they begin with
-abbrev pub from_bytes : List (List ℕ) → List (List ℕ)
-from_bytes [] = []
-from_bytes ([] ∷ pieces) = from_bytes pieces
-from_bytes ((byte ∷ bytes) ∷ pieces) = (byte ∷ bytes) ∷ pieces
-
--- a piece that was given has bytes
-abbrev pub HasBytes : Option (List ℕ) → Type 0
-HasBytes None = Unit {0}
-HasBytes (Some piece) = 0 < length piece
-
--- the next piece that has bytes was given, or none where only empty ones were left
-abbrev pub NextOf : Option (List ℕ) → List (List ℕ) → List (List ℕ) → Type 0
-NextOf None left rest = (from_bytes left ≡ []) × (rest ≡ [])
-NextOf (Some piece) left rest = from_bytes left ≡ piece ∷ rest
-
--- the same of what is told to be left
-abbrev pub GivesNext : Option (List (List ℕ)) → Option (List (List ℕ)) → Option (List ℕ) → Type 0
-GivesNext before now piece = Told (NextOf piece) before now
+use Rattle.dns_transport.specs.Pieces.{joined}
+use Rattle.dns_transport.specs.declared.error.NetError.{NetError}
+use Rattle.dns_transport.specs.declared.error.NetError.TheVariants.{RequestTooLarge, BadRequest, Io, OutOfMemory}
+use Rattle.dns_transport.specs.declared.error.BadRequestKind.TheVariants.{Length}
 
 -- a body is as long as it is said to be, where that is said
 abbrev pub is_said : Option ℕ → ℕ → Bool
@@ -63,6 +38,27 @@ Fetches said (Err (BadRequest Length)) left rest = (rest ≡ []) × (whole_body 
 Fetches said (Err Io) left rest = TakesShort left rest
 Fetches said (Err OutOfMemory) left rest = TakesShort left rest
 Fetches said (Err _) left rest = ⊥
+
+-- more than 65,535 bytes were taken
+pub record TakesLong (left rest : List ℕ) : Type 0 where
+  pub front : List ℕ
+  pub parts : left ≡ front ++ rest
+  pub long : 65535 < length front
+
+-- at most 65,535 bytes were taken
+pub record TakesWithin (left rest : List ℕ) : Type 0 where
+  pub front : List ℕ
+  pub parts : left ≡ front ++ rest
+  pub short : length front ≤ 65535
+
+-- the same of a body that tells its bytes: what comes of fetching it, and which bytes are left
+abbrev pub FetchesBytes : Option ℕ → Result (List ℕ) NetError → List ℕ → List ℕ → Type 0
+FetchesBytes said (Ok bytes) left rest = (rest ≡ []) × (whole_body said left ≡ Ok bytes)
+FetchesBytes said (Err RequestTooLarge) left rest = TakesLong left rest
+FetchesBytes said (Err (BadRequest Length)) left rest = (rest ≡ []) × (whole_body said left ≡ Err (BadRequest Length))
+FetchesBytes said (Err Io) left rest = TakesWithin left rest
+FetchesBytes said (Err OutOfMemory) left rest = TakesWithin left rest
+FetchesBytes said (Err _) left rest = ⊥
 
 -- what may come of it whatever is told: no other fault, none about the length where none was said, and no bytes but
 -- those of a whole body

@@ -7,9 +7,9 @@ use Rattle.http_uri.specs.Grammar.{IsAuthority, IsPathInput, without_fragment}
 use Rattle.http_header.specs.HeaderMap.{Entries, insert}
 use Rattle.http_header.specs.FieldValue.{FieldValue, plain_value}
 use Rattle.dns_net.specs.declared.version.Version.{Version}
-use Rattle.dns_net.specs.declared.error.NetError.{NetError}
-use Rattle.dns_net.specs.declared.error.NetError.TheVariants.{Build, OutOfMemory}
-use Rattle.dns_net.specs.declared.error.BuildKind.TheVariants as build
+use Rattle.dns_transport.specs.declared.error.NetError.{NetError}
+use Rattle.dns_transport.specs.declared.error.NetError.TheVariants.{Build, OutOfMemory}
+use Rattle.dns_transport.specs.declared.error.BuildKind.TheVariants as build
 use Rattle.dns_net.specs.Checks.{dns_message, http_version}
 
 -- header fields, where each pair in turn has taken the place of its name's values

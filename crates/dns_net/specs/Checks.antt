@@ -15,9 +15,9 @@ use Rattle.http.specs.declared.version.Http.TheVariants.{H2, H3}
 use Rattle.http.specs.declared.version.TheConstants.Version.{HTTP_2, HTTP_3}
 use Rattle.dns_net.specs.declared.version.Version.{Version}
 use Rattle.dns_net.specs.declared.version.Version.TheVariants.{Http2, Http3}
-use Rattle.dns_net.specs.declared.error.NetError.{NetError}
-use Rattle.dns_net.specs.declared.error.NetError.TheVariants.{BadRequest}
-use Rattle.dns_net.specs.declared.error.BadRequestKind.TheVariants as bad
+use Rattle.dns_transport.specs.declared.error.NetError.{NetError}
+use Rattle.dns_transport.specs.declared.error.NetError.TheVariants.{BadRequest}
+use Rattle.dns_transport.specs.declared.error.BadRequestKind.TheVariants as bad
 
 -- the media type of messages, and the types of which it is one
 abbrev pub dns_message : List ℕ

@@ -6,9 +6,9 @@ use Rattle.http_header.specs.HeaderMap.{Entries}
 use Rattle.http_header.specs.FieldValue.{FieldValue}
 use Rattle.dns_wire.specs.declared.message.Message.{Message}
 use Rattle.dns_net.specs.declared.version.Version.{Version}
-use Rattle.dns_net.specs.declared.error.LinkFault.{LinkFault}
-use Rattle.dns_net.specs.declared.error.NetError.{NetError}
-use Rattle.dns_net.specs.declared.error.NetError.TheVariants.{ShutDown}
+use Rattle.dns_transport.specs.declared.error.LinkFault.{LinkFault}
+use Rattle.dns_transport.specs.declared.error.NetError.{NetError}
+use Rattle.dns_transport.specs.declared.error.NetError.TheVariants.{ShutDown}
 use Rattle.dns_net.specs.declared.link.LinkCall.{LinkCall}
 use Rattle.dns_net.specs.Answers.{Carries, TellsUnsent, WentOver}
 use Rattle.dns_net.specs.Building.{request_headers, with_all}

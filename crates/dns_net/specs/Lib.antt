@@ -1,4 +1,3 @@
-pub mod Faults
 pub mod Bodies
 pub mod Memory
 pub mod Checks

@@ -8,11 +8,11 @@ use Rattle.dns_io.specs.Edge.{one_more}
 use Rattle.dns_io.specs.Memory.{next_fails}
 use Rattle.dns_io.specs.declared.edge.IoFault.{IoFault}
 use Rattle.dns_io.specs.declared.edge.IoFault.TheVariants.{Failed}
-use Rattle.dns_net.specs.declared.error.LinkFault.{LinkFault}
-use Rattle.dns_net.specs.declared.error.LinkFault.TheVariants.{Failed as LinkFailed, Late, OutOfMemory as NoMemory}
+use Rattle.dns_transport.specs.declared.error.LinkFault.{LinkFault}
+use Rattle.dns_transport.specs.declared.error.LinkFault.TheVariants.{Failed as LinkFailed, Late, OutOfMemory as NoMemory}
 use Rattle.dns_net.specs.declared.link.LinkCall.{LinkCall}
 use Rattle.dns_net.specs.declared.link.LinkCall.TheVariants.{Exchanged, Returned}
-use Rattle.dns_net.specs.Bodies.{NextOf}
+use Rattle.dns_transport.specs.Pieces.{NextOf}
 
 -- a body in memory: the pieces left, the numbers of the calls that fail, how many calls there were, and how many of them
 -- failed

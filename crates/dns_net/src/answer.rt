@@ -2,13 +2,12 @@
 
 ghost use Rattle.std.specs.Prelude.{◌≡◌, codes, IsErrOf};
 ghost use Rattle.http_header.specs.HeaderMap.{get};
-ghost use Rattle.dns_net.specs.Answers.{Answers, ReadsMessage, ReadsResponse, is_answer_type, is_success};
-ghost use Rattle.dns_net.specs.Faults.{HasCause};
+ghost use Rattle.dns_net.specs.Answers.{Answers, ReadsResponse, is_answer_type, is_success};
+ghost use Rattle.dns_transport.specs.Faults.{HasCause};
 
-use crate::body::BodyPieces;
 use crate::checks::said_length;
-use crate::error::{NetError, ResponseKind};
 use crate::fetch::fetch_body;
+use dns_transport::{BodyPieces, NetError, ResponseKind, read_message};
 use dns_wire::Message;
 use http::response::Parts;
 use http::{HeaderMap, StatusCode};
@@ -43,18 +42,6 @@ fn read_response(alloc: Global, head: &Parts, bytes: &[u8]) -> Result<Message, N
         return Err(NetError::Response(ResponseKind::ContentType));
     }
     read_message(alloc, bytes)
-}
-
-/// The message that stands in the bytes.
-fn read_message(alloc: Global, bytes: &[u8]) -> Result<Message, NetError>
-    ensures says { ReadsMessage bytes.now result }
-    ensures read { IsErrOf result NetError.Io → ⊥ }
-    ensures in_time { IsErrOf result NetError.Timeout → ⊥ }
-{
-    match Message::from_vec(alloc, bytes) {
-        Ok(message) => Ok(message),
-        Err(error) => Err(NetError::from(error)),
-    }
 }
 
 /// Whether a status says that all went well.

@@ -7,7 +7,7 @@ ghost use Rattle.http_header.specs.HeaderMap.{get};
 ghost use Rattle.http_header.specs.FieldValue.{is_visible_text};
 ghost use Rattle.dns_net.specs.Checks.{is_https, is_at, is_dns_message, accepts, has_range, is_range, range_of, said_length, bytes_said};
 
-use crate::error::NetError;
+use dns_transport::NetError;
 use http::{HeaderMap, HeaderValue, Uri};
 
 /// Whether the scheme is https, its letters in either case.

@@ -1,18 +1,17 @@
 //! How a message is sent over a link, by the clients of both versions of HTTP.
 
-ghost use Rattle.std.specs.Prelude.{◌≡◌, ◌<◌, ◌≤◌, [], ◌++◌, length, IsErrOf, IfOk, IfErr, MatchResult, string_bytes};
+ghost use Rattle.std.specs.Prelude.{[], string_bytes};
 ghost use Rattle.std.specs.Option.{option_map_or, option_and_then};
-ghost use Rattle.dns_wire.specs.MessageBytes.{message_bytes, TellsTooLong};
-ghost use Rattle.dns_net.specs.Answers.{WentOver, HasSendCause, with_id_0};
+ghost use Rattle.dns_net.specs.Answers.{WentOver, HasSendCause};
 ghost use Rattle.dns_net.specs.Clients.{Asks, SendsOver};
-ghost use Rattle.dns_net.specs.Faults.{HasNetCause};
+ghost use Rattle.dns_transport.specs.Faults.{HasNetCause};
 
 use crate::answer::answer_of;
 use crate::context::RequestContext;
-use crate::error::NetError;
 use crate::link::HttpLink;
 use dns_io::Octets;
-use dns_wire::{Message, ProtoError};
+use dns_transport::{NetError, bytes_with_id_0};
+use dns_wire::Message;
 use http::Request;
 use std::alloc::Global;
 
@@ -59,17 +58,6 @@ fn request_of(
     let bytes = bytes_with_id_0(alloc, message)?;
     let (head, _) = context.build(alloc, bytes.len())?.into_parts();
     Ok(Request::from_parts(head, bytes))
-}
-
-/// The bytes of a message, with the id 0.
-fn bytes_with_id_0(alloc: Global, message: &Message) -> Result<Octets, ProtoError>
-    ensures ok { IfOk result (λ bytes. (bytes ≡ message_bytes (with_id_0 message.now)) × (length bytes ≤ 65535)) }
-    ensures err { IfErr result (TellsTooLong message.now) }
-{
-    let mut bytes = message.to_vec(alloc)?.into_vec();
-    bytes[0] = 0;
-    bytes[1] = 0;
-    Ok(Octets::from_vec(bytes))
 }
 
 /// Exchanges a request for the message of its response, whose body goes back to the link whatever it says.

@@ -6,12 +6,12 @@ ghost use Rattle.http.specs.Request.{head_of};
 ghost use Rattle.http_uri.specs.Grammar.{IsAuthority, IsPathInput, IsPathOf, without_fragment};
 ghost use Rattle.http_uri.specs.Uri.{HasParts};
 ghost use Rattle.dns_net.specs.Building.{IsRequest, CanBuild, TellsBuild, request_headers, with_all};
-ghost use Rattle.dns_net.specs.declared.error.NetError.TheVariants.{OutOfMemory as NoMemory};
+ghost use Rattle.dns_transport.specs.declared.error.NetError.TheVariants.{OutOfMemory as NoMemory};
 
-use crate::error::{BuildKind, NetError};
 use crate::headers::request_headers;
 use crate::set_headers::SetHeaders;
 use crate::version::Version;
+use dns_transport::{BuildKind, NetError};
 use http::request::Parts;
 use http::{Method, Request};
 use http_uri::{Authority, PathAndQuery, Scheme, Uri, UriError};

@@ -2,12 +2,11 @@
 
 ghost use Rattle.std.specs.Prelude.{◌≡◌};
 ghost use Rattle.dns_io.specs.Edge.{Told};
-ghost use Rattle.dns_net.specs.Bodies.{Fetches, IsFetched, is_said};
-ghost use Rattle.dns_net.specs.Faults.{HasCause};
+ghost use Rattle.dns_net.specs.Bodies.{Fetches, FetchesBytes, IsFetched, is_said};
+ghost use Rattle.dns_transport.specs.Faults.{HasCause};
 
-use crate::body::BodyPieces;
-use crate::error::{BadRequestKind, NetError};
 use dns_io::Octets;
+use dns_transport::{BadRequestKind, BodyPieces, NetError};
 use dns_wire::limits;
 use std::alloc::Global;
 
@@ -19,6 +18,7 @@ pub fn fetch_body<P: BodyPieces>(
     length: Option<usize>,
 ) -> Result<Octets, NetError>
     ensures told { Told (Fetches length result) (P.left stream.old) (P.left stream.new) }
+    ensures told_bytes { Told (FetchesBytes length result) (P.left_bytes stream.old) (P.left_bytes stream.new) }
     ensures kind { IsFetched length result }
     ensures cause { HasCause (P.faults stream.old) (P.faults stream.new) result }
 {

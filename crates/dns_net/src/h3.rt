@@ -4,18 +4,16 @@ ghost use Rattle.std.specs.Prelude.{◌≡◌, [], true, false, Some, None, Ok, 
 ghost use Rattle.std.specs.Option.{option_map_or, option_and_then};
 ghost use Rattle.dns_net.specs.Answers.{HasSendCause};
 ghost use Rattle.dns_net.specs.Clients.{Sends};
-ghost use Rattle.dns_net.specs.declared.poll.Poll.TheVariants.{Ready};
+ghost use Rattle.dns_transport.specs.declared.poll.Poll.TheVariants.{Ready};
 ghost use Rattle.dns_net.specs.declared.version.Version.TheVariants.{Http3};
 
-use crate::address::Address;
 use crate::client::send_over;
 use crate::context::RequestContext;
-use crate::error::NetError;
 use crate::link::HttpLink;
-use crate::poll::Poll;
 use crate::set_headers::SetHeaders;
 use crate::version::Version;
 use dns_io::Peer;
+use dns_transport::{Address, NetError, Poll};
 use dns_wire::Message;
 use std::alloc::Global;
 use std::fmt;

@@ -8,10 +8,10 @@ ghost use Rattle.http_header.specs.HeaderMap.{insert};
 ghost use Rattle.http_header.specs.FieldValue.{plain_value};
 ghost use Rattle.dns_net.specs.Building.{IsResponse, request_headers, response_headers};
 ghost use Rattle.dns_net.specs.Checks.{dns_message};
-ghost use Rattle.dns_net.specs.declared.error.NetError.TheVariants.{OutOfMemory as NoMemory};
+ghost use Rattle.dns_transport.specs.declared.error.NetError.TheVariants.{OutOfMemory as NoMemory};
 
-use crate::error::NetError;
 use crate::version::Version;
+use dns_transport::NetError;
 use http::response::Parts;
 use http::{HeaderMap, HeaderValue, Response, StatusCode};
 use std::alloc::Global;

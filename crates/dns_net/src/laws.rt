@@ -4,11 +4,12 @@ ghost use Rattle.std.specs.Prelude.{◌≡◌, ℕ, List, Option, Result, Ok, Is
 ghost use Rattle.http.specs.declared.request.Parts.{Parts as Head};
 ghost use Rattle.http_uri.specs.Grammar.{authority_host};
 ghost use Rattle.http_uri.specs.Uri.{uri_path, uri_authority};
-ghost use Rattle.dns_net.specs.Bodies.{joined, Fetches};
+ghost use Rattle.dns_net.specs.Bodies.{Fetches};
 ghost use Rattle.dns_net.specs.Building.{IsRequest, request_headers};
 ghost use Rattle.dns_net.specs.Checks.{verdict};
-ghost use Rattle.dns_net.specs.declared.error.NetError.{NetError as Fault};
-ghost use Rattle.dns_net.specs.declared.error.NetError.TheVariants.{Io, OutOfMemory};
+ghost use Rattle.dns_transport.specs.declared.error.NetError.{NetError as Fault};
+ghost use Rattle.dns_transport.specs.Pieces.{joined};
+ghost use Rattle.dns_transport.specs.declared.error.NetError.TheVariants.{Io, OutOfMemory};
 ghost use Rattle.dns_net.specs.declared.version.Version.{Version as Http};
 
 /// What comes of fetching a body depends on its bytes and the length that was said alone, however they are cut, where no

@@ -5,14 +5,14 @@ ghost use Rattle.http.specs.Response.{body_of};
 ghost use Rattle.http.specs.declared.request.Request.{Request as Asked};
 ghost use Rattle.http.specs.declared.response.Response.{Response as Given};
 ghost use Rattle.dns_io.specs.Edge.{Rose, Grows};
-ghost use Rattle.dns_net.specs.Links.{TellsAsked, HasLinkCause};
-ghost use Rattle.dns_net.specs.declared.error.LinkFault.{LinkFault as Fault};
+ghost use Rattle.dns_net.specs.Links.{TellsAsked};
+ghost use Rattle.dns_transport.specs.Faults.{HasLinkCause};
+ghost use Rattle.dns_transport.specs.declared.error.LinkFault.{LinkFault as Fault};
 ghost use Rattle.dns_net.specs.declared.link.LinkCall.{LinkCall as Call};
 ghost use Rattle.dns_net.specs.declared.link.LinkCall.TheVariants.{Returned};
 
-use crate::body::BodyPieces;
-use crate::error::LinkFault;
 use dns_io::Octets;
+use dns_transport::{BodyPieces, LinkFault};
 use http::{Request, Response};
 
 /// What a link tells of a call.

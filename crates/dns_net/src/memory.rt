@@ -3,12 +3,12 @@
 
 ghost use Rattle.std.specs.Prelude.{◌≡◌, nat_lt, ℕ, List, [], Some, IfOk, OnOk, OnErr, IsErrOf};
 ghost use Rattle.dns_io.specs.Edge.{HasCause, Keeps};
-ghost use Rattle.dns_net.specs.Bodies.{HasBytes, NextOf, GivesNext};
+ghost use Rattle.dns_transport.specs.Pieces.{GivesBytes, HasBytes, NextOf, GivesNext, joined};
 ghost use Rattle.dns_net.specs.Memory.{PieceNext};
 
-use crate::body::BodyPieces;
 use bytes::Bytes;
 use dns_io::IoFault;
+use dns_transport::BodyPieces;
 use std::collections::LinkedList;
 use std::marker::Model;
 
@@ -54,12 +54,16 @@ impl MemoryBody {
 impl BodyPieces for MemoryBody {
     ghost left = { λ b. Some b.left };
 
+    ghost left_bytes = { λ b. Some (joined b.left) };
+
     ghost faults = { λ b. b.faults };
 
     fn next(&mut self) -> Result<Option<Bytes>, IoFault>
         ensures bytes { IfOk result HasBytes }
         ensures given { IfOk result (GivesNext (Some self.old.left) (Some self.new.left)) }
         ensures kept { OnErr result (Keeps (Some self.old.left) (Some self.new.left)) }
+        ensures bytes_given { IfOk result (GivesBytes (Some (joined self.old.left)) (Some (joined self.new.left))) }
+        ensures bytes_kept { OnErr result (Keeps (Some (joined self.old.left)) (Some (joined self.new.left))) }
         ensures cause { HasCause self.old.faults self.new.faults result }
         ensures calm { OnOk result (self.new.faults ≡ self.old.faults) }
         ensures uncounted { IsErrOf result IoFault.OutOfMemory → self.new.faults ≡ self.old.faults }

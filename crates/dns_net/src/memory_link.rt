@@ -3,14 +3,15 @@
 ghost use Rattle.std.specs.Prelude.{◌≡◌, ◌+◌, ◌<◌, ◌≤◌, ◌∷◌, [], Some, IfOk, IsErrOf, OnOk, OnErr};
 ghost use Rattle.http.specs.Response.{body_of};
 ghost use Rattle.dns_io.specs.Edge.{Rose, Grows};
-ghost use Rattle.dns_net.specs.Links.{TellsAsked, HasLinkCause};
+ghost use Rattle.dns_net.specs.Links.{TellsAsked};
+ghost use Rattle.dns_transport.specs.Faults.{HasLinkCause};
 ghost use Rattle.dns_net.specs.Memory.{AreFresh, Answers, ExchangeNext, returned};
 ghost use Rattle.dns_net.specs.declared.link.LinkCall.TheVariants.{Returned};
 
-use crate::error::LinkFault;
 use crate::link::{HttpLink, LinkCall};
 use crate::memory::MemoryBody;
 use dns_io::Octets;
+use dns_transport::LinkFault;
 use http::{Request, Response};
 use std::alloc::Global;
 use std::collections::LinkedList;

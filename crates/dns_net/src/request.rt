@@ -3,16 +3,15 @@
 ghost use Rattle.std.specs.Prelude.{◌≡◌, Err, IfOk, IfErr, option_copied};
 ghost use Rattle.http.specs.Request.{head_of, body_of};
 ghost use Rattle.dns_io.specs.Edge.{Told};
-ghost use Rattle.dns_net.specs.Bodies.{Fetches, IsFetched};
+ghost use Rattle.dns_net.specs.Bodies.{Fetches, FetchesBytes, IsFetched};
 ghost use Rattle.dns_net.specs.Checks.{verdict, taken};
-ghost use Rattle.dns_net.specs.Faults.{HasCause, IsBadRequest};
+ghost use Rattle.dns_transport.specs.Faults.{HasCause, IsBadRequest};
 
-use crate::body::BodyPieces;
 use crate::checks::{accepts, is_at, is_dns_message, is_https, said_length};
-use crate::error::{BadRequestKind, NetError};
 use crate::fetch::fetch_body;
 use crate::version::Version;
 use dns_io::Octets;
+use dns_transport::{BadRequestKind, BodyPieces, NetError};
 use http::Request;
 use std::alloc::Global;
 
@@ -64,6 +63,8 @@ pub fn message_from<R: BodyPieces>(
         (λ length. Told (Fetches length result) (R.left (body_of request.old)) (R.left (body_of request.new))) }
     ensures kind { IfOk (taken version (option_copied name.entry) endpoint.now (head_of request.old))
         (λ length. IsFetched length result) }
+    ensures told_bytes { IfOk (taken version (option_copied name.entry) endpoint.now (head_of request.old))
+        (λ length. Told (FetchesBytes length result) (R.left_bytes (body_of request.old)) (R.left_bytes (body_of request.new))) }
     ensures head { head_of request.new ≡ head_of request.old }
     ensures cause { HasCause (R.faults (body_of request.old)) (R.faults (body_of request.new)) result }
 {

@@ -3,9 +3,9 @@
 ghost use Rattle.std.specs.Prelude.{◌≡◌, ◌≤◌, ◌⊎◌, ℕ, List, Option, Some, None, length, OnOk, IfErr};
 ghost use Rattle.http_header.specs.FieldValue.{FieldValue};
 ghost use Rattle.dns_net.specs.Building.{with_all};
-ghost use Rattle.dns_net.specs.declared.error.NetError.{NetError as Fault};
+ghost use Rattle.dns_transport.specs.declared.error.NetError.{NetError as Fault};
 
-use crate::error::NetError;
+use dns_transport::NetError;
 use http::{HeaderMap, HeaderValue};
 
 /// An object that sets header fields of a request, or refuses it.

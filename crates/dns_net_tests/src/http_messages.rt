@@ -24,7 +24,7 @@ struct Refuses {
 
 impl SetHeaders for Refuses {
     ghost use Rattle.std.specs.Prelude.{[], Some, if◌then◌else◌};
-    ghost use Rattle.dns_net.specs.declared.error.NetError.TheVariants.{Io, Timeout};
+    ghost use Rattle.dns_transport.specs.declared.error.NetError.TheVariants.{Io, Timeout};
 
     ghost pairs = { λ _. [] };
 

@@ -4,4 +4,6 @@ mod Keys
 mod TextsRead
 mod TextsWritten
 mod Told
+mod Settled
 mod Endings
+mod Completing

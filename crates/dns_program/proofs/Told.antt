@@ -1,51 +1,75 @@
 -- What a journal tells, over several calls.
-use Rattle.std.proofs.Common.{ℕ, ℤ, ◌≤◌, List, Option, Some, None, sym, ap, subst, ◌∙◌, arith}
-use Rattle.dns_io.specs.Edge.{Rose, Keeps}
+use Rattle.std.proofs.Common.{◌≡◌, ◌≢◌, ℕ, ℤ, ◌≤◌, List, [], ◌∷◌, Option, Some, None, Err, refl, sym, subst, ◌∙◌, arith}
+use Rattle.dns_io.specs.Edge.{Told, NeverBegins, Rose, Keeps}
+use Rattle.dns_io.proofs.ToldContents.{Told-same, Told-more}
+use Rattle.dns_name.specs.Name.{fold_of}
 use Rattle.dns_wire.specs.declared.record.Record.{Record}
 use Rattle.dns_keeper.specs.declared.row.Row.{Row}
-use Rattle.dns_keeper.specs.Rows.{appended}
-use Rattle.dns_keeper.specs.Keeping.{GrowsByBatch}
-use Rattle.dns_book.specs.Opening.{HadNoRow, HadFirst}
+use Rattle.dns_keeper.specs.Rows.{first_of}
+use Rattle.dns_keeper.specs.Keeping.{HasBatch, GrowsByBatch, IsFirstRow}
+use Rattle.dns_update.specs.declared.replay_kind.ReplayKind.{ReplayKind}
+use Rattle.dns_update.specs.Replay.{Replays}
+use Rattle.dns_book.specs.Opening.{HadNoRow, HadRows, AreRefused}
+use Rattle.dns_server_core.specs.Books.{RoseBy}
 
-pub HadNoRow-later : (a b c : Option (List Row)) → HadNoRow a b → Keeps b c → HadNoRow a c
-HadNoRow-later a b None p q = tt
-HadNoRow-later a None (Some t) p q = absurd q
-HadNoRow-later a (Some s) (Some t) p q = p
+no_first : (rows : List Row) → None ≡ first_of rows → rows ≡ []
+no_first [] e = refl
+no_first (r ∷ rs) e = absurd cc
+
+some_first : (row : Row) (rows : List Row) → Some row ≡ first_of rows → rows ≢ []
+some_first row [] e is = absurd cc
+some_first row (r ∷ rs) e is = absurd cc
+
+-- what a look at the first row tells
+pub HadNoRow-first : (a b : Option (List Row)) → IsFirstRow b None → Keeps a b → HadNoRow a b
+HadNoRow-first a None none k = tt
+HadNoRow-first None (Some y) none k = absurd k
+HadNoRow-first (Some x) (Some y) none k = sym k ∙ no_first y none
+
+pub HadRows-first : (a b : Option (List Row)) (row : Row) → IsFirstRow b (Some row) → Keeps a b → HadRows a b
+HadRows-first a None row first k = tt
+HadRows-first None (Some y) row first k = absurd k
+HadRows-first (Some x) (Some y) row first k = λ none. some_first row y first (k ∙ none)
+
+-- what is told was told
+pub NeverBegins-told : {A : Type 0} (R : A → A → Type 0) (a b : Option A) → Told R a b → NeverBegins a b
+NeverBegins-told R a None p = tt
+NeverBegins-told R None (Some y) p = absurd p
+NeverBegins-told R (Some x) (Some y) p = tt
+
+pub NeverBegins-same : {A : Type 0} (a : Option A) → NeverBegins a a
+NeverBegins-same a = Told-same _ (λ x. tt) a
+
+pub NeverBegins-more : {A : Type 0} (a b c : Option A) → NeverBegins a b → NeverBegins b c → NeverBegins a c
+NeverBegins-more = Told-more _ _ _ (λ x y z p q. tt)
+
+pub HadNoRow-on : (a b c : Option (List Row)) → HadNoRow a b → NeverBegins b c → HadNoRow a c
+HadNoRow-on = Told-more _ _ _ (λ x y z p q. p)
+
+pub HadRows-on : (a b c : Option (List Row)) → HadRows a b → NeverBegins b c → HadRows a c
+HadRows-on = Told-more _ _ _ (λ x y z p q. p)
 
 pub HadNoRow-earlier : (a b c : Option (List Row)) → Keeps a b → HadNoRow b c → HadNoRow a c
-HadNoRow-earlier a b None p q = tt
-HadNoRow-earlier a None (Some t) p q = cc
-HadNoRow-earlier None (Some s) (Some t) p q = absurd p
-HadNoRow-earlier (Some r) (Some s) (Some t) p q = ap (λ (z : List Row). Some z) (sym p) ∙ q
+HadNoRow-earlier = Told-more _ _ _ (λ x y z p q. sym p ∙ q)
 
 -- what was seen of the rows holds of them now
 pub HadNoRow-now : (a b : Option (List Row)) → HadNoRow a b → Keeps a b → HadNoRow b b
 HadNoRow-now a None p q = tt
 HadNoRow-now None (Some s) p q = absurd q
-HadNoRow-now (Some r) (Some s) p q = ap (λ (z : List Row). Some z) q ∙ p
+HadNoRow-now (Some r) (Some s) p q = q ∙ p
 
-pub HadFirst-later : (a b c : Option (List Row)) (row : ℤ) → HadFirst a b row → Keeps b c → HadFirst a c row
-HadFirst-later a b None row p q = tt
-HadFirst-later a None (Some t) row p q = absurd q
-HadFirst-later None (Some s) (Some t) row p q = absurd p
-HadFirst-later (Some r) (Some s) (Some t) row p q = p
-
-pub HadFirst-earlier : (a b c : Option (List Row)) (row : ℤ) → Keeps a b → HadFirst b c row → HadFirst a c row
-HadFirst-earlier a b None row p q = tt
-HadFirst-earlier a None (Some t) row p q = absurd q
-HadFirst-earlier None (Some s) (Some t) row p q = absurd p
-HadFirst-earlier (Some r) (Some s) (Some t) row p q = subst (λ (rows : List Row). HadFirst (Some rows) (Some t) row) p q
-
-pub HadFirst-now : (a b : Option (List Row)) (row : ℤ) → HadFirst a b row → Keeps a b → HadFirst b b row
-HadFirst-now a None row p q = tt
-HadFirst-now None (Some s) row p q = absurd q
-HadFirst-now (Some r) (Some s) row p q = subst (λ (rows : List Row). HadFirst (Some rows) (Some s) row) (sym q) p
+pub AreRefused-earlier : (a b c : Option (List Row)) (origin : List (List ℕ)) (row : ℤ) (why : ReplayKind) → Keeps a b → AreRefused b c origin row why → AreRefused a c origin row why
+AreRefused-earlier a b c origin row why =
+    Told-more (λ x y. y ≡ x) (λ (y z : List Row). Replays (fold_of origin) y (Err (record { row = row; kind = why }))) (λ (x z : List Row). Replays (fold_of origin) x (Err (record { row = row; kind = why })))
+    (λ x y z p q. subst (λ (rows : List Row). Replays (fold_of origin) rows (Err (record { row = row; kind = why }))) p q) a b c
 
 pub GrowsByBatch-earlier : (a b c : Option (List Row)) (client serial moment : ℕ) (records : List Record) → Keeps a b → GrowsByBatch b c client serial moment records → GrowsByBatch a c client serial moment records
-GrowsByBatch-earlier a b None client serial moment records p q = tt
-GrowsByBatch-earlier a None (Some t) client serial moment records p q = absurd q
-GrowsByBatch-earlier None (Some s) (Some t) client serial moment records p q = absurd p
-GrowsByBatch-earlier (Some r) (Some s) (Some t) client serial moment records p q = q ∙ ap (λ (rows : List Row). appended rows client serial moment records) p
+GrowsByBatch-earlier a b c client serial moment records =
+    Told-more (λ x y. y ≡ x) (λ y z. HasBatch y client serial moment records z) (λ x z. HasBatch x client serial moment records z)
+    (λ x y z p q. subst (λ (rows : List Row). HasBatch rows client serial moment records z) p q) a b c
 
 pub Rose-earlier : (n m k : ℕ) → n ≤ m → Rose m k → Rose n k
 Rose-earlier n m k h r = omega arith
+
+pub RoseBy-earlier : (count n m k : ℕ) → n ≤ m → RoseBy count m k → RoseBy count n k
+RoseBy-earlier count n m k h r = omega arith

@@ -1,6 +1,6 @@
 -- The words of the command line.
 use Rattle.std.specs.Prelude.{ℕ, List, [], ◌∷◌, Option, Some, None, is_some, Bool, false, nat_lt, nat_le, length, take, drop, count_by, ◌&&◌, ◌||◌, if◌then◌else◌, Result, Ok, Err, codes}
-use Rattle.std.specs.List.{list_all, filter_map}
+use Rattle.std.specs.List.{list_all, list_any, filter_map}
 use Rattle.std.specs.Option.{option_map_or, option_and_then}
 use Rattle.std.specs.Str.{bytes_eq}
 use Rattle.dns_name.specs.declared.fault.ProtoError.{ProtoError}
@@ -26,9 +26,13 @@ first_behind key (word ∷ words) = elim (behind key word) [ Some rest ↦ Some 
 abbrev pub path_of : List ℕ → List (List ℕ) → Option (List ℕ)
 path_of key words = first_behind key (drop 2 words)
 
--- `--zone=` and a path that isn't empty
-abbrev pub is_zone_word : List ℕ → Bool
-is_zone_word word = option_map_or (λ path. nat_lt 0 (length path)) (behind (codes "--zone=") word) false
+-- a key and a path that isn't empty
+abbrev pub is_path_word : List ℕ → List ℕ → Bool
+is_path_word key word = option_map_or (λ path. nat_lt 0 (length path)) (behind key word) false
+
+-- `--update`
+abbrev pub is_update_word : List ℕ → Bool
+is_update_word word = bytes_eq word (codes "--update")
 
 -- the network of a word that begins with this key
 abbrev pub net_behind : List ℕ → List ℕ → Option IpNet
@@ -38,26 +42,30 @@ net_behind key word = option_and_then network_of (behind key word)
 abbrev pub nets_behind : List ℕ → List (List ℕ) → List IpNet
 nets_behind key words = filter_map (net_behind key) words
 
--- one option: `--zone=` and a path, `--deny=` and a network, or `--allow=` and a network
+-- one option: `--update`, `--zone=` or `--journal=` and a path, or `--deny=` or `--allow=` and a network
 abbrev pub is_option : List ℕ → Bool
-is_option word = is_zone_word word || is_some (net_behind (codes "--deny=") word) || is_some (net_behind (codes "--allow=") word)
+is_option word =
+    is_update_word word || is_path_word (codes "--zone=") word || is_path_word (codes "--journal=") word
+    || is_some (net_behind (codes "--deny=") word) || is_some (net_behind (codes "--allow=") word)
 
--- options: the zone text's path at most once, and any number of networks
+-- options: `--update`, the zone text's path and the journal's path at most once each, and any number of networks
 abbrev pub are_options : List (List ℕ) → Bool
-are_options words = list_all is_option words && nat_le (count_by is_zone_word words) 1
+are_options words =
+    list_all is_option words && nat_le (count_by is_update_word words) 1
+    && nat_le (count_by (is_path_word (codes "--zone=")) words) 1 && nat_le (count_by (is_path_word (codes "--journal=")) words) 1
 
 -- the options with the folded name of this text as the origin, where it is a name (RFC 1035 5.1, 2.3.3)
-abbrev pub options_for : Result (List (List ℕ)) ProtoError → List IpNet → List IpNet → Option Options
-options_for (Err e) denied allowed = None
-options_for (Ok name) denied allowed = Some (record { origin = fold_of name; denied = denied; allowed = allowed })
+abbrev pub options_for : Result (List (List ℕ)) ProtoError → Bool → List IpNet → List IpNet → Option Options
+options_for (Err e) allow_update denied allowed = None
+options_for (Ok name) allow_update denied allowed = Some (record { origin = fold_of name; allow_update = allow_update; denied = denied; allowed = allowed })
 
--- what legal words ask for: `events`, an origin, and options
+-- what legal words ask for: `events`, an origin, and options. Updates are let in where `--update` stands.
 unfoldable pub options_of : List (List ℕ) → Option Options
 options_of [] = None
 options_of (command ∷ []) = None
 options_of (command ∷ origin ∷ words) =
     if bytes_eq command (codes "events") && are_options words
-    then options_for (name_of origin) (nets_behind (codes "--deny=") words) (nets_behind (codes "--allow=") words)
+    then options_for (name_of origin) (list_any is_update_word words) (nets_behind (codes "--deny=") words) (nets_behind (codes "--allow=") words)
     else None
 
 -- who is let in: the networks of the options

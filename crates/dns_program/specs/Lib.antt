@@ -7,5 +7,6 @@ pub mod EventText
 pub mod EventReading
 pub mod Steps
 pub mod Ends
+pub mod Completeness
 pub mod Writing
 pub mod Parts

@@ -3,8 +3,8 @@ use Rattle.std.specs.Prelude.{ℕ, ◌++◌, List, [], codes}
 use Rattle.std.specs.Fmt.{decimal, signed_decimal}
 use Rattle.dns_zone.specs.declared.zone_text.ZoneTextKind.{ZoneTextKind}
 use Rattle.dns_zone.specs.declared.zone_text.ZoneTextKind.TheVariants as zone
-use Rattle.dns_zone.specs.declared.not_built.ReplayKind.{ReplayKind}
-use Rattle.dns_zone.specs.declared.not_built.ReplayKind.TheVariants as replay
+use Rattle.dns_update.specs.declared.replay_kind.ReplayKind.{ReplayKind}
+use Rattle.dns_update.specs.declared.replay_kind.ReplayKind.TheVariants as replay
 use Rattle.dns_io.specs.declared.to_end.ReadFault.{ReadFault}
 use Rattle.dns_io.specs.declared.to_end.ReadFault.TheVariants as read
 use Rattle.dns_program.specs.declared.status.Status.{Status}
@@ -39,7 +39,9 @@ zone_kind_text zone.AliasBesideOther = codes "AliasBesideOther"
 
 -- why the rows of a journal are refused
 abbrev pub replay_kind_text : ReplayKind → List ℕ
-replay_kind_text replay.NotBuilt = codes "not built"
+replay_kind_text replay.NoRecord = codes "row is no record"
+replay_kind_text replay.OutOfPlace = codes "row out of place"
+replay_kind_text replay.NotOneSoa = codes "not one SOA"
 
 -- the line that a run which ends so writes in place of its output; none after a fault of the output or want of memory
 abbrev pub refusal_line : Status → List ℕ

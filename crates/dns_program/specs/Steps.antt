@@ -7,9 +7,9 @@ use Rattle.dns_zone_map.specs.Zone.{Contents}
 use Rattle.dns_zone.specs.ZoneText.{zone_of}
 use Rattle.dns_zone.specs.declared.zone_text.ZoneTextKind.{ZoneTextKind}
 use Rattle.dns_zone.specs.declared.zone_text.ZoneTextFault.TheVariants.{Refused}
-use Rattle.dns_zone.specs.declared.not_built.ReplayKind.TheVariants.{NotBuilt}
+use Rattle.dns_update.specs.declared.replay_kind.ReplayKind.{ReplayKind}
 use Rattle.dns_server_core.specs.declared.event.Event.{Event}
-use Rattle.dns_book.specs.Opening.{HadNoRow, HadFirst}
+use Rattle.dns_book.specs.Opening.{HadNoRow, HadRows, AreRefused}
 use Rattle.dns_program.specs.declared.status.Status.{Status}
 use Rattle.dns_program.specs.declared.status.Status.TheVariants as status
 use Rattle.dns_program.specs.declared.run.Opening.{Opening}
@@ -41,11 +41,11 @@ pub data ReadsNoZone (source : Around (List ℕ)) (origin : List (List ℕ)) : S
       → ReadsNoZone source origin (status.ZoneText line kind)
   zone_without_memory : ReadsNoZone source origin status.OutOfMemory
 
--- how the journal is opened: one without rows is begun with the zone of the zone text; where there is a row, its rows are
--- to be recovered, and the zone text is not read
+-- how the journal is to be opened: one without rows is begun with the zone of the zone text; one with rows is read back, and
+-- the zone text is not read
 abbrev pub Finds : Around (List Row) → Around (List ℕ) → List (List ℕ) → Opening → Type 0
 Finds journal source origin (Begin zone) = HadNoRow journal.before journal.after × ReadsZone source origin zone
-Finds journal source origin (Recover row) = HadFirst journal.before journal.after row × IsUntouched source
+Finds journal source origin Recover = HadRows journal.before journal.after × IsUntouched source
 
 -- why the journal's first row was not seen: the journal failed, or memory ran out
 pub data SeesNoRow (journal : Around (List Row)) : Status → Type 0 where
@@ -72,12 +72,12 @@ pub data LoadsNoEvents (source : Around (List ℕ)) : Status → Type 0 where
       → LoadsNoEvents source (status.EventLine line)
   events_without_memory : LoadsNoEvents source status.OutOfMemory
 
--- why the journal was not opened: it has a row, which is the first one that is refused, since no rows are read back yet; it
--- failed when it was to be begun; or memory ran out
-pub data OpensNot (journal : Around (List Row)) : Opening → Status → Type 0 where
-  has_rows : {opening : Opening} → (row : ℤ) → HadFirst journal.before journal.after row → OpensNot journal opening (status.Recovery row NotBuilt)
-  begins_not : {zone : Contents} → Rose journal.faults_before journal.faults_after → OpensNot journal (Begin zone) status.KeeperFault
-  begins_without_memory : {zone : Contents} → OpensNot journal (Begin zone) status.OutOfMemory
+-- why the journal was not opened: it has rows that stand for no zone of this origin, and this is the first that is refused;
+-- it failed; or memory ran out
+pub data OpensNot (journal : Around (List Row)) (origin : List (List ℕ)) : Opening → Status → Type 0 where
+  rows_refused : (row : ℤ) (why : ReplayKind) → AreRefused journal.before journal.after origin row why → OpensNot journal origin Recover (status.Recovery row why)
+  journal_failed : {opening : Opening} → Rose journal.faults_before journal.faults_after → OpensNot journal origin opening status.KeeperFault
+  opening_without_memory : {opening : Opening} → OpensNot journal origin opening status.OutOfMemory
 
 -- A refusal, by the first step in the order of the work that was refused. What comes after that step was not done: the
 -- sources that it reads and the journal are as they were.
@@ -94,4 +94,4 @@ pub data IsRefused (words : List (List ℕ)) (zone_text event_text : Around (Lis
       → Finds journal zone_text options.origin opening → LoadsNoEvents event_text s
       → IsRefused words zone_text event_text journal s
   at_opening : {s : Status} → (options : Options) (opening : Opening) (events : List Event) → options_of words ≡ Some options
-      → Finds journal zone_text options.origin opening → LoadsEvents event_text events → OpensNot journal opening s → IsRefused words zone_text event_text journal s
+      → Finds journal zone_text options.origin opening → LoadsEvents event_text events → OpensNot journal options.origin opening s → IsRefused words zone_text event_text journal s

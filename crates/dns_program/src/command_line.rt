@@ -1,11 +1,11 @@
 //! What the words of the command line ask for. The program's name is not among them.
 
 ghost use Rattle.std.specs.Prelude.{◌≡◌, ◌↔◌, IsErr, ◌++◌, ◌∷◌, [], IfOk, IfSome, OnOk, map, length, drop, count_by, string_bytes};
-ghost use Rattle.std.specs.List.{list_all};
+ghost use Rattle.std.specs.List.{list_all, list_any};
 ghost use Rattle.std.specs.Option.{option_map};
 ghost use Rattle.dns_name.specs.Name.{fold_of};
 ghost use Rattle.dns_name.specs.NameText.{name_of};
-ghost use Rattle.dns_program.specs.CommandLine.{behind, first_behind, path_of, action_of_word, action_of, is_zone_word, net_behind, nets_behind, is_option, are_options, options_for, options_of};
+ghost use Rattle.dns_program.specs.CommandLine.{behind, first_behind, path_of, action_of_word, action_of, is_path_word, is_update_word, net_behind, nets_behind, is_option, are_options, options_for, options_of};
 
 use crate::network_text::network_of;
 use dns_book::IpNet;
@@ -18,6 +18,12 @@ use std::marker::Model;
 
 /// The key of the zone text's path.
 pub const ZONE: &str = "--zone=";
+
+/// The key of the journal's path.
+pub const JOURNAL: &str = "--journal=";
+
+/// The word by which updates are let in.
+const UPDATE: &str = "--update";
 
 /// The key of a network whose sources are shut out.
 const DENY: &str = "--deny=";
@@ -71,15 +77,18 @@ impl Networks {
 pub struct Options {
     /// The zone's origin, folded.
     pub origin: Name,
+    /// Whether updates are let in (RFC 2136 3.3).
+    pub allow_update: bool,
     /// The networks whose sources are shut out.
     pub denied: Networks,
     /// The networks whose sources are let in.
     pub allowed: Networks,
 }
 
-/// What the words ask for: `events ORIGIN`, and behind it options in any order: at most one `--zone=PATH`, where PATH is
-/// not empty, and any number of `--deny=IP/PREFIX` and `--allow=IP/PREFIX`. ORIGIN is a name's text (RFC 1035 5.1),
-/// whatever word stands there. Any other words are no command, and give None.
+/// What the words ask for: `events ORIGIN`, and behind it options in any order: at most one `--update`, at most one
+/// `--zone=PATH` and one `--journal=PATH`, where PATH is not empty, and any number of `--deny=IP/PREFIX` and
+/// `--allow=IP/PREFIX`. ORIGIN is a name's text (RFC 1035 5.1), whatever word stands there. Any other words are no command,
+/// and give None.
 #[tactic(auto, unfolding(crate::specs::CommandLine::options_of))]
 pub fn options_of(alloc: Global, words: &[String]) -> Result<Option<Options>, OutOfMemory>
     ensures is { IfOk result (λ options. options ≡ options_of (map string_bytes words.now)) }
@@ -96,7 +105,7 @@ pub fn options_of(alloc: Global, words: &[String]) -> Result<Option<Options>, Ou
     }
     let denied = nets_behind(alloc, words, DENY)?;
     let allowed = nets_behind(alloc, words, ALLOW)?;
-    options_for(alloc, origin.as_str(), denied, allowed)
+    options_for(alloc, origin.as_str(), has_update(words), denied, allowed)
 }
 
 /// The path that a key names, as `--zone=`: what follows it in the first word that begins with it. The first two words,
@@ -159,10 +168,11 @@ fn action_of_word(word: &str) -> Action
 fn options_for(
     alloc: Global,
     origin: &str,
+    allow_update: bool,
     denied: Networks,
     allowed: Networks,
 ) -> Result<Option<Options>, OutOfMemory>
-    ensures is { IfOk result (λ options. options ≡ options_for (name_of origin.now) denied allowed) }
+    ensures is { IfOk result (λ options. options ≡ options_for (name_of origin.now) allow_update denied allowed) }
     ensures folded { IfOk result (λ options. IfSome options (λ o. fold_of o.origin ≡ o.origin)) }
 {
     folded_names();
@@ -171,6 +181,7 @@ fn options_for(
             let origin = name.folded(alloc)?;
             Ok(Some(Options {
                 origin,
+                allow_update,
                 denied,
                 allowed,
             }))
@@ -183,7 +194,10 @@ fn options_for(
 fn are_options(words: &[String]) -> bool
     ensures { result ≡ are_options (map string_bytes words.now) }
 {
-    are_each_option(words) && zone_words(words) <= 1
+    are_each_option(words)
+        && update_words(words) <= 1
+        && path_words(words, ZONE) <= 1
+        && path_words(words, JOURNAL) <= 1
 }
 
 fn are_each_option(words: &[String]) -> bool
@@ -197,13 +211,37 @@ fn are_each_option(words: &[String]) -> bool
     true
 }
 
-/// How many words say where the zone text is.
-fn zone_words(words: &[String]) -> usize
-    ensures { result ≡ count_by is_zone_word (map string_bytes words.now) }
+/// How many words let updates in.
+fn update_words(words: &[String]) -> usize
+    ensures { result ≡ count_by is_update_word (map string_bytes words.now) }
 {
     let mut count = 0;
     for word in words {
-        if is_zone_word(word.as_str()) {
+        if is_update_word(word.as_str()) {
+            count += 1;
+        }
+    }
+    count
+}
+
+fn has_update(words: &[String]) -> bool
+    ensures { result ≡ list_any is_update_word (map string_bytes words.now) }
+{
+    for word in words {
+        if is_update_word(word.as_str()) {
+            return true;
+        }
+    }
+    false
+}
+
+/// How many words are this key and a path.
+fn path_words(words: &[String], key: &str) -> usize
+    ensures { result ≡ count_by (is_path_word key.now) (map string_bytes words.now) }
+{
+    let mut count = 0;
+    for word in words {
+        if is_path_word(word.as_str(), key) {
             count += 1;
         }
     }
@@ -213,13 +251,23 @@ fn zone_words(words: &[String]) -> usize
 fn is_option(word: &str) -> bool
     ensures { result ≡ is_option word.now }
 {
-    is_zone_word(word) || net_behind(word, DENY).is_some() || net_behind(word, ALLOW).is_some()
+    is_update_word(word)
+        || is_path_word(word, ZONE)
+        || is_path_word(word, JOURNAL)
+        || net_behind(word, DENY).is_some()
+        || net_behind(word, ALLOW).is_some()
 }
 
-fn is_zone_word(word: &str) -> bool
-    ensures { result ≡ is_zone_word word.now }
+fn is_update_word(word: &str) -> bool
+    ensures { result ≡ is_update_word word.now }
 {
-    match behind(word, ZONE) {
+    word == UPDATE
+}
+
+fn is_path_word(word: &str, key: &str) -> bool
+    ensures { result ≡ is_path_word key.now word.now }
+{
+    match behind(word, key) {
         Some(path) => path.len() > 0,
         None => false,
     }

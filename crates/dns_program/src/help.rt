@@ -7,14 +7,20 @@ pub const VERSION: &str = "dns 0.1.0\n";
 pub const HELP: &str = "\
 dns: an authoritative DNS server over lists of events
 
-usage: dns events ORIGIN [--zone=PATH] [--deny=IP/PREFIX]... [--allow=IP/PREFIX]...
+usage: dns events ORIGIN [--update] [--zone=PATH] [--journal=PATH] [--deny=IP/PREFIX]... [--allow=IP/PREFIX]...
        dns --help | --version
 
-events reads the zone at ORIGIN from the file PATH, and event lines from standard input. It answers each
-message that comes in, and writes a line for each reply. Without --zone= the zone text is empty.
+events reads the zone at ORIGIN from the file that --zone= names, and event lines from standard input. It answers
+each message that comes in, and writes a line for each reply. Without --zone= the zone text is empty.
 
-ORIGIN is the name at the top of the zone. The zone text is a master file (RFC 1035 5).
-Names in it are absolute, and the types are A, NS, CNAME, SOA and TXT.
+--update lets updates in (RFC 2136), from whoever is let in. An update that passes comes into the journal before it is
+answered. Without --update it is Refused.
+
+--journal= names the file of the journal. Where it has rows, the zone is what they stand for, and no zone text is
+read. Without it the journal is in memory, and gone when the program ends.
+
+ORIGIN is the name at the top of the zone. The zone text is a master file (RFC 1035 5), without $INCLUDE. Its types are
+A, AAAA, NS, CNAME, PTR, MX, SRV, SOA and TXT, and any other by its number (RFC 3597 5).
 
 --deny= and --allow= name networks: the addresses that have the first PREFIX bits of IP, at most 32 or 128 of them.
 Within the sender's own address family, a sender in an allowed network is let in; else one in a denied network is
@@ -44,10 +50,10 @@ Exit status, and the one line that is written in place of the output:
   2   zone text line L: KIND    line L of the zone text is faulty
   3   event line L              line L of the event text is faulty
   4   not valid                 the events break a rule above: a moment that falls or is too great, and so on
-  5   journal row R: KIND       row R of the journal is refused
+  5   journal row R: KIND       the rows of the journal are no zone's: row R is the first that is refused
   6   read fault                the zone text or the event text could not be read
   7                             the output could not be written
-  8   keeper fault              the journal could not be opened
+  8   keeper fault              the journal could not be read or opened
   9   too long                  the zone text has more than 16777216 bytes, or the event text more than 8388608
   10                            memory ran out
 

@@ -1,6 +1,7 @@
 //! The program: it does what the words of its command line say.
 #![tactic(auto)]
 
+mod closed_journal;
 mod command_line;
 mod event_text;
 mod help;
@@ -10,13 +11,15 @@ mod output;
 mod run;
 mod status;
 
-use crate::command_line::{Action, ZONE, action_of, path_of, unread_words};
+use crate::closed_journal::ClosedJournal;
+use crate::command_line::{Action, JOURNAL, ZONE, action_of, path_of, unread_words};
 use crate::help::{HELP, VERSION};
 use crate::output::put_text;
 use crate::run::run;
 use crate::status::{Ended, Status, after_writing};
 use dns_io::{FileSource, OutOfMemory, Reading, SystemClock, Writing};
-use dns_keeper::MemoryKeeper;
+use dns_journal::Journal;
+use dns_keeper::{Keeper, MemoryKeeper};
 use std::env;
 use std::fs::{self, File};
 use std::io::{self, BufWriter, Write};
@@ -61,12 +64,27 @@ fn obey<W: Write + Drop>(rt: &HostRuntime, words: &Vec<String>, out: &mut Writin
     }
 }
 
-/// Runs the command over the file that the words name, standard input, a journal in memory and the system's clock.
+/// Runs the command over the journal that the words name, or one in memory.
 fn command<W: Write + Drop>(rt: &HostRuntime, words: &Vec<String>, out: &mut Writing<W>) -> Status {
+    let Some(path) = path_of(words.as_slice(), JOURNAL) else {
+        return command_over(rt, words, MemoryKeeper::new(rt.alloc()), out);
+    };
+    match Journal::from_file(rt, path) {
+        Ok(journal) => command_over(rt, words, journal, out),
+        Err(error) => command_over(rt, words, ClosedJournal::after(&error), out),
+    }
+}
+
+/// Runs the command over this journal, the zone file that the words name, standard input and the system's clock.
+fn command_over<K: Keeper + Drop, W: Write + Drop>(
+    rt: &HostRuntime,
+    words: &Vec<String>,
+    keeper: K,
+    out: &mut Writing<W>,
+) -> Status {
     let mut zone = zone_source(rt, words);
     let mut events = Reading::new(rt.reader());
     let mut clock = SystemClock::new(rt);
-    let keeper = MemoryKeeper::new(rt.alloc());
     let Ended { status, keeper: _ } = run(
         rt.alloc(),
         words,

@@ -1,19 +1,21 @@
 //! The top call: what the words of the command line say is done.
 
-ghost use Rattle.std.specs.Prelude.{◌≡◌, ◌<◌, ◌≤◌, ◌^◌, length, IsSome, IfSome, IfNone, IfOk, IfErr, map, string_bytes};
+ghost use Rattle.std.specs.Prelude.{◌≡◌, ◌<◌, ◌≤◌, ◌^◌, length, IsSome, IfSome, IfNone, IfOk, IfErr, map, string_bytes, true, false};
 ghost use Rattle.dns_io.specs.Around.{around, around_sink};
 ghost use Rattle.dns_io.specs.Edge.{Keeps};
 ghost use Rattle.dns_name.specs.Name.{fold_of};
 ghost use Rattle.dns_zone_map.specs.Zone.{serial_of};
-ghost use Rattle.dns_book.specs.Opening.{HadNoRow, HadFirst};
+ghost use Rattle.dns_book.specs.Opening.{HadNoRow, HadRows};
 ghost use Rattle.dns_program.specs.declared.status.Status.TheVariants as status;
 ghost use Rattle.dns_program.specs.Lines.{output_lines};
 ghost use Rattle.dns_program.specs.Steps.{ReadsZone, ReadsNoZone, Finds, SeesNoRow, FindsNot, LoadsEvents, LoadsNoEvents, OpensNot, IsRefused};
+ghost use Rattle.dns_program.specs.World.{World};
 ghost use Rattle.dns_program.specs.Ends.{Ends};
-ghost use Rattle.dns_program.specs.Parts.{Prepares, IsReady, BeginsBook, unopened, SettlesEach, SettlesPart, SettlesAll, SettlesNot};
+ghost use Rattle.dns_program.specs.Completeness.{Completes};
+ghost use Rattle.dns_program.specs.Parts.{Prepares, IsReady, OpensBook, unopened, unkept, SettlesEach, SettlesPart, SettlesAll, SettlesNot};
 ghost use Rattle.dns_program.specs.Writing.{EndsWriting, EndsRefusing};
 
-use crate::command_line::{Networks, options_of};
+use crate::command_line::{Networks, Options, options_of};
 use crate::event_text::{EventFault, events_of};
 use crate::output::{put_output, put_refusal};
 use crate::status::{Ended, Status, after_writing};
@@ -22,7 +24,7 @@ use dns_io::{Clock, OutOfMemory, Sink, Source, read_to_end};
 use dns_keeper::{KeepFault, Keeper};
 use dns_name::Name;
 use dns_server_core::{Event, Out, Server};
-use dns_zone::{ReplayKind, Zone, ZoneTextFault, read_zone};
+use dns_zone::{Zone, ZoneTextFault, read_zone};
 use std::alloc::Global;
 
 /// The greatest length of a zone text, in bytes.
@@ -37,18 +39,14 @@ enum Opening {
     /// It has no row, and is begun with the zone of the zone text.
     Begin(Zone),
     /// It has rows, which are to be read back.
-    Recover {
-        /// The id of the first of them.
-        row: i64,
-    },
+    Recover,
 }
 
 /// All that the command `events` works on.
 #[derive(Drop)]
 struct Inputs {
+    options: Options,
     opening: Opening,
-    denied: Networks,
-    allowed: Networks,
     events: Vec<Event>,
 }
 
@@ -80,14 +78,14 @@ pub fn run<Z: Source, E: Source, W: Sink, K: Keeper, C: Clock>(
     out: &mut W,
 ) -> Ended<K>
     ensures keeper { IsSome result.keeper }
-    ensures ends { IfSome result.keeper (λ left. Ends K.rows (record {
+    ensures ends { IfSome result.keeper (λ left. let w : World = record {
       words = map string_bytes words.now.items;
       zone = around Z.left Z.faults zone.old zone.new;
       events = around E.left E.faults events.old events.new;
       journal = around K.rows K.faults keeper left;
       output = around_sink W.taken W.flushed W.faults out.old out.new;
       moment = C.last clock.new;
-    }) result.status) }
+    } in Ends K.rows K.faults w result.status × Completes w result.status) }
     ensures later_zone { Z.faults zone.old ≤ Z.faults zone.new }
     ensures later_events { E.faults events.old ≤ E.faults events.new }
     ensures later_output { W.faults out.old ≤ W.faults out.new }
@@ -142,15 +140,14 @@ fn prepare<Z: Source, E: Source, K: Keeper>(
     let opening = find_opening(alloc, &options.origin, zone, keeper)?;
     let events = load_events(alloc, events)?;
     Ok(Inputs {
+        options,
         opening,
-        denied: options.denied,
-        allowed: options.allowed,
         events,
     })
 }
 
-/// How the journal is opened: with the zone of the zone text, or, where it has rows, by those. The zone text is read only
-/// where the journal has no row.
+/// How the journal is to be opened: with the zone of the zone text, or, where it has rows, by those. The zone text is read
+/// only where the journal has no row.
 fn find_opening<Z: Source, K: Keeper>(
     alloc: Global,
     origin: &Name,
@@ -167,28 +164,35 @@ fn find_opening<Z: Source, K: Keeper>(
     ensures later { K.faults keeper.old ≤ K.faults keeper.new }
     ensures later_source { Z.faults source.old ≤ Z.faults source.new }
 {
-    match first_row(keeper)? {
-        Some(row) => Ok(Opening::Recover { row }),
-        None => {
-            let zone = read_zone_text(alloc, origin, source)?;
-            Ok(Opening::Begin(zone))
-        }
+    if has_rows(keeper)? {
+        return Ok(Opening::Recover);
     }
+    let zone = read_zone_text(alloc, origin, source)?;
+    Ok(Opening::Begin(zone))
 }
 
-/// The id of the journal's first row, none where it has no row.
-fn first_row<K: Keeper>(keeper: &mut K) -> Result<Option<i64>, Status>
-    ensures some { IfOk result (λ row. IfSome row (HadFirst (K.rows keeper.old) (K.rows keeper.new))) }
-    ensures none { IfOk result (λ row. IfNone row (HadNoRow (K.rows keeper.old) (K.rows keeper.new))) }
+/// Whether the journal has a row.
+fn has_rows<K: Keeper>(keeper: &mut K) -> Result<bool, Status>
+    ensures some { IfOk result (λ has. has ≡ true → HadRows (K.rows keeper.old) (K.rows keeper.new)) }
+    ensures none { IfOk result (λ has. has ≡ false → HadNoRow (K.rows keeper.old) (K.rows keeper.new)) }
     ensures err { IfErr result (SeesNoRow (around K.rows K.faults keeper.old keeper.new)) }
     ensures kept { Keeps (K.rows keeper.old) (K.rows keeper.new) }
     ensures later { K.faults keeper.old ≤ K.faults keeper.new }
 {
     match keeper.row_from(i64::MIN) {
-        Ok(Some(row)) => Ok(Some(row.id)),
-        Ok(None) => Ok(None),
-        Err(KeepFault::Failed) => Err(Status::KeeperFault),
-        Err(KeepFault::OutOfMemory) => Err(Status::OutOfMemory),
+        Ok(Some(_)) => Ok(true),
+        Ok(None) => Ok(false),
+        Err(fault) => Err(unkept(fault)),
+    }
+}
+
+/// The status of a journal that failed, or for which memory ran out.
+fn unkept(fault: KeepFault) -> Status
+    ensures { result ≡ unkept fault }
+{
+    match fault {
+        KeepFault::Failed => Status::KeeperFault,
+        KeepFault::OutOfMemory => Status::OutOfMemory,
     }
 }
 
@@ -230,52 +234,53 @@ fn serve<K: Keeper>(
 ) -> Result<Served<K>, ServeFault<K>>
     requires moment { moment < 2 ^ 47 }
     requires ready { IsReady inputs.opening (K.rows keeper) }
-    ensures ok { IfOk result (λ served. SettlesAll K.rows (K.rows keeper) inputs moment served.outs.items served.server) }
+    ensures ok { IfOk result (λ served. SettlesAll K.rows K.faults keeper inputs moment served.outs.items served.server) }
     ensures err { IfErr result (λ fault. SettlesNot K.rows K.faults keeper inputs moment fault.status fault.keeper) }
 {
     let Inputs {
+        options,
         opening,
-        denied,
-        allowed,
         events,
     } = inputs;
-    let book = open_book(alloc, opening, keeper, moment)?;
-    let served = settle_all(alloc, book, denied, allowed, &events)?;
+    let book = open_book(alloc, &options, opening, keeper, moment)?;
+    let served = settle_all(alloc, book, options.denied, options.allowed, &events)?;
     Ok(served)
 }
 
-/// Opens the journal at this moment. One with rows is refused: no rows are read back yet.
+/// Opens the journal at this moment: begins it with the zone, or reads it back.
 fn open_book<K: Keeper>(
     alloc: Global,
+    options: &Options,
     opening: Opening,
     keeper: K,
     moment: u64,
 ) -> Result<Book<K>, ServeFault<K>>
     requires moment { moment < 2 ^ 47 }
     requires ready { IsReady opening (K.rows keeper) }
-    ensures ok { IfOk result (BeginsBook K.rows (K.rows keeper) opening moment) }
-    ensures err { IfErr result (λ fault. OpensNot (around K.rows K.faults keeper fault.keeper) opening fault.status) }
+    ensures ok { IfOk result (OpensBook K.rows K.faults keeper options.now opening moment) }
+    ensures err { IfErr result (λ fault. OpensNot (around K.rows K.faults keeper fault.keeper) options.now.origin opening fault.status) }
     ensures kept { IfErr result (λ fault. Keeps (K.rows keeper) (K.rows fault.keeper)) }
 {
+    let allow_update = options.allow_update;
     match opening {
-        Opening::Begin(zone) => match Book::begin(alloc, keeper, false, moment, zone) {
+        Opening::Begin(zone) => match Book::begin(alloc, keeper, allow_update, moment, zone) {
+            Ok(book) => Ok(book),
+            Err(fault) => Err(ServeFault {
+                status: unkept(fault.fault),
+                keeper: fault.keeper,
+            }),
+        },
+        Opening::Recover => match Book::recover(alloc, keeper, &options.origin, allow_update) {
             Ok(book) => Ok(book),
             Err(fault) => Err(ServeFault {
                 status: unopened(fault.kind),
                 keeper: fault.keeper,
             }),
         },
-        Opening::Recover { row } => Err(ServeFault {
-            status: Status::Recovery {
-                row,
-                kind: ReplayKind::NotBuilt,
-            },
-            keeper,
-        }),
     }
 }
 
-/// The status of a journal that was not begun. A zone was handed over, so `NoZone` does not come.
+/// The status of a journal that was not read back. No zone is asked for then, so `NoZone` does not come.
 fn unopened(kind: OpenKind) -> Status
     ensures { result ≡ unopened kind }
 {
@@ -296,14 +301,15 @@ fn settle_all<K: Keeper>(
     events: &Vec<Event>,
 ) -> Result<Served<K>, ServeFault<K>>
     ensures ok { IfOk result (λ served.
-        SettlesEach (record { allowed = allowed; denied = denied }) book events.now.items served.outs.items served.server) }
+        SettlesEach K.rows K.faults (record { allowed = allowed; denied = denied }) book events.now.items served.outs.items served.server) }
     ensures err { IfErr result (λ fault.
-        SettlesPart (record { allowed = allowed; denied = denied }) book events.now.items fault.status fault.keeper) }
+        SettlesPart K.rows K.faults (record { allowed = allowed; denied = denied }) book events.now.items fault.status fault.keeper) }
 {
     let mut server = Server::with_access(alloc, book, denied.into_vec(), allowed.into_vec());
     if !server.valid_events(events) {
         return Err(given_up(server, Status::NotValid));
     }
+    server.failed_updates();
     let mut outs = Vec::new(alloc);
     match server.run_events(events, &mut outs) {
         Ok(()) => Ok(Served { server, outs }),

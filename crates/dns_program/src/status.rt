@@ -32,7 +32,7 @@ pub enum Status {
     },
     /// The events are no valid list. The journal was opened, and nothing else was done.
     NotValid,
-    /// The rows of the journal are refused.
+    /// The rows of the journal are no zone's.
     Recovery {
         /// The id of the first row that is refused.
         row: i64,
@@ -157,6 +157,8 @@ fn replay_kind_text(kind: ReplayKind) -> &'static str
     ensures { result.now ≡ replay_kind_text kind }
 {
     match kind {
-        ReplayKind::NotBuilt => "not built",
+        ReplayKind::NoRecord => "row is no record",
+        ReplayKind::OutOfPlace => "row out of place",
+        ReplayKind::NotOneSoa => "not one SOA",
     }
 }

@@ -1,7 +1,6 @@
 -- All connections, one event more.
-use Rattle.std.proofs.Common.{◌≡◌, ◌≤◌, ◌<◌, ℕ, ◌+◌, List, [], ◌∷◌, ◌++◌, length, take, drop, map, refl, sym, ap, ◌∙◌, append_assoc, append-nil, arith, zero, suc, cond, Bool, true, false, inl, inr, Option, Some, None, ◌&&◌, ◌||◌, rules, subst}
+use Rattle.std.proofs.Common.{◌≡◌, ℕ, List, [], ◌∷◌, ◌++◌, length, map, refl, sym, ap, ◌∙◌, append_assoc, append-nil, cond, Bool, true, false, Option, Some, None}
 use Rattle.std.proofs.lemmas.List.{map-append}
-use Rattle.std.proofs.lemmas.Grind.{flat_map-append}
 use Rattle.std.proofs.lemmas.List.Elements.{filter_map-append}
 use Rattle.std.specs.List.{flat_map, filter_map, cons_option, AllByRecursion}
 use Rattle.std.specs.Option.{option_and_then}
@@ -9,14 +8,12 @@ use Rattle.dns_server_core.specs.declared.connection.Connection.{Connection}
 use Rattle.dns_server_core.specs.Runs.{Completed}
 use Rattle.dns_server_core.specs.declared.event.Event.{Event}
 use Rattle.dns_server_core.specs.declared.event.Event.TheVariants.{Accepted, Bytes, Ended, Datagram, Tick, Stop}
-use Rattle.dns_frames.specs.Frames.{Cut, frames}
-use Rattle.dns_server_core.specs.Events.{moment, has_stop, is_stop}
-use Rattle.dns_server_core.specs.Valid.{StopIsLast}
-use Rattle.dns_server_core.specs.Connections.{is_safe, Arrival, Turn, Piece, Over, Other, turn_of, byte_events, is_ended, total, base, is_within, in_time, left_by, Start, completed_by, message_of, datagram_by, accepted, starts_in, starts, completed_at, done_from, left_at}
+use Rattle.dns_server_core.specs.Events.{moment}
+use Rattle.dns_server_core.specs.Connections.{is_safe, turn_of, byte_events, is_ended, total, base, in_time, left_by, Start, completed_by, message_of, datagram_by, accepted, starts_in, starts, completed_at}
 use Rattle.dns_server_core.specs.Steps.{moved, heard, step, completed_now, open_next}
 use Rattle.dns_server_core.specs.Order.{IsRest}
-use Rattle.dns_frames.proofs.Cutting.{frames-nil, frames-rest}
-use Rattle.dns_server_core.proofs.Pieces.{kept_by, pending, and_then, heard_by, pending-push, completed_by-is}
+use Rattle.dns_frames.proofs.Cutting.{frames-nil}
+use Rattle.dns_server_core.proofs.Pieces.{pending, and_then, heard_by, pending-push, completed_by-is}
 
 abbrev pub later_by : Event → Start → Start
 later_by e s = record { connection = s.connection; later = s.later ++ e ∷ [] }

@@ -1,5 +1,5 @@
 -- The connections that a list leaves.
-use Rattle.std.proofs.Common.{◌≡◌, ◌≤◌, ◌<◌, ℕ, ◌+◌, List, [], ◌∷◌, ◌++◌, length, map, refl, sym, ap, ◌∙◌, cond, Bool, true, false, Option, Some, None, ◌&&◌, ◌||◌, subst, inl, inr}
+use Rattle.std.proofs.Common.{◌≡◌, ℕ, List, [], ◌∷◌, ◌++◌, length, map, refl, sym, ap, ◌∙◌, cond, Bool, true, false, Option, Some, None, ◌&&◌, ◌||◌, subst, inl, inr}
 use Rattle.std.proofs.lemmas.Bool.{cases_Bool, cond-false}
 use Rattle.std.specs.List.{filter_map, filter, cons_option, AllByRecursion}
 use Rattle.std.specs.Option.{option_and_then}
@@ -9,7 +9,7 @@ use Rattle.dns_server_core.specs.declared.event.Event.TheVariants.{Accepted, Byt
 use Rattle.dns_server_core.specs.Events.{has_stop, is_stop}
 use Rattle.dns_server_core.specs.Valid.{StopIsLast}
 use Rattle.dns_server_core.specs.Connections.{byte_events, is_ended, base, is_within, in_time, left_by, Start, accepted, starts_in, starts, left_at, Kept}
-use Rattle.dns_server_core.specs.Order.{IsKept, IsRest, IsUpTo, Climbs, closed}
+use Rattle.dns_server_core.specs.Order.{IsKept, IsRest, IsUpTo, closed}
 use Rattle.dns_server_core.proofs.KeptOrder.{all_kept, climbs_kept}
 use Rattle.dns_server_core.proofs.Pieces.{pending}
 

@@ -10,3 +10,4 @@ pub mod ListsKept
 pub mod ListsHanded
 pub mod ValidTests
 pub mod PieceCut
+pub mod Failing

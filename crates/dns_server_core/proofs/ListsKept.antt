@@ -1,22 +1,21 @@
 -- A whole list, event by event.
-use Rattle.std.proofs.Common.{◌≡◌, ◌≤◌, ◌<◌, ℕ, ◌+◌, List, [], ◌∷◌, ◌++◌, length, map, refl, sym, ap, ◌∙◌, cond, Bool, true, false, Option, Some, None, ◌&&◌, ◌||◌, subst, inl, inr, append-nil, append_assoc, take, drop, get_or, arith, suc}
+use Rattle.std.proofs.Common.{◌≡◌, ◌<◌, ℕ, ◌+◌, List, [], ◌∷◌, ◌++◌, length, refl, sym, ap, ◌∙◌, cond, Bool, true, false, Option, Some, ◌||◌, subst, inl, inr, append-nil, take, drop, get_or, arith, suc}
 use Rattle.std.proofs.Math.Seq.{drop-cons}
 use Rattle.std.proofs.lemmas.List.{take_more, take-append-drop}
-use Rattle.std.proofs.lemmas.Bool.{cases_Bool, cond-false, cond-true}
+use Rattle.std.proofs.lemmas.Bool.{cases_Bool}
 use Rattle.std.proofs.lemmas.Grind.{flat_map-append}
 use Rattle.std.specs.List.{filter_map, filter, flat_map, AllByRecursion}
 use Rattle.dns_server_core.specs.declared.connection.Connection.{Connection}
 use Rattle.dns_server_core.specs.Runs.{Completed}
 use Rattle.dns_server_core.specs.declared.event.Event.{Event}
 use Rattle.dns_server_core.specs.Events.{moment, number_in, last_moment, last_number, has_stop, is_stop}
-use Rattle.dns_server_core.specs.Valid.{StopIsLast, Rises, Valid}
-use Rattle.dns_server_core.specs.Connections.{Kept, starts, left_at, is_within, after, done, done_from, completed_at}
+use Rattle.dns_server_core.specs.Valid.{StopIsLast, Rises}
+use Rattle.dns_server_core.specs.Connections.{Kept, starts, left_at, is_within, after, done_from}
 use Rattle.dns_server_core.specs.Serving.{IsCutOff}
 use Rattle.dns_server_core.specs.Steps.{completed_now, open_next}
 use Rattle.dns_server_core.specs.Order.{IsRest, next, closed}
-use Rattle.dns_server_core.proofs.Pieces.{pending}
 use Rattle.dns_server_core.proofs.AllConnections.{pendings, pendings-push, pendings-nil, completed_at-is}
-use Rattle.dns_server_core.proofs.Leaving.{alive_at, filter_alive, left-running, left-stopped}
+use Rattle.dns_server_core.proofs.Leaving.{filter_alive, left-running, left-stopped}
 
 -- what is kept after a front of a list, whatever moment it is
 abbrev pub so_far : Kept → List Event → Kept

@@ -1,11 +1,10 @@
 -- What one piece makes of a connection.
-use Rattle.std.proofs.Common.{◌≡◌, ◌≤◌, ◌<◌, ℕ, List, [], ◌∷◌, ◌++◌, refl, sym, ap, ◌∙◌, cond, Bool, true, false, Option, Some, None, Result, Ok, Err, map}
+use Rattle.std.proofs.Common.{◌≡◌, ℕ, List, [], ◌∷◌, ◌++◌, refl, sym, ap, ◌∙◌, true, Some, Result, Ok, Err}
 use Rattle.std.specs.Result.{OnErr, OnOk}
-use Rattle.std.proofs.lemmas.Bool.{cond-true, cond-false}
+use Rattle.std.proofs.lemmas.Bool.{cond-true}
 use Rattle.dns_server_core.specs.declared.connection.Connection.{Connection}
-use Rattle.dns_frames.specs.Frames.{Cut, frames, behind}
-use Rattle.dns_server_core.specs.Runs.{Completed}
-use Rattle.dns_server_core.specs.Connections.{Arrival, Piece, is_within, message_of}
+use Rattle.dns_frames.specs.Frames.{frames}
+use Rattle.dns_server_core.specs.Connections.{Arrival, Piece, is_within}
 use Rattle.dns_server_core.specs.Steps.{base_by, fed_by, moved, heard}
 
 pub on_err : {T E : Type 0} (r : Result T E) {P : Type 0} → P → OnErr r P

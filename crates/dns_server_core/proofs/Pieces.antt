@@ -1,14 +1,14 @@
 -- A connection's pieces, one more at the end.
-use Rattle.std.proofs.Common.{◌≡◌, ◌≤◌, ◌<◌, ℕ, ◌+◌, ◌*◌, List, [], ◌∷◌, ◌++◌, length, take, drop, map, get_or, refl, sym, ap, ◌∙◌, append_assoc, append-nil, arith, zero, suc, length-append, length-drop, ltb, cond, Bool, true, false, inl, inr, Option, Some, None, ◌&&◌, rules}
-use Rattle.std.proofs.lemmas.List.{take-append-le, drop-append-le, take_all, map-append, length-map, get_or_append_left}
+use Rattle.std.proofs.Common.{◌≡◌, ◌≤◌, ◌<◌, ℕ, List, [], ◌∷◌, ◌++◌, length, map, get_or, refl, sym, ap, ◌∙◌, append_assoc, append-nil, arith, zero, suc, length-append, ltb, cond, Bool, true, false, Option, Some, None, ◌&&◌}
+use Rattle.std.proofs.lemmas.List.{take-append-le, take_all, map-append, length-map, get_or_append_left}
 use Rattle.std.proofs.lemmas.Grind.{flat_map-append}
-use Rattle.std.proofs.Math.Seq.{drop-append_seam, get_or-append_seam, take-append_seam, take-length}
-use Rattle.std.proofs.lemmas.Bool.{ltb-true, ltb-false, le-ltb, lt-ltb, cond-true, cond-false, cases_lt}
+use Rattle.std.proofs.Math.Seq.{drop-append_seam, get_or-append_seam, take-length}
+use Rattle.std.proofs.lemmas.Bool.{le-ltb, lt-ltb, cond-true, cond-false}
 use Rattle.std.specs.List.{flat_map}
 use Rattle.std.specs.Option.{option_and_then}
 use Rattle.dns_server_core.specs.declared.connection.Connection.{Connection}
 use Rattle.dns_server_core.specs.declared.event.Event.{Event}
-use Rattle.dns_frames.specs.Frames.{Cut, frames, ahead}
+use Rattle.dns_frames.specs.Frames.{frames, ahead}
 use Rattle.dns_server_core.specs.Connections.{Arrival, Turn, Piece, Over, Other, turn_of, heading, ending, byte_events, is_ended, total, whole, moment_at, base, is_within, in_time, completed, left_by, Start, completed_with, completed_by}
 use Rattle.dns_server_core.specs.Steps.{base_by, fed_by, moved, heard}
 use Rattle.dns_frames.proofs.Cutting.{frames-more}

@@ -1,5 +1,5 @@
 -- Runs that follow one another.
-use Rattle.std.proofs.Common.{◌≡◌, ℕ, ◌+◌, ◌≤◌, List, [], ◌∷◌, ◌++◌, length, take, refl, sym, ap, subst, ◌∙◌, append_assoc, append-nil, length-append, arith, inl, inr, ◌⊎◌, Result, Ok, Err}
+use Rattle.std.proofs.Common.{◌≡◌, ℕ, ◌+◌, ◌≤◌, List, [], ◌∷◌, ◌++◌, length, take, refl, sym, ap, subst, ◌∙◌, append_assoc, append-nil, length-append, arith, inl, ◌⊎◌, Result, Ok, Err}
 use Rattle.std.proofs.Math.Seq.{take-append_seam}
 use Rattle.std.specs.Result.{OnErr, OnOk}
 use Rattle.dns_book.specs.Access.{Access}
@@ -107,15 +107,10 @@ module _ {H : Type 0} (serves : Access → H → Ask → Settled → H → Type 
   pub breaks_same : {T E : Type 0} (res : Result T E) (skips : H → H → Type 0) (a b : ResponderOf H) (xs ys : List Completed) → ys ≡ xs → OnErr res (Breaks serves skips a xs b) → OnErr res (Breaks serves skips a ys b)
   breaks_same res skips a b xs ys e h = subst (λ (l : List Completed). OnErr res (Breaks serves skips a l b)) (sym e) h
 
-  same_end : (x y : H) → (x ≡ y) ⊎ (x ≡ y) → x ≡ y
-  same_end x y (inl e) = e
-  same_end x y (inr e) = e
-
-  -- where a call that found no memory leaves the handler as it was, the run is over the first messages, as many as were counted
-  pub Breaks-first : (a c : ResponderOf H) (all : List Completed) → a.settled ≡ 0 → Breaks serves (λ (x y : H). y ≡ x) a all c
-      → (c.settled ≤ length all) × Answers (serves a.access) a.handler (take c.settled all) c.handler a.outs c.outs
-  Breaks-first a c all none h =
+  -- the run is over the first messages, as many as were counted
+  pub Breaks-first : (skips : H → H → Type 0) (a c : ResponderOf H) (all : List Completed) → a.settled ≡ 0 → (h : Breaks serves skips a all c)
+      → (c.settled ≤ length all) × Answers (serves a.access) a.handler (take c.settled all) h.last a.outs c.outs
+  Breaks-first skips a c all none h =
       let size : c.settled ≡ length h.front.front = omega (arith, none, h.front.handed.counted) in
-      let same : c.handler ≡ h.last = same_end c.handler h.last h.end in
       let first : take c.settled all ≡ h.front.front = ap (λ (k : ℕ). take k all) size ∙ ap (take (length h.front.front)) h.front.parts ∙ take-append_seam h.front.front h.rest in
-      (omega (arith, size, ap length h.front.parts, length-append h.front.front h.rest), rw (first, same) h.front.handed.answered)
+      (omega (arith, size, ap length h.front.parts, length-append h.front.front h.rest), rw first h.front.handed.answered)

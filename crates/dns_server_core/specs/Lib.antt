@@ -7,3 +7,4 @@ pub mod Steps
 pub mod Order
 pub mod Handing
 pub mod Serving
+pub mod Books

@@ -1,5 +1,5 @@
 -- What contracts see of a server, and what a list of events leaves where it was not served to its end.
-use Rattle.std.specs.Prelude.{◌≡◌, ◌≤◌, ℕ, List, [], ◌++◌, length, take, true, false}
+use Rattle.std.specs.Prelude.{◌≡◌, ◌≤◌, ◌⊎◌, ℕ, List, [], ◌++◌, length, take, true, false}
 use Rattle.std.specs.List.{flat_map}
 use Rattle.dns_book.specs.declared.ask.Ask.{Ask}
 use Rattle.dns_book.specs.declared.ask.Settled.{Settled}
@@ -29,14 +29,17 @@ pub record IsCutOff (before : Kept) (events : List Event) (after : Kept) : Type 
   pub running : after.stopped ≡ false
   pub none : after.connections ≡ []
 
--- memory ran out behind the first messages of a list, count of them: a run over these, and nothing more
-pub record StopsAt {H : Type 0} (serves : H → Ask → Settled → H → Type 0) (before : ServerOf H) (events : List Event) (after : ServerOf H) (old new : List Out) (count : ℕ) : Type 0 where
+-- memory ran out behind the first messages of a list, count of them: a run over these, and at most one call behind it that
+-- found no memory
+pub record StopsAt {H : Type 0} (serves : H → Ask → Settled → H → Type 0) (skips : H → H → Type 0) (before : ServerOf H) (events : List Event) (after : ServerOf H) (old new : List Out) (count : ℕ) : Type 0 where
   pub running : before.kept.stopped ≡ false
   pub some : count ≤ length (done before.kept events)
-  pub answered : Answers serves before.handler (take count (done before.kept events)) after.handler old new
+  pub last : H
+  pub answered : Answers serves before.handler (take count (done before.kept events)) last old new
+  pub end : (after.handler ≡ last) ⊎ skips last after.handler
   pub cut_off : IsCutOff before.kept events after.kept
 
 -- what stands where a list was not served to its end: after a stop that an earlier list took, everything as it was
-abbrev pub Leaves : {H : Type 0} → (H → Ask → Settled → H → Type 0) → ServerOf H → List Event → ServerOf H → List Out → List Out → RunFault → Type 0
-Leaves serves before events after old new Stopped = (before.kept.stopped ≡ true) × (after ≡ before) × (new ≡ old)
-Leaves serves before events after old new (OutOfMemory count) = StopsAt serves before events after old new count
+abbrev pub Leaves : {H : Type 0} → (H → Ask → Settled → H → Type 0) → (H → H → Type 0) → ServerOf H → List Event → ServerOf H → List Out → List Out → RunFault → Type 0
+Leaves serves skips before events after old new Stopped = (before.kept.stopped ≡ true) × (after ≡ before) × (new ≡ old)
+Leaves serves skips before events after old new (OutOfMemory count) = StopsAt serves skips before events after old new count

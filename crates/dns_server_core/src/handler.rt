@@ -6,8 +6,8 @@ use dns_book::{AccessControl, Ask, Book, Settled};
 use dns_io::OutOfMemory;
 use dns_keeper::Keeper;
 
-/// What settles messages.
-pub(crate) trait RequestHandler {
+/// What settles messages: a book, or what stands for one.
+pub trait RequestHandler {
     ghost use Rattle.dns_book.specs.declared.ask.Ask.{Ask};
     ghost use Rattle.dns_book.specs.declared.ask.Settled.{Settled};
     ghost use Rattle.dns_book.specs.Access.{Access};
@@ -18,6 +18,8 @@ pub(crate) trait RequestHandler {
     /// What a call may do that finds no memory.
     ghost skips: { Self → Self → Type 0 };
 
+    /// Settles one message at its moment (milliseconds, below 2^47), which has at most 65,535 bytes: gives the reply that
+    /// it is owed, where `access` says which sources are let in, and what it did to the journal.
     fn handle_request(&mut self, access: &AccessControl, ask: &Ask) -> Result<Settled, OutOfMemory>
         requires moment { ask.now.at < 2 ^ 47 }
         requires bytes { length ask.now.bytes ≤ 65535 }
@@ -25,13 +27,14 @@ pub(crate) trait RequestHandler {
         ensures err { OnErr result (skips self.old self.new) };
 }
 
+/// A book settles each message by `Book::settle`, on the zone that its rows stand for (RFC 2136 3). Where it finds no memory,
+/// nothing has changed but what its keeper does not tell.
 impl<K: Keeper> RequestHandler for Book<K> {
-    ghost use Rattle.std.specs.Prelude.{◌≡◌};
-    ghost use Rattle.dns_book.specs.Book.{Settles};
+    ghost use Rattle.dns_book.specs.Book.{Settles, IsLeft};
 
-    ghost serves = { λ access before ask settled after. Settles access before ask settled after };
+    ghost serves = { Settles K.rows K.faults };
 
-    ghost skips = { λ before after. after ≡ before };
+    ghost skips = { IsLeft K.rows K.faults };
 
     fn handle_request(
         &mut self,

@@ -12,9 +12,10 @@ mod sessions;
 mod valid;
 
 pub use dns_book::{
-    AccessControl, Ask, Book, IpNet, OpenFault, OpenKind, Receipt, ReplyBytes, Settled,
+    AccessControl, Ask, BeginFault, Book, IpNet, OpenFault, OpenKind, Receipt, ReplyBytes, Settled,
     UnsafeSource, sanitize_src_address,
 };
 pub use event::{Event, Out, Receiver};
 pub use fault::RunFault;
+pub use handler::RequestHandler;
 pub use server::Server;

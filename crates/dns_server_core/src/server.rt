@@ -2,18 +2,21 @@
 
 ghost use Rattle.std.specs.Prelude.{◌≡◌, ◌↔◌, ◌++◌, ◌∷◌, ℕ, List, length, [], OnOk, IfErr, true, false};
 ghost use Rattle.dns_zone_map.specs.Zone.{serial_of};
-ghost use Rattle.dns_book.specs.Book.{SeenOf, Settles, HasRows};
+ghost use Rattle.dns_book.specs.Access.{Access};
+ghost use Rattle.dns_book.specs.Book.{SeenOf, Settles, IsKept as IsBook};
 ghost use Rattle.dns_server_core.specs.Valid.{Valid};
 ghost use Rattle.dns_server_core.specs.Connections.{new_kept, done, after};
-ghost use Rattle.dns_server_core.specs.Runs.{Answers};
+ghost use Rattle.dns_server_core.specs.Runs.{Completed, Run, Answers};
 ghost use Rattle.dns_server_core.specs.Order.{IsKept};
 ghost use Rattle.dns_server_core.specs.Serving.{Leaves};
+ghost use Rattle.dns_server_core.specs.Books.{failures, RoseBy};
 ghost use Rattle.dns_server_core.specs.declared.event.Event.{Event as Happening};
 ghost use Rattle.dns_server_core.specs.declared.event.Event.TheVariants.{Bytes as Piece};
 ghost use Rattle.dns_server_core.specs.declared.event.Out.{Out as Sent};
 
 use crate::event::{Event, Out};
 use crate::fault::RunFault;
+use crate::handler::RequestHandler;
 use crate::responder::Responder;
 use crate::sessions::Sessions;
 use dns_book::{AccessControl, Book, IpNet};
@@ -93,16 +96,16 @@ impl<T> Server<T> {
     }
 }
 
-impl<K: Keeper> Server<Book<K>> {
-    /// Hands each message that the list completes to the book, in order, and adds the replies to `out`, each for its
+impl<T: RequestHandler> Server<T> {
+    /// Hands each message that the list completes to the handler, in order, and adds the replies to `out`, each for its
     /// message's receiver: framed for a connection, plain for the sender of a datagram. Room in `out` is made before a
-    /// message is handed over.
+    /// message is handed over. Where memory ran out, the messages before stay settled, and their replies stand in `out`.
     pub fn run_events(&mut self, events: &Vec<Event>, out: &mut Vec<Out>) -> Result<(), RunFault>
         requires { self.old.kept.stopped ≡ false → Valid self.old.kept events.now.items }
         ensures running { OnOk result (self.old.kept.stopped ≡ false) }
-        ensures ok { OnOk result (Answers (Settles self.old.access) self.old.handler (done self.old.kept events.now.items) self.new.handler out.old.items out.new.items) }
+        ensures ok { OnOk result (Answers (T.serves self.old.access) self.old.handler (done self.old.kept events.now.items) self.new.handler out.old.items out.new.items) }
         ensures after { OnOk result (self.new.kept ≡ after self.old.kept events.now.items) }
-        ensures err { IfErr result (Leaves (Settles self.old.access) self.old events.now.items self.new out.old.items out.new.items) }
+        ensures err { IfErr result (Leaves (T.serves self.old.access) T.skips self.old events.now.items self.new out.old.items out.new.items) }
         ensures access { self.new.access ≡ self.old.access }
     {
         if self.sessions.is_stopped() {
@@ -122,16 +125,26 @@ impl<K: Keeper> Server<Book<K>> {
     }
 
     /// A law: this call does nothing. A piece of a connection may be cut in two pieces of its moment, after any number of
-    /// lists: whatever run over the one list's messages leaves of the book and adds to what is sent, a run over the other's
-    /// may, and the other way round. So the replies are those of the bytes, however the bytes were cut.
+    /// lists: whatever run over the one list's messages leaves of the handler and adds to what is sent, a run over the
+    /// other's may, and the other way round. So the replies are those of the bytes, however the bytes were cut.
     pub fn cut_pieces(&self)
-        ensures { (front back : List Happening) (at number : ℕ) (piece more : List ℕ) (later : SeenOf K) (old new : List Sent)
+        ensures { (front back : List Happening) (at number : ℕ) (piece more : List ℕ) (later : T) (old new : List Sent)
             → Valid self.now.kept (front ++ Piece at number (piece ++ more) ∷ back)
-            → Answers (Settles self.now.access) self.now.handler (done self.now.kept (front ++ Piece at number (piece ++ more) ∷ back)) later old new
-            ↔ Answers (Settles self.now.access) self.now.handler (done self.now.kept (front ++ Piece at number piece ∷ Piece at number more ∷ back)) later old new }
+            → Answers (T.serves self.now.access) self.now.handler (done self.now.kept (front ++ Piece at number (piece ++ more) ∷ back)) later old new
+            ↔ Answers (T.serves self.now.access) self.now.handler (done self.now.kept (front ++ Piece at number piece ∷ Piece at number more ∷ back)) later old new }
     {
         self.sessions.keeps_order();
     }
+}
+
+impl<K: Keeper> Server<Book<K>> {
+    /// A law: this call does nothing. In a run of a book over messages no more updates get ServFail than its keeper's count
+    /// of faults rose, unless that stands at its last value.
+    pub fn failed_updates(&self)
+        ensures { (access : Access) (before later : SeenOf K) (asks : List Completed) (outs : List Sent)
+            → (ran : Run (Settles K.rows K.faults access) before asks outs later)
+            → RoseBy (failures K.rows K.faults access before asks outs later ran) (K.faults before.keeper) (K.faults later.keeper) }
+    {}
 
     /// The serial of the zone's SOA.
     pub fn serial(&self) -> u32
@@ -143,12 +156,13 @@ impl<K: Keeper> Server<Book<K>> {
     /// How many rows the journal has.
     pub fn journal_len(&self) -> u64
         ensures is { result ≡ self.now.handler.row_count }
-        ensures rows { HasRows (K.rows self.now.handler.keeper) result }
+        ensures book { IsBook K.rows self.now.handler }
     {
         self.responder.handler().journal_len()
     }
 
-    /// What was counted since the book was opened.
+    /// What was counted since the book was opened: each reply once, the records of each batch, and how many records the zone
+    /// has.
     pub fn counts(&self) -> &Counts
         ensures { result.now ≡ self.now.handler.counts }
     {

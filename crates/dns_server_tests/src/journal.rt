@@ -34,7 +34,14 @@ fn record(alloc: Global, address: u32) -> Result<Record, Fail>
     })
 }
 
-/// Asserts what the least row from an id on is: this id, client 3, serial 9, and the record with this address.
+/// The moment of each append, in milliseconds.
+const MOMENT: u64 = 1_700_000_000_000;
+
+/// Its stamp.
+const STAMP: &[u8] = b"2023-11-14 22:13:20.000";
+
+/// Asserts what the least row from an id on is: this id, client 3, serial 9, the moment's stamp, and the record with this
+/// address.
 fn expect_row(
     rt: &impl Abort,
     keeper: &mut MemoryKeeper,
@@ -46,7 +53,7 @@ fn expect_row(
     assert_eq!(rt; row.id, id);
     assert_eq!(rt; row.client, 3);
     assert_eq!(rt; row.serial, 9);
-    assert_eq!(rt; row.stamp.as_slice(), [].as_slice());
+    assert_eq!(rt; row.stamp.as_slice(), STAMP);
     let bytes = [1, b'a', 0, 0, 1, 0, 1, 0, 0, 0, 5, 0, 4, 0, 0, 0, address];
     assert_eq!(rt; row.bytes.as_slice(), bytes.as_slice());
     Ok(())
@@ -61,10 +68,13 @@ fn rows_and_failing_calls(rt: HostRuntime) -> Result<(), Fail> {
     let mut keeper = MemoryKeeper::failing(alloc, appends, reads);
     let records = batch(alloc)?;
     assert_eq!(rt; keeper.row_from(1).err(), Some(KeepFault::Failed));
-    assert_eq!(rt; keeper.append(3, 9, 0, &records), Ok(()));
-    assert_eq!(rt; keeper.append(3, 9, 1, &records), Err(KeepFault::Failed));
+    assert_eq!(rt; keeper.append(3, 9, MOMENT, &records), Ok(()));
+    assert_eq!(rt;
+        keeper.append(3, 9, MOMENT, &records),
+        Err(KeepFault::Failed)
+    );
     assert_eq!(rt; keeper.fault_count(), 2);
-    assert_eq!(rt; keeper.append(3, 9, 2, &records), Ok(()));
+    assert_eq!(rt; keeper.append(3, 9, MOMENT, &records), Ok(()));
     expect_row(&rt, &mut keeper, i64::MIN, 1, 1)?;
     expect_row(&rt, &mut keeper, 2, 2, 2)?;
     expect_row(&rt, &mut keeper, 3, 3, 1)?;
@@ -83,12 +93,15 @@ fn no_free_ids(rt: HostRuntime) -> Result<(), Fail> {
         id: i64::MAX - 1,
         client: 3,
         serial: 9,
-        stamp: Octets::new(alloc),
+        stamp: Octets::from_slice(alloc, STAMP)?,
         bytes: record(alloc, 7)?.to_vec(alloc)?,
     })?;
     let mut keeper = MemoryKeeper::from_rows(alloc, rows);
     let records = batch(alloc)?;
-    assert_eq!(rt; keeper.append(3, 9, 0, &records), Err(KeepFault::Failed));
+    assert_eq!(rt;
+        keeper.append(3, 9, MOMENT, &records),
+        Err(KeepFault::Failed)
+    );
     assert_eq!(rt; keeper.fault_count(), 1);
     expect_row(&rt, &mut keeper, 0, i64::MAX - 1, 7)?;
     assert!(rt; keeper.row_from(i64::MAX)?.is_none());

@@ -6,4 +6,8 @@ mod book;
 #[cfg(test)]
 mod journal;
 #[cfg(test)]
+mod opening;
+#[cfg(test)]
 mod server;
+#[cfg(test)]
+mod updates;

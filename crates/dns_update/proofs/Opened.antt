@@ -12,7 +12,7 @@ use Rattle.dns_wire.specs.declared.rdata.Data.TheVariants.{A, Aaaa, Ns, Cname, P
 use Rattle.dns_wire.specs.WireFormat.{data_bytes}
 use Rattle.dns_wire.specs.ReadBack.{ReadsBack}
 use Rattle.dns_wire.proofs.Back.{record_alone}
-use Rattle.dns_keeper.specs.Rows.{stamp_of, rows_of, appended}
+use Rattle.dns_keeper.specs.Rows.{rows_of, appended}
 use Rattle.dns_zone_map.specs.Changes.{put_over, at_serial, set_serial}
 use Rattle.dns_zone_map.specs.Zone.{is_type, serial_of, is_rival, IsEntry, IsZone}
 use Rattle.dns_update.specs.Change.{step}
@@ -113,14 +113,13 @@ taken_snapshot origin client k stamp name small =
     }
 
 -- what a journal begins with stands for the zone
-pub opened : (origin : List (List ℕ)) (client moment : ℕ) (records : List Record) → IsName origin → IsZone origin records → AllByRecursion ReadsBack records
-    → Replays origin (appended [] client (serial_of records) moment (opening_of (record { origin = origin; records = records }))) (Ok records)
-opened origin client moment records name zone back =
+pub opened : (origin : List (List ℕ)) (client : ℕ) (stamp : List ℕ) (records : List Record) → IsName origin → IsZone origin records → AllByRecursion ReadsBack records
+    → Replays origin (appended [] client (serial_of records) stamp (opening_of (record { origin = origin; records = records }))) (Ok records)
+opened origin client stamp records name zone back =
     let k : ℕ = serial_of records in
-    let stamp : List ℕ = stamp_of moment in
     let small : k < 2 ^ 32 = serial_small records back in
     let same : set_serial k records ≡ records = settled origin records zone.entries zone.distinct in
-    replay_of origin (appended [] client k moment (opening_of (record { origin = origin; records = records }))) records
+    replay_of origin (appended [] client k stamp (opening_of (record { origin = origin; records = records }))) records
     (runs_next origin 1 [] (row_at 1 client k stamp (snapshot_of origin)) (rows_of (pos 2) client k stamp records) [] (Ok records)
     (taken_snapshot origin client k stamp name small)
     (zone_runs origin 2 client k stamp [] records (omega arith) small zone.entries back zone.distinct same)) zone.soa

@@ -12,7 +12,7 @@ ghost use Rattle.dns_wire.specs.Messages.{MessageAt};
 ghost use Rattle.dns_wire.specs.ReadBack.{ReadsBack, IsOfItsType};
 ghost use Rattle.dns_keeper.specs.declared.row.Row.{Row as JournalRow};
 ghost use Rattle.dns_keeper.specs.Rows.{last_id, appended};
-ghost use Rattle.dns_zone_map.specs.Zone.{is_type, serial_of, IsEntry, IsSoFar, IsZone};
+ghost use Rattle.dns_zone_map.specs.Zone.{Contents, is_type, serial_of, IsEntry, IsSoFar, IsZone};
 ghost use Rattle.dns_zone_map.specs.Changes.{set_serial};
 ghost use Rattle.dns_update.specs.Change.{fold_record, step, steps, changes, batch_of, serial_after_batch, serial_after, applied};
 ghost use Rattle.dns_update.specs.declared.verdict.Verdict.TheVariants.{Passes};
@@ -24,6 +24,13 @@ pub fn serials()
     // A serial that is set before an addition or deletion and after it is as if it were set after it alone.
     ensures { (origin : List (List ℕ)) (records : List Record) (r : Record) (serial : ℕ)
         → set_serial serial (step origin (set_serial serial records) r) ≡ set_serial serial (step origin records r) }
+{}
+
+/// What holds of the verdict on an update.
+pub fn verdicts()
+    // An update that passes has passed the prescan (RFC 2136 3.4.1).
+    ensures { (zone : Contents) (message : Message) (allow_update : Bool) → verdict_of zone message allow_update ≡ Passes
+        → prescan zone.origin message.authority ≡ Passes }
 {}
 
 /// What holds of the batch of an update.
@@ -96,23 +103,23 @@ pub fn replays()
     ensures zone { (origin : List (List ℕ)) (rows : List JournalRow) (records : List Record) → fold_of origin ≡ origin
         → AreShortRows rows → Replays origin rows (Ok records) → IsZone origin records }
     // What a journal begins with stands for the zone that it was made of.
-    ensures opening { (origin : List (List ℕ)) (client moment : ℕ) (records : List Record) → IsName origin → IsZone origin records
+    ensures opening { (origin : List (List ℕ)) (client : ℕ) (stamp : List ℕ) (records : List Record) → IsName origin → IsZone origin records
         → AllByRecursion ReadsBack records
-        → Replays origin (appended [] client (serial_of records) moment (opening_of (record { origin = origin; records = records })))
+        → Replays origin (appended [] client (serial_of records) stamp (opening_of (record { origin = origin; records = records })))
         (Ok records) }
     // The last id is their number.
     ensures last { (origin : List (List ℕ)) (rows : List JournalRow) (records : List Record)
         → Replays origin rows (Ok records) → last_id rows ≡ pos (length rows) }
     // Grown by a batch that can be journalled, they stand for the zone after it.
-    ensures batch { (origin : List (List ℕ)) (rows : List JournalRow) (client moment : ℕ) (records batch : List Record)
+    ensures batch { (origin : List (List ℕ)) (rows : List JournalRow) (client : ℕ) (stamp : List ℕ) (records batch : List Record)
         → AllByRecursion (IsJournalledAsIs origin) batch → IsZone origin records → Replays origin rows (Ok records)
-        → Replays origin (appended rows client (serial_after_batch origin records batch) moment batch)
+        → Replays origin (appended rows client (serial_after_batch origin records batch) stamp batch)
         (Ok (applied origin records batch (serial_after_batch origin records batch))) }
     // Grown by the batch of an update that passes, they stand for the zone that the update leaves.
-    ensures update { (origin : List (List ℕ)) (rows : List JournalRow) (client moment : ℕ) (records : List Record) (message : Message) (allow_update : Bool)
+    ensures update { (origin : List (List ℕ)) (rows : List JournalRow) (client : ℕ) (stamp : List ℕ) (records : List Record) (message : Message) (allow_update : Bool)
         → IsZone origin records → AllByRecursion ReadsBack message.authority
         → verdict_of (record { origin = origin; records = records }) message allow_update ≡ Passes → Replays origin rows (Ok records)
-        → Replays origin (appended rows client (serial_after origin records message.authority) moment (batch_of origin records message.authority))
+        → Replays origin (appended rows client (serial_after origin records message.authority) stamp (batch_of origin records message.authority))
         (Ok (applied origin records (batch_of origin records message.authority) (serial_after origin records message.authority))) }
 {}
 

@@ -6,7 +6,6 @@ pub mod laws;
 mod lent;
 mod look;
 mod lookup;
-mod not_built;
 mod placement;
 mod replaying;
 mod update;
@@ -14,8 +13,8 @@ mod zone;
 mod zone_text;
 
 pub use dns_presentation::split_line;
+pub use dns_update::{Modified, ReplayKind, Verdict};
 pub use lookup::Looked;
-pub use not_built::ReplayKind;
 pub use replaying::{ReplayFault, Replaying, replay};
 pub use update::Prepared;
 pub use zone::Zone;

@@ -7,6 +7,7 @@ ghost use Rattle.dns_wire.specs.ReadBack.{ReadsBack};
 ghost use Rattle.dns_update.specs.declared.verdict.Verdict.TheVariants.{Passes};
 ghost use Rattle.dns_update.specs.Change.{batch_of, serial_after, applied};
 ghost use Rattle.dns_update.specs.Verdict.{prescan, verdict_of};
+ghost use Rattle.dns_zone_map.specs.Zone.{IsZone};
 ghost use Rattle.dns_update.specs.Replay.{IsJournalledAsIs};
 ghost use Rattle.dns_zone.specs.Updates.{zone_after, IsBatchOf, IsPreparedFor};
 
@@ -80,6 +81,7 @@ impl Zone {
         requires back { AllByRecursion ReadsBack updates.now }
         ensures batch { IfOk result (λ prepared. IsBatchOf self.now updates.now prepared.batch) }
         ensures prepared { IfOk result (IsPreparedFor self.now) }
+        ensures zone { IsZone self.now.origin self.now.records }
         ensures journalled { IfOk result (λ prepared. AllByRecursion (IsJournalledAsIs self.now.origin) prepared.batch.records) }
         ensures short { IfOk result (λ prepared. AreShort prepared.batch.records) }
     {

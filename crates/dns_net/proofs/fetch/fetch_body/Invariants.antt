@@ -1,5 +1,5 @@
 use Rattle.std.proofs.Common.{◌≡◌, ◌≤◌, ◌-◌, length}
-use Rattle.dns_io.specs.Edge.{Told}
+use Rattle.dns_io.specs.Edge.{Told, Takes}
 use Rattle.dns_net.proofs.Fetching.{TakesBytes}
 use Rattle.dns_net.proofs.fetch.fetch_body.Given as goal
 
@@ -7,6 +7,7 @@ abbrev pub invariant-loop-body : goal.invariant-loop-body
 invariant-loop-body g l =
     Told (TakesBytes l.body) (g.P.BodyPieces.left l.fn.stream) (g.P.BodyPieces.left l.stream)
     × (length l.body ≤ 65535)
+    × Takes (g.P.BodyPieces.left_bytes l.fn.stream) (g.P.BodyPieces.left_bytes l.stream) l.body
     × (g.P.BodyPieces.faults l.stream ≡ g.P.BodyPieces.faults l.fn.stream)
 
 abbrev pub decreases-loop-body : goal.decreases-loop-body

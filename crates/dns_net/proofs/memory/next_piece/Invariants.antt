@@ -1,5 +1,5 @@
 use Rattle.std.proofs.Common.{◌≡◌, length}
-use Rattle.dns_net.specs.Bodies.{from_bytes}
+use Rattle.dns_transport.specs.Pieces.{from_bytes}
 use Rattle.dns_net.proofs.memory.next_piece.Given as goal
 
 abbrev pub invariant-loop-piece : goal.invariant-loop-piece

@@ -1,27 +1,32 @@
-use Rattle.std.proofs.Common.{ℕ, Some, refl, sym, subst, Option}
-use Rattle.std.specs.Option.{option_map}
-use Rattle.dns_wire.specs.Written.{Written}
-use Rattle.dns_book.specs.declared.decision.Decision.{Decision}
-use Rattle.dns_book.specs.Owed.{reply_of, IsWritten}
-use Rattle.dns_book.proofs.Deciding.{counted_once, inside_decided}
+use Rattle.std.proofs.Common.{◌≡◌, subst, IfOk, Result, Ok, Err, None}
+use Rattle.dns_book.specs.declared.ask.Settled.{Settled}
+use Rattle.dns_book.specs.Book.{SeenOf, IsKept, Settles}
+use Rattle.dns_book.specs.Cases.{Decides}
+use Rattle.dns_book.specs.Outcome.{IsOutcome, CarriesOut}
+use Rattle.dns_book.proofs.Deciding.{fit_decided}
+use Rattle.dns_book.proofs.Carried.{Settles-silent, Settles-carried}
 use Rattle.dns_book.proofs.book.Book.settle.Goals as goal
 
-pub reply_of-requires : goal.reply_of-requires
-reply_of-requires g c = inside_decided _ _ _ _ _ c.in_ok-decision.ensures c.in-Some.is
+pub returns-in_default-clause-ok : goal.returns-in_default-clause-ok
+returns-in_default-clause-ok g c =
+    let given : c.unanswered.result ≡ record { reply = None; length = c.self.inside.row_count; receipt = None } = rw (← c.self.view_is) at c.unanswered.ensures in
+    subst (λ (b : SeenOf g.row.K.Denot). Settles g.K.Keeper.rows g.K.Keeper.faults c.args.access.now b c.args.ask.now c.unanswered.result b) c.self.view_is
+    (Settles-silent g.K.Keeper.rows g.K.Keeper.faults c.args.access.now _ c.args.ask.now _ c.unanswered.result c.self.invariant c.in_ok-decision.ensures c.in_default.is given)
+
+pub outcome_of-requires : goal.outcome_of-requires
+outcome_of-requires g c = fit_decided c.self.inside.zone c.args.access.now c.args.ask.now _ c.in-Some.decision c.as_slice.result.now c.read_updates.ensures c.as_slice.ensures c.in_ok-decision.ensures c.in-Some.is
+
+carried : {T E : Type 0} (result : Result T E) (P Q : T → Type 0) → ((t : T) → P t → Q t) → IfOk result P → IfOk result Q
+carried (Ok t) P Q step is = step t is
+carried (Err e) P Q step is = tt
 
 pub returns-clause-ok : goal.returns-clause-ok
 returns-clause-ok g c =
-    let counts = counted_once c.self.inside.zone _ c.in-Some.decision c.in_ok-reply.reply c.in_ok-written.written.bytes _ _ _ _ c.self.inside.counts _ c.in-Some.is c.asked_of-asked.ensures c.in_ok-reply.ensures.is c.in_ok-written.ensures.flags c.in_ok-written.ensures.answers c.in_ok-replied.ensures c.record.ensures in
-    let limited = subst (λ (n : ℕ). Written c.in_ok-reply.reply n c.in_ok-written.written.bytes) c.limit_of.ensures.is c.in_ok-written.ensures.bytes in
-    let written = subst (λ (r : _). IsWritten c.args.ask.now.protocol (Some r) (Some c.in_ok-written.written.bytes)) c.in_ok-reply.ensures.is limited in
-    rw (← c.self.view_is, c.settled-2.ensures.is, c.in_ok-bytes.ensures)
-    record {
-      reply = record {
-        decision = _;
-        decided = c.in_ok-decision.ensures;
-        written = subst (λ (d : Option Decision). IsWritten c.args.ask.now.protocol (option_map (reply_of c.self.inside.zone) d) (Some c.in_ok-written.written.bytes)) (sym c.in-Some.is) written;
-      };
-      length = refl;
-      receipt = refl;
-      same = rw counts refl;
-    }
+    carried c.carry_out.result
+    (λ (settled : Settled). CarriesOut g.K.Keeper.rows g.K.Keeper.faults c.args.self.now c.args.ask.now c.in_ok-outcome.outcome settled c.carry_out.new.self)
+    (λ (settled : Settled). Settles g.K.Keeper.rows g.K.Keeper.faults c.args.access.now c.args.self.now c.args.ask.now settled c.carry_out.new.self)
+    (λ (settled : Settled). Settles-carried g.K.Keeper.rows g.K.Keeper.faults c.args.access.now c.args.self.now c.args.ask.now _ c.in-Some.decision c.in_ok-outcome.outcome settled c.carry_out.new.self
+    (subst (λ (b : SeenOf g.row.K.Denot). IsKept g.K.Keeper.rows b) c.self.view_is c.self.invariant) c.carry_out.ensures.kept
+    (subst (λ (b : SeenOf g.row.K.Denot). Decides b.zone c.args.access.now c.args.ask.now c.in_ok-decision.field-0) c.self.view_is c.in_ok-decision.ensures) c.in-Some.is
+    (subst (λ (b : SeenOf g.row.K.Denot). IsOutcome b.zone b.allow_update c.args.ask.now.protocol c.in-Some.decision c.in_ok-outcome.outcome) c.self.view_is c.in_ok-outcome.ensures.is))
+    c.carry_out.ensures.ok

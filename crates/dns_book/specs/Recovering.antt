@@ -1,0 +1,64 @@
+-- How far the rows of a journal were read back.
+use Rattle.std.specs.Prelude.{◌≡◌, ℕ, ℤ, ◌++◌, List, length, Option, Result, Err}
+use Rattle.dns_io.specs.Edge.{Rose}
+use Rattle.dns_wire.specs.declared.record.Record.{Record}
+use Rattle.dns_keeper.specs.declared.row.Row.{Row}
+use Rattle.dns_keeper.specs.declared.keeper.KeepFault.{KeepFault}
+use Rattle.dns_keeper.specs.declared.keeper.KeepFault.TheVariants as keep
+use Rattle.dns_keeper.specs.Rows.{first_of, first_from, AreAscending}
+use Rattle.dns_update.specs.Replay.{Refusal}
+use Rattle.dns_zone.specs.declared.replaying.ReplayFault.{ReplayFault}
+use Rattle.dns_zone.specs.declared.replaying.ReplayFault.TheVariants as fault
+use Rattle.dns_zone.specs.Replayed.{Replayed}
+use Rattle.dns_zone.specs.Replaying.{HasTaken}
+use Rattle.dns_book.specs.declared.opening.OpenKind.{OpenKind}
+use Rattle.dns_book.specs.declared.opening.OpenKind.TheVariants.{Recovery, KeeperFault, NoZone, OutOfMemory}
+
+-- why a book is not opened, where rows are refused
+abbrev pub kind_of : ReplayFault → OpenKind
+kind_of (fault.Refused row kind) = Recovery row kind
+kind_of fault.OutOfMemory = OutOfMemory
+
+-- and where a call of the keeper is
+abbrev pub keeper_kind : KeepFault → OpenKind
+keeper_kind keep.Failed = KeeperFault
+keeper_kind keep.OutOfMemory = OutOfMemory
+
+-- a refusal of rows is how they end; want of memory says nothing of them
+abbrev pub TellsRefusal : (Result (List Record) Refusal → Type 0) → OpenKind → Type 0
+TellsRefusal Ends (Recovery row kind) = Ends (Err (record { row = row; kind = kind }))
+TellsRefusal Ends KeeperFault = ⊥
+TellsRefusal Ends NoZone = ⊥
+TellsRefusal Ends OutOfMemory = Unit {0}
+
+-- why a row was not read
+abbrev pub ReadsNot : ℕ → ℕ → OpenKind → Type 0
+ReadsNot faults now (Recovery row kind) = ⊥
+ReadsNot faults now KeeperFault = Rose faults now
+ReadsNot faults now NoZone = ⊥
+ReadsNot faults now OutOfMemory = Unit {0}
+
+-- the first of these ascending rows, or none
+pub record IsFirst (found : Option Row) (rows : List Row) : Type 0 where
+  pub is : found ≡ first_of rows
+  pub ascending : AreAscending rows
+
+-- the first of these ascending rows from an id on, or none
+pub record IsFirstFrom (id : ℤ) (found : Option Row) (rows : List Row) : Type 0 where
+  pub is : found ≡ first_from id rows
+  pub ascending : AreAscending rows
+
+-- of these ascending rows so many were taken, from the first on, and the next one is this, or there is none
+pub record IsReadUpTo (state : Replayed) (count : ℕ) (next : Option Row) (rows : List Row) : Type 0 where
+  pub front : List Row
+  pub rest : List Row
+  pub parts : rows ≡ front ++ rest
+  pub taken : HasTaken state front
+  pub number : length front ≡ count
+  pub follows : next ≡ first_of rest
+  pub ascending : AreAscending rows
+
+-- all these rows were taken, which are so many
+pub record AreTaken (state : Replayed) (count : ℕ) (rows : List Row) : Type 0 where
+  pub taken : HasTaken state rows
+  pub number : length rows ≡ count

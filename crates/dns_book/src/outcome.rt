@@ -1,0 +1,98 @@
+//! What a message comes to: its replies and the batch that it brings, made ready before anything changes.
+
+ghost use Rattle.std.specs.Prelude.{◌≡◌, ℕ, IfOk, IfSome, true, false};
+ghost use Rattle.dns_wire.specs.declared.reply.Reply.{Reply as Owing};
+ghost use Rattle.dns_book.specs.Owed.{reply_of, HasRoom, IsFit};
+ghost use Rattle.dns_book.specs.Outcome.{IsReady, AreMadeReady, records_in, prepared_in, IsFailedReady, IsOutcome};
+
+use crate::counted::{asked_of, replied_of};
+use crate::decision::Decision;
+use crate::owed::{Owed, limit_of, owed_by};
+use crate::reply_bytes::ReplyBytes;
+use dns_counts::{Asked, Replied};
+use dns_io::{OutOfMemory, Protocol};
+use dns_wire::Reply;
+use dns_wire::response_code::SERV_FAIL;
+use dns_zone::{Prepared, Zone};
+use std::alloc::Global;
+
+/// A reply that can be sent.
+#[derive(Drop)]
+pub(crate) struct ReadyReply {
+    /// What the counters are told of it.
+    pub(crate) replied: Replied,
+    /// Its written form, within its limit.
+    pub(crate) bytes: ReplyBytes,
+}
+
+/// An update that changes the zone.
+#[derive(Drop)]
+pub(crate) struct Change {
+    /// Its batch, and the zone after it.
+    pub(crate) prepared: Prepared,
+    /// The reply where the journal fails: ServFail.
+    pub(crate) failed: ReadyReply,
+}
+
+/// What a message comes to that is owed a reply.
+#[derive(Drop)]
+pub(crate) struct Outcome {
+    /// What the counters are told of the message.
+    pub(crate) asked: Asked,
+    /// The reply where the journal does not fail.
+    pub(crate) reply: ReadyReply,
+    /// Its change of the zone, where it makes one.
+    pub(crate) change: Option<Change>,
+}
+
+/// Makes everything ready for a message of which this was decided, so that nothing but the keeper can fail afterwards.
+pub(crate) fn outcome_of(
+    alloc: Global,
+    zone: &Zone,
+    allow_update: bool,
+    protocol: Protocol,
+    decision: Decision,
+) -> Result<Outcome, OutOfMemory>
+    requires { IsFit zone.now decision.case }
+    ensures is { IfOk result (IsOutcome zone.now allow_update protocol decision) }
+    ensures ready { IfOk result (λ outcome. AreMadeReady zone.now (prepared_in outcome.change)) }
+{
+    let asked = asked_of(&decision);
+    let owed = owed_by(alloc, zone, allow_update, decision)?;
+    let reply = ready_reply(alloc, protocol, &owed.reply)?;
+    let change = change_of(alloc, protocol, owed)?;
+    Ok(Outcome {
+        asked,
+        reply,
+        change,
+    })
+}
+
+/// The change that a message makes whose reply is owed and whose batch is made ready.
+fn change_of(alloc: Global, protocol: Protocol, owed: Owed) -> Result<Option<Change>, OutOfMemory>
+    requires { HasRoom owed.reply }
+    ensures prepared { IfOk result (λ change. prepared_in change ≡ owed.prepared) }
+    ensures failed { IfOk result (IsFailedReady protocol (record owed.reply { code = 2 })) }
+{
+    let Owed {
+        mut reply,
+        prepared,
+    } = owed;
+    let Some(prepared) = prepared else {
+        return Ok(None);
+    };
+    reply.code = SERV_FAIL;
+    let failed = ready_reply(alloc, protocol, &reply)?;
+    Ok(Some(Change { prepared, failed }))
+}
+
+/// Writes a reply.
+fn ready_reply(alloc: Global, protocol: Protocol, reply: &Reply) -> Result<ReadyReply, OutOfMemory>
+    requires { HasRoom reply.now }
+    ensures { IfOk result (IsReady protocol reply.now) }
+{
+    let written = reply.write(alloc, limit_of(protocol, reply.edns))?;
+    let replied = replied_of(alloc, reply, &written)?;
+    let bytes = ReplyBytes::new(written.bytes)?;
+    Ok(ReadyReply { replied, bytes })
+}

@@ -1,0 +1,169 @@
+//! The rows of a journal, read back one by one.
+
+ghost use Rattle.std.specs.Prelude.{◌≡◌, ◌≤◌, ◌++◌, ◌∷◌, ◌+ℤ◌, [], pos, List, IfOk, IfErr, IfSome, FitsSigned, OnOk, Ok};
+ghost use Rattle.std.specs.Int.{w64};
+ghost use Rattle.dns_name.specs.Name.{fold_of};
+ghost use Rattle.dns_io.specs.Edge.{Keeps};
+ghost use Rattle.dns_keeper.specs.declared.row.Row.{Row as JournalRow};
+ghost use Rattle.dns_update.specs.Replay.{Replays};
+ghost use Rattle.dns_zone.specs.Replaying.{HasTaken};
+ghost use Rattle.dns_book.specs.Book.{HasRows, StandFor};
+ghost use Rattle.dns_book.specs.Opening.{RecoversNot};
+ghost use Rattle.dns_book.specs.Recovering.{kind_of, keeper_kind, TellsRefusal, ReadsNot, IsFirst, IsFirstFrom, AreTaken};
+
+use crate::opening::OpenKind;
+use dns_keeper::{KeepFault, Keeper, Row};
+use dns_name::Name;
+use dns_zone::{ReplayFault, Replaying, Zone};
+use std::alloc::Global;
+
+/// A zone that was read back from rows.
+#[derive(Drop)]
+pub(crate) struct Recovered {
+    /// What the rows stand for.
+    pub(crate) zone: Zone,
+    /// How many they are.
+    pub(crate) row_count: u64,
+}
+
+/// Rows that were taken.
+#[derive(Drop)]
+struct Taken {
+    replaying: Replaying,
+    /// How many they are.
+    row_count: u64,
+}
+
+/// Reads all rows of a keeper back, from the least id on: the zone of this origin that they stand for.
+pub(crate) fn read_back<K: Keeper>(
+    alloc: Global,
+    keeper: &mut K,
+    origin: &Name,
+) -> Result<Recovered, OpenKind>
+    ensures origin { IfOk result (λ back. back.zone.origin ≡ fold_of origin.now) }
+    ensures count { IfOk result (λ back. HasRows (K.rows keeper.new) back.row_count) }
+    ensures zone { IfOk result (λ back. StandFor (K.rows keeper.new) back.zone) }
+    ensures err { IfErr result (RecoversNot (K.rows keeper.old) (K.rows keeper.new) (K.faults keeper.old) (K.faults keeper.new) origin.now) }
+    ensures kept { Keeps (K.rows keeper.old) (K.rows keeper.new) }
+    ensures later { K.faults keeper.old ≤ K.faults keeper.new }
+{
+    let Taken {
+        replaying,
+        row_count,
+    } = take_rows(alloc, keeper, origin)?;
+    match replaying.finish() {
+        Ok(zone) => Ok(Recovered { zone, row_count }),
+        Err(fault) => Err(kind_of(fault)),
+    }
+}
+
+/// Takes all rows of a keeper, from the least id on.
+fn take_rows<K: Keeper>(alloc: Global, keeper: &mut K, origin: &Name) -> Result<Taken, OpenKind>
+    ensures origin { IfOk result (λ taken. taken.replaying.origin ≡ fold_of origin.now) }
+    ensures all { IfOk result (λ taken. IfSome (K.rows keeper.new) (AreTaken taken.replaying taken.row_count)) }
+    ensures err { IfErr result (RecoversNot (K.rows keeper.old) (K.rows keeper.new) (K.faults keeper.old) (K.faults keeper.new) origin.now) }
+    ensures kept { Keeps (K.rows keeper.old) (K.rows keeper.new) }
+    ensures later { K.faults keeper.old ≤ K.faults keeper.new }
+{
+    let mut replaying = no_rows(alloc, origin)?;
+    let mut next = first_row(keeper)?;
+    for row_count in 0..u64::MAX {
+        let Some(row) = next else {
+            return Ok(Taken {
+                replaying,
+                row_count,
+            });
+        };
+        take_row(alloc, &mut replaying, &row)?;
+        next = row_behind(keeper, &row)?;
+    }
+    // No journal has so many rows.
+    Err(OpenKind::OutOfMemory)
+}
+
+/// No rows yet, of the journal of the zone that has this origin.
+fn no_rows(alloc: Global, origin: &Name) -> Result<Replaying, OpenKind>
+    ensures origin { IfOk result (λ replaying. replaying.origin ≡ fold_of origin.now) }
+    ensures none { IfOk result (λ replaying. HasTaken replaying []) }
+    ensures err { IfErr result (λ kind. kind ≡ OpenKind.OutOfMemory) }
+{
+    match Replaying::new(alloc, origin) {
+        Ok(replaying) => Ok(replaying),
+        Err(_) => Err(OpenKind::OutOfMemory),
+    }
+}
+
+/// Takes the next row.
+fn take_row(alloc: Global, replaying: &mut Replaying, row: &Row) -> Result<(), OpenKind>
+    ensures origin { replaying.new.origin ≡ replaying.old.origin }
+    ensures taken { OnOk result ((rows : List JournalRow) → HasTaken replaying.old rows → HasTaken replaying.new (rows ++ row.now ∷ [])) }
+    ensures err { IfErr result (TellsRefusal (λ end. (rows more : List JournalRow) → HasTaken replaying.old rows
+        → Replays replaying.old.origin (rows ++ row.now ∷ more) end)) }
+{
+    match replaying.take(alloc, row) {
+        Ok(()) => Ok(()),
+        Err(fault) => Err(kind_of(fault)),
+    }
+}
+
+/// The first row of a keeper, if it has any.
+fn first_row<K: Keeper>(keeper: &mut K) -> Result<Option<Row>, OpenKind>
+    ensures found { IfOk result (λ found. IfSome (K.rows keeper.new) (IsFirst found)) }
+    ensures err { IfErr result (ReadsNot (K.faults keeper.old) (K.faults keeper.new)) }
+    ensures kept { Keeps (K.rows keeper.old) (K.rows keeper.new) }
+    ensures later { K.faults keeper.old ≤ K.faults keeper.new }
+{
+    match keeper.row_from(i64::MIN) {
+        Ok(found) => Ok(found),
+        Err(fault) => Err(keeper_kind(fault)),
+    }
+}
+
+/// The row of a keeper that comes next behind a row, if there is one.
+fn row_behind<K: Keeper>(keeper: &mut K, row: &Row) -> Result<Option<Row>, OpenKind>
+    ensures found { IfOk result (λ found. IfSome (K.rows keeper.new) (IsFirstFrom (row.now.id +ℤ pos 1) found)) }
+    ensures err { IfErr result (ReadsNot (K.faults keeper.old) (K.faults keeper.new)) }
+    ensures kept { Keeps (K.rows keeper.old) (K.rows keeper.new) }
+    ensures later { K.faults keeper.old ≤ K.faults keeper.new }
+{
+    // The ids of rows that were taken count them, and no journal has so many.
+    let Some(id) = id_behind(row) else {
+        return Err(OpenKind::OutOfMemory);
+    };
+    match keeper.row_from(id) {
+        Ok(found) => Ok(found),
+        Err(fault) => Err(keeper_kind(fault)),
+    }
+}
+
+/// The id that follows a row's, if there is one.
+fn id_behind(row: &Row) -> Option<i64>
+    ensures next { IfSome result (λ id. id ≡ row.now.id +ℤ pos 1) }
+    ensures fits { IfSome result (FitsSigned w64) }
+{
+    if row.id == i64::MAX {
+        None
+    } else {
+        Some(row.id + 1)
+    }
+}
+
+/// Why a book is not opened, where rows are refused.
+fn kind_of(fault: ReplayFault) -> OpenKind
+    ensures { result ≡ kind_of fault }
+{
+    match fault {
+        ReplayFault::Refused { row, kind } => OpenKind::Recovery { row, kind },
+        ReplayFault::OutOfMemory => OpenKind::OutOfMemory,
+    }
+}
+
+/// Why a book is not opened, where a call of its keeper is refused.
+pub(crate) fn keeper_kind(fault: KeepFault) -> OpenKind
+    ensures { result ≡ keeper_kind fault }
+{
+    match fault {
+        KeepFault::Failed => OpenKind::KeeperFault,
+        KeepFault::OutOfMemory => OpenKind::OutOfMemory,
+    }
+}

@@ -1,0 +1,108 @@
+//! How what a message comes to is carried out: the one append, the zone, the counts.
+
+ghost use Rattle.std.specs.Prelude.{◌≡◌, ◌<◌, ◌^◌, IfOk, OnErr, None, Some};
+ghost use Rattle.dns_counts.specs.Counters.{recorded, changed};
+ghost use Rattle.dns_book.specs.Book.{IsKept, IsLeft};
+ghost use Rattle.dns_book.specs.Outcome.{IsMadeReady, AreMadeReady, prepared_in, Journals, CarriesOut};
+
+use crate::ask::{Ask, Receipt, Settled};
+use crate::book::Book;
+use crate::outcome::{Change, Outcome, ReadyReply};
+use dns_counts::{Asked, Counts};
+use dns_io::OutOfMemory;
+use dns_keeper::{KeepFault, Keeper};
+use dns_update::laws::replays;
+use dns_zone::{Modified, Prepared};
+
+impl<K: Keeper> Book<K> {
+    /// Carries out what a message comes to: a change of the zone is journalled by one append, and then the zone is
+    /// changed; the reply is counted. Where memory ran out, nothing has changed.
+    pub(crate) fn carry_out(&mut self, ask: &Ask, outcome: Outcome) -> Result<Settled, OutOfMemory>
+        requires moment { ask.now.at < 2 ^ 47 }
+        requires ready { AreMadeReady self.old.zone (prepared_in outcome.change) }
+        ensures ok { IfOk result (λ settled. CarriesOut K.rows K.faults self.old ask.now outcome settled self.new) }
+        ensures kept { IsKept K.rows self.new }
+        ensures err { OnErr result (IsLeft K.rows K.faults self.old self.new) }
+    {
+        let Outcome {
+            asked,
+            reply,
+            change,
+        } = outcome;
+        let Some(change) = change else {
+            return Ok(self.answered(&asked, reply, None));
+        };
+        let Change { prepared, failed } = change;
+        match self.journal(ask, prepared) {
+            Ok(receipt) => Ok(self.answered(&asked, reply, Some(receipt))),
+            Err(KeepFault::Failed) => Ok(self.answered(&asked, failed, None)),
+            Err(KeepFault::OutOfMemory) => Err(OutOfMemory),
+        }
+    }
+
+    /// Journals a batch that was made ready, by one append, and then changes the zone. Where the keeper refuses, nothing
+    /// has changed.
+    fn journal(&mut self, ask: &Ask, prepared: Prepared) -> Result<Receipt, KeepFault>
+        requires moment { ask.now.at < 2 ^ 47 }
+        requires ready { IsMadeReady self.old.zone prepared }
+        ensures is { Journals K.rows K.faults self.old ask.now prepared.batch.records result self.new }
+        ensures kept { IsKept K.rows self.new }
+    {
+        replays();
+        let records = prepared.records();
+        let count = records.len() as u64;
+        let Some(row_count) = self.row_count.checked_add(count) else {
+            return Err(KeepFault::OutOfMemory);
+        };
+        match self
+            .keeper
+            .append(ask.client, prepared.serial(), ask.at, records)
+        {
+            Ok(()) => {}
+            Err(fault) => return Err(fault),
+        }
+        let receipt = Receipt {
+            client: ask.client,
+            first: self.row_count + 1,
+            count,
+        };
+        let modified = prepared.modified();
+        self.zone.adopt(prepared);
+        self.row_count = row_count;
+        count_change(&mut self.counts, modified, self.zone.len() as u64);
+        Ok(receipt)
+    }
+
+    /// Counts the reply to a message.
+    fn answered(&mut self, asked: &Asked, reply: ReadyReply, receipt: Option<Receipt>) -> Settled
+        ensures book { self.new ≡ record self.old { counts = recorded asked.now reply.replied self.old.counts } }
+        ensures kept { IsKept K.rows self.new }
+        ensures settled { result ≡ record { reply = Some reply.bytes; length = self.old.row_count; receipt = receipt } }
+    {
+        let ReadyReply { replied, bytes } = reply;
+        self.counts.record(asked, &replied);
+        Settled {
+            reply: Some(bytes),
+            length: self.row_count,
+            receipt,
+        }
+    }
+
+    /// What settling a message gives that is owed no reply.
+    pub(crate) fn unanswered(&self) -> Settled
+        ensures { result ≡ record { reply = None; length = self.now.row_count; receipt = None } }
+    {
+        Settled {
+            reply: None,
+            length: self.row_count,
+            receipt: None,
+        }
+    }
+}
+
+/// Counts a change of the zone, which then has so many records.
+fn count_change(counts: &mut Counts, modified: Modified, records: u64)
+    ensures { counts.new ≡ changed (record { added = modified.added; deleted = modified.deleted; updated = modified.updated; records = records }) counts.old }
+{
+    counts.changed(modified.added, modified.deleted, modified.updated, records);
+}

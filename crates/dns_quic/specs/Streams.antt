@@ -1,0 +1,147 @@
+-- Messages on a stream, each behind its length (RFC 9250 4.2, RFC 1035 4.2.2).
+use Rattle.std.specs.Prelude.{◌≡◌, ℕ, ◌+◌, ◌*◌, ◌<◌, ◌≤◌, ◌==◌, nat_lt, true, List, [], ◌∷◌, ◌++◌, length, Option, Result, Ok, Err, MatchBool, MatchResult}
+use Rattle.std.specs.Int.{w16, to_be_bytes}
+use Rattle.dns_io.specs.Edge.{Told, Keeps, Grows, GrowsByPrefix}
+use Rattle.dns_name.specs.declared.fault.ProtoError.{ProtoError}
+use Rattle.dns_wire.specs.declared.message.Message.{Message}
+use Rattle.dns_wire.specs.MessageBytes.{message_bytes, TellsTooLong}
+use Rattle.dns_transport.specs.Faults.{of_proto}
+use Rattle.dns_transport.specs.Messages.{with_id_0, ReadsMessage}
+use Rattle.dns_transport.specs.declared.error.NetError.{NetError}
+use Rattle.dns_transport.specs.declared.error.NetError.TheVariants.{QuicMessageIdNot0, FinishedEarly, MaxBufferSizeExceeded, UnknownStream, Io, OutOfMemory}
+use Rattle.dns_quic.specs.declared.halves.StreamEnd.{StreamEnd}
+use Rattle.dns_quic.specs.declared.halves.StreamEnd.TheVariants.{Reset}
+use Rattle.dns_quic.specs.declared.quic_stream.QuicStream.{QuicStream}
+
+-- a message behind its length
+abbrev pub frame_bytes : List ℕ → List ℕ
+frame_bytes message = to_be_bytes w16 (length message) ++ message
+
+-- a fault of reading or writing
+abbrev pub IsIoFault : NetError → Type 0
+IsIoFault Io = Unit {0}
+IsIoFault OutOfMemory = Unit {0}
+IsIoFault _ = ⊥
+
+-- all these bytes were taken, or after a fault a front of them
+abbrev pub TakesBytes : Option (List ℕ) → Option (List ℕ) → List ℕ → Result (Unit {0}) NetError → Type 0
+TakesBytes before now bytes result =
+    MatchResult result
+    (λ _. Grows before now bytes)
+    (λ fault. IsIoFault fault × ((rest : List ℕ) × GrowsByPrefix before now bytes rest))
+
+-- what sending these bytes as a message does: they are too many, or else the sending half was ended before, or else it took
+-- them
+abbrev pub SendsBytes : {S R : Type 0} → (S → Option (List ℕ)) → (S → Option (List StreamEnd)) → QuicStream S R → List ℕ → Result (Unit {0}) NetError → QuicStream S R → Type 0
+SendsBytes taken ends before bytes result after =
+    MatchBool (nat_lt 65535 (length bytes))
+    ((result ≡ Err (MaxBufferSizeExceeded (length bytes))) × (after ≡ before))
+    (MatchBool before.is_ended
+    ((result ≡ Err UnknownStream) × (after ≡ before))
+    (TakesBytes (taken before.send) (taken after.send) (frame_bytes bytes) result
+    × Keeps (ends before.send) (ends after.send)
+    × (after ≡ record before { send = after.send })))
+
+-- the bytes of a message with the id 0, or why there are none
+abbrev pub Encodes : Message → Result (List ℕ) NetError → Type 0
+Encodes message made =
+    MatchResult made
+    (λ bytes. (bytes ≡ message_bytes (with_id_0 message)) × (length bytes ≤ 65535))
+    (λ fault. (error : ProtoError) × (fault ≡ of_proto error) × TellsTooLong message error)
+
+-- what sending a message does
+abbrev pub SendsMessage : {S R : Type 0} → (S → Option (List ℕ)) → (S → Option (List StreamEnd)) → QuicStream S R → Message → Result (Unit {0}) NetError → QuicStream S R → Type 0
+SendsMessage taken ends before message result after =
+    (made : Result (List ℕ) NetError) × Encodes message made
+    × MatchResult made
+    (λ bytes. SendsBytes taken ends before bytes result after)
+    (λ fault. (result ≡ Err fault) × (after ≡ before))
+
+-- what ending the sending half so does, where it was not ended before: after a fault it is not
+abbrev pub EndsSo : {S R : Type 0} → (S → Option (List ℕ)) → (S → Option (List StreamEnd)) → QuicStream S R → StreamEnd → Result (Unit {0}) NetError → QuicStream S R → Type 0
+EndsSo taken ends before end result after =
+    Keeps (taken before.send) (taken after.send)
+    × MatchResult result
+    (λ _. Grows (ends before.send) (ends after.send) (end ∷ []) × (after ≡ record before { send = after.send; is_ended = true }))
+    (λ fault. IsIoFault fault × Keeps (ends before.send) (ends after.send) × (after ≡ record before { send = after.send }))
+
+-- what ending the sending half so does
+abbrev pub Ends : {S R : Type 0} → (S → Option (List ℕ)) → (S → Option (List StreamEnd)) → QuicStream S R → StreamEnd → Result (Unit {0}) NetError → QuicStream S R → Type 0
+Ends taken ends before end result after =
+    MatchBool before.is_ended ((result ≡ Err UnknownStream) × (after ≡ before)) (EndsSo taken ends before end result after)
+
+-- what stopping the receiving half does
+abbrev pub Stops : {S R : Type 0} → (R → Option (List ℕ)) → (R → Option (List ℕ)) → QuicStream S R → ℕ → Result (Unit {0}) NetError → QuicStream S R → Type 0
+Stops left stops before code result after =
+    MatchBool before.is_stopped ((result ≡ Err UnknownStream) × (after ≡ before))
+    (Keeps (left before.recv) (left after.recv)
+    × MatchResult result
+    (λ _. Grows (stops before.recv) (stops after.recv) (code ∷ []) × (after ≡ record before { recv = after.recv; is_stopped = true }))
+    (λ fault. IsIoFault fault × Keeps (stops before.recv) (stops after.recv) × (after ≡ record before { recv = after.recv })))
+
+-- the bytes end before a message and its length do, after so many bytes of the length or of the message
+abbrev pub EndsEarly : List ℕ → ℕ → Type 0
+EndsEarly [] count = count ≡ 0
+EndsEarly (high ∷ []) count = count ≡ 1
+EndsEarly (high ∷ low ∷ bytes) count = (length bytes < high * 256 + low) × (count ≡ length bytes)
+
+-- no more bytes than one message and its length have
+abbrev pub IsPart : List ℕ → Type 0
+IsPart [] = Unit {0}
+IsPart (high ∷ []) = Unit {0}
+IsPart (high ∷ low ∷ bytes) = length bytes ≤ high * 256 + low
+
+-- a part of a message and its length was taken
+pub record TakesPart (left rest : List ℕ) : Type 0 where
+  pub front : List ℕ
+  pub parts : left ≡ front ++ rest
+  pub is_part : IsPart front
+
+-- what comes of the bytes that are left: the message that they begin with
+abbrev pub ReceivesFrame : Result (List ℕ) NetError → List ℕ → List ℕ → Type 0
+ReceivesFrame (Ok message) left rest = left ≡ frame_bytes message ++ rest
+ReceivesFrame (Err (FinishedEarly count)) left rest = (rest ≡ []) × EndsEarly left count
+ReceivesFrame (Err Io) left rest = TakesPart left rest
+ReceivesFrame (Err OutOfMemory) left rest = TakesPart left rest
+ReceivesFrame (Err _) left rest = ⊥
+
+-- what may come whatever is told: a message of at most 65,535 bytes, the end of the stream, or a fault of reading
+abbrev pub IsReceived : Result (List ℕ) NetError → Type 0
+IsReceived (Ok message) = length message ≤ 65535
+IsReceived (Err (FinishedEarly count)) = count < 65535
+IsReceived (Err Io) = Unit {0}
+IsReceived (Err OutOfMemory) = Unit {0}
+IsReceived (Err _) = ⊥
+
+-- what receiving the bytes of a message does
+abbrev pub ReceivesBytes : {S R : Type 0} → (R → Option (List ℕ)) → (R → Option (List ℕ)) → QuicStream S R → Result (List ℕ) NetError → QuicStream S R → Type 0
+ReceivesBytes left stops before result after =
+    MatchBool before.is_stopped ((result ≡ Err UnknownStream) × (after ≡ before))
+    (Told (ReceivesFrame result) (left before.recv) (left after.recv)
+    × IsReceived result
+    × Keeps (stops before.recv) (stops after.recv)
+    × (after ≡ record before { recv = after.recv }))
+
+-- a message must have the id 0 (RFC 9250 4.2.1): else the sending half is reset, whatever that answers
+abbrev pub ChecksId : {S R : Type 0} → (S → Option (List ℕ)) → (S → Option (List StreamEnd)) → QuicStream S R → Message → Result Message NetError → QuicStream S R → Type 0
+ChecksId taken ends before message result after =
+    MatchBool (message.header.id == 0)
+    ((result ≡ Ok message) × (after ≡ before))
+    ((result ≡ Err (QuicMessageIdNot0 message.header.id))
+    × ((answer : Result (Unit {0}) NetError) × EndsSo taken ends before (Reset 2) answer after))
+
+-- what a received message says: it reads, and has the id 0
+abbrev pub ReadsChecked : {S R : Type 0} → (S → Option (List ℕ)) → (S → Option (List StreamEnd)) → QuicStream S R → List ℕ → Result Message NetError → QuicStream S R → Type 0
+ReadsChecked taken ends before bytes result after =
+    (read : Result Message NetError) × ReadsMessage bytes read
+    × MatchResult read
+    (λ message. ChecksId taken ends before message result after)
+    (λ fault. (result ≡ Err fault) × (after ≡ before))
+
+-- what receiving a message does
+abbrev pub ReceivesMessage : {S R : Type 0} → (S → Option (List ℕ)) → (S → Option (List StreamEnd)) → (R → Option (List ℕ)) → (R → Option (List ℕ)) → QuicStream S R → Result Message NetError → QuicStream S R → Type 0
+ReceivesMessage {S} {R} taken ends left stops before result after =
+    (between : QuicStream S R) × (received : Result (List ℕ) NetError) × ReceivesBytes left stops before received between
+    × MatchResult received
+    (λ bytes. ReadsChecked taken ends between bytes result after)
+    (λ fault. (result ≡ Err fault) × (after ≡ between))

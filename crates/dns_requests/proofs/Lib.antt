@@ -1,0 +1,4 @@
+pub mod Replies
+pub mod LongerRuns
+pub mod MoreArrivals
+pub mod Going

@@ -1,0 +1,84 @@
+-- Runs that follow one another.
+use Rattle.std.proofs.Common.{◌≡◌, ◌∙◌, ℕ, List, [], ◌∷◌, ◌++◌, Result, Ok, Err, refl, sym, ap, subst, inl, inr}
+use Rattle.std.proofs.lemmas.List.{append_assoc, append-nil}
+use Rattle.std.specs.Result.{OnErr}
+use Rattle.dns_book.specs.declared.ask.Ask.{Ask}
+use Rattle.dns_book.specs.declared.ask.Settled.{Settled}
+use Rattle.dns_requests.specs.Replies.{frame_for}
+use Rattle.dns_requests.specs.Runs.{Run, Adds, Halts}
+
+module _ {H : Type 0} (serves : H → Ask → Settled → H → Type 0) where
+  -- a run, and then another
+  pub Run-append : (a b c : H) (xs ys : List Ask) (os ps : List ℕ) → Run serves a xs os b → Run serves b ys ps c → Run serves a (xs ++ ys) (os ++ ps) c
+  Run-append a b c [] ys os ps r s = rw r.1 (subst (λ (h : H). Run serves h ys ps c) r.0 s)
+  Run-append a b c (x ∷ xs) ys os ps r s = (
+    r.0,
+    r.1,
+    r.2 ++ ps,
+    r.3,
+    ap (λ (ts : List ℕ). ts ++ ps) r.4 ∙ append_assoc (frame_for r.0.reply) r.2 ps,
+    Run-append r.1 b c xs ys r.2 ps r.5 s,
+  )
+
+  -- one message was settled
+  pub Run-one : (a b : H) (ask : Ask) (settled : Settled) → serves a ask settled b → Run serves a (ask ∷ []) (frame_for settled.reply) b
+  Run-one a b ask settled s = (settled, b, [], s, sym (append-nil (frame_for settled.reply)), (refl, refl))
+
+  pub Adds-none : (a : H) (old : List ℕ) → Adds serves a [] a old old
+  Adds-none a old = record { bytes = []; run = (refl, refl); added = sym (append-nil old) }
+
+  pub Adds-append : (a b c : H) (xs ys : List Ask) (old mid new : List ℕ) → Adds serves a xs b old mid → Adds serves b ys c mid new → Adds serves a (xs ++ ys) c old new
+  Adds-append a b c xs ys old mid new p q = record {
+    bytes = p.bytes ++ q.bytes;
+    run = Run-append a b c xs ys p.bytes q.bytes p.run q.run;
+    added = q.added ∙ ap (λ (ts : List ℕ). ts ++ q.bytes) p.added ∙ append_assoc old p.bytes q.bytes;
+  }
+
+  -- the first of all messages were settled, and these are left
+  pub record Goes (a : H) (all : List Ask) (b : H) (left : List Ask) (old new : List ℕ) : Type 0 where
+    pub first : List Ask
+    pub parts : all ≡ first ++ left
+    pub adds : Adds serves a first b old new
+
+  pub Goes-none : (a : H) (all : List Ask) (old : List ℕ) → Goes a all a all old old
+  Goes-none a all old = record { first = []; parts = refl; adds = Adds-none a old }
+
+  pub Goes-more : (a b c : H) (all rest : List Ask) (x : Ask) (old mid new : List ℕ) → Goes a all b (x ∷ rest) old mid → Adds serves b (x ∷ []) c mid new → Goes a all c rest old new
+  Goes-more a b c all rest x old mid new g s = record {
+    first = g.first ++ x ∷ [];
+    parts = g.parts ∙ sym (append_assoc g.first (x ∷ []) rest);
+    adds = Adds-append a b c g.first (x ∷ []) old mid new g.adds s;
+  }
+
+  pub Goes-end : (a b : H) (all : List Ask) (old new : List ℕ) → Goes a all b [] old new → Adds serves a all b old new
+  Goes-end a b all old new g = subst (λ (l : List Ask). Adds serves a l b old new) (sym (g.parts ∙ append-nil g.first)) g.adds
+
+  module _ (skips : H → H → Type 0) where
+    pub Halts-none : (a : H) (all : List Ask) → Halts serves skips a all a
+    Halts-none a all = record { first = []; others = all; parts = refl; last = a; bytes = []; run = (refl, refl); end = inl refl }
+
+    pub Halts-skips : (a b : H) (all : List Ask) → skips a b → Halts serves skips a all b
+    Halts-skips a b all s = record { first = []; others = all; parts = refl; last = a; bytes = []; run = (refl, refl); end = inr s }
+
+    pub Halts-one : (a b : H) (ask : Ask) (settled : Settled) → serves a ask settled b → Halts serves skips a (ask ∷ []) b
+    Halts-one a b ask settled s = record { first = ask ∷ []; others = []; parts = refl; last = b; bytes = frame_for settled.reply; run = Run-one a b ask settled s; end = inl refl }
+
+    -- behind those that were settled
+    pub Goes-halts : (a b c : H) (all part more : List Ask) (old mid : List ℕ) → Goes a all b (part ++ more) old mid → Halts serves skips b part c → Halts serves skips a all c
+    Goes-halts a b c all part more old mid g h = record {
+      first = g.first ++ h.first;
+      others = h.others ++ more;
+      parts = g.parts ∙ ap (λ (l : List Ask). g.first ++ l) (ap (λ (l : List Ask). l ++ more) h.parts ∙ append_assoc h.first h.others more) ∙ sym (append_assoc g.first h.first (h.others ++ more));
+      last = h.last;
+      bytes = g.adds.bytes ++ h.bytes;
+      run = Run-append a b h.last g.first h.first g.adds.bytes h.bytes g.adds.run h.run;
+      end = h.end;
+    }
+
+pub on_err : {T E : Type 0} (r : Result T E) {P : Type 0} → P → OnErr r P
+on_err (Ok x) p = tt
+on_err (Err e) p = p
+
+-- the same ask with other bytes
+pub with_bytes : (a b : Ask) (m n : List ℕ) → b ≡ record a { bytes = b.bytes } → m ≡ n → record b { bytes = m } ≡ record a { bytes = n }
+with_bytes a b m n e f = ap (λ (x : Ask). record x { bytes = m }) e ∙ ap (λ (l : List ℕ). record a { bytes = l }) f

@@ -1,0 +1,154 @@
+-- One read more.
+use Rattle.std.proofs.Common.{◌≡◌, ◌≤◌, ◌<◌, ◌∙◌, ℕ, List, [], ◌∷◌, ◌++◌, length, map, zero, suc, true, cond, Option, Some, None, refl, sym, ap, subst, arith, length-append}
+use Rattle.std.proofs.lemmas.List.{append-nil, map-append}
+use Rattle.std.proofs.lemmas.Grind.{flat_map-append}
+use Rattle.std.proofs.lemmas.Bool.{cond-true}
+use Rattle.std.specs.List.{AllByRecursion}
+use Rattle.dns_io.specs.declared.peer.Peer.{Peer}
+use Rattle.dns_io.specs.declared.peer.Protocol.TheVariants.{Tcp}
+use Rattle.dns_book.specs.declared.ask.Ask.{Ask}
+use Rattle.dns_io.specs.Edge.{Takes}
+use Rattle.dns_io.proofs.ToldContents.{Told-same, Takes-more}
+use Rattle.dns_frames.specs.Frames.{Cut, frames, frames_by}
+use Rattle.dns_frames.proofs.Cutting.{frames-more, frames-nil}
+use Rattle.std.proofs.Math.Seq.{take-length}
+use Rattle.dns_server_core.specs.declared.connection.Connection.{Connection}
+use Rattle.dns_server_core.specs.Connections.{Arrival, Piece, base, completed, in_time, is_within, left_by, moment_at, total}
+use Rattle.dns_server_core.specs.Steps.{fed_by}
+use Rattle.dns_server_core.proofs.Pieces.{base-last, completed-push, frames-last, heard_by, in_time-last, in_time-push, moment_at-last, moment_at-push, total-push, whole-push}
+use Rattle.dns_requests.specs.Arrivals.{Hears, IsPiece, Readings, ask_at, asks_of, asks_through, bytes_of, opened}
+
+pub one_longer : (ps : List Arrival) (a : Arrival) → length (ps ++ a ∷ []) ≡ suc (length ps)
+one_longer ps a = omega (arith, length-append ps (a ∷ []))
+
+-- what earlier reads completed does not change
+completed-before : (c : Connection) (ps : List Arrival) (a : Arrival) (i : ℕ) → i < length ps → completed c (ps ++ a ∷ []) i ≡ completed c ps i
+unfolding completed
+completed-before c ps a i l = rw (in_time-push c ps a (suc i) (omega arith), whole-push c ps a i (omega arith), total-push c ps a (suc i) (omega arith)) refl
+
+asks_through-push : (c : Connection) (ps : List Arrival) (a : Arrival) (i : ℕ) → i ≤ length ps → asks_through c (ps ++ a ∷ []) i ≡ asks_through c ps i
+unfolding asks_through
+asks_through-push c ps a zero l = refl
+asks_through-push c ps a (suc i) l = rw (asks_through-push c ps a i (omega arith), moment_at-push ps a i (omega arith), completed-before c ps a i (omega arith)) refl
+
+-- what this one completes, in time
+completed-here : (c : Connection) (ps : List Arrival) (a : Arrival) → in_time c ps (length ps) ≡ true → is_within c.limit (base c ps (length ps)) a.at ≡ true
+    → completed c (ps ++ a ∷ []) (length ps) ≡ (frames ((left_by c ps).rest ++ a.piece)).messages
+completed-here c ps a t w = completed-push c ps a ∙ ap (λ b. heard_by (cond b (Some (left_by c ps)) None) (Piece a)) t ∙ cond-true _ _ _ w
+
+asks_next : (c : Connection) (ps : List Arrival) (i : ℕ) → asks_through c ps (suc i) ≡ asks_through c ps i ++ map (ask_at c.peer (moment_at ps i)) (completed c ps i)
+unfolding asks_through
+asks_next c ps i = refl
+
+-- at the beginning
+pub base_none : (peer : Peer) (limit began : ℕ) → (left_by (opened peer limit began) []).base ≡ began
+unfolding base
+base_none peer limit began = refl
+
+pub unread_none : (peer : Peer) (limit began : ℕ) → (left_by (opened peer limit began) []).rest ≡ []
+unfolding total frames frames_by
+unread_none peer limit began = refl
+
+pub asks_of-none : (c : Connection) → asks_of c [] ≡ []
+unfolding asks_through
+asks_of-none c = refl
+
+pub asks_of-push : (c : Connection) (ps : List Arrival) (a : Arrival) → in_time c ps (length ps) ≡ true → is_within c.limit (base c ps (length ps)) a.at ≡ true
+    → asks_of c (ps ++ a ∷ []) ≡ asks_of c ps ++ map (ask_at c.peer a.at) (frames ((left_by c ps).rest ++ a.piece)).messages
+asks_of-push c ps a t w =
+    ap (asks_through c (ps ++ a ∷ [])) (one_longer ps a) ∙ asks_next c (ps ++ a ∷ []) (length ps)
+    ∙ rw (asks_through-push c ps a (length ps) (omega arith), moment_at-last ps a, completed-here c ps a t w) refl
+
+pub in_time-more : (c : Connection) (ps : List Arrival) (a : Arrival) → in_time c ps (length ps) ≡ true → is_within c.limit (base c ps (length ps)) a.at ≡ true → in_time c (ps ++ a ∷ []) (length (ps ++ a ∷ [])) ≡ true
+in_time-more c ps a t w = ap (in_time c (ps ++ a ∷ [])) (one_longer ps a) ∙ in_time-last c ps a ∙ rw (t, w) refl
+
+-- how it leaves the connection
+pub left_by-push : (c : Connection) (ps : List Arrival) (a : Arrival) → left_by c (ps ++ a ∷ []) ≡ fed_by (left_by c ps) a.at (frames ((left_by c ps).rest ++ a.piece))
+left_by-push c ps a = rw (one_longer ps a, base-last c ps a, frames-last c ps a) refl
+
+pub in_time-none : (c : Connection) → in_time c [] 0 ≡ true
+unfolding in_time
+in_time-none c = refl
+
+pub all_more : {X : Type 0} (P : X → Type 0) (xs : List X) (x : X) → AllByRecursion P xs → P x → AllByRecursion P (xs ++ x ∷ [])
+all_more P [] x h p = (p, tt)
+all_more P (y ∷ xs) x h p = (h.0, all_more P xs x h.1 p)
+
+pub Takes-none : (a : Option (List ℕ)) → Takes a a []
+Takes-none a = Told-same (λ l r. l ≡ [] ++ r) (λ x. refl) a
+
+pub bytes_of-push : (ps : List Arrival) (a : Arrival) → bytes_of ps ++ a.piece ≡ bytes_of (ps ++ a ∷ [])
+bytes_of-push ps a = sym (flat_map-append (λ (p : Arrival). p.piece) ps (a ∷ []) ∙ ap (λ (l : List ℕ). bytes_of ps ++ l) (append-nil a.piece))
+
+-- their messages are the frames of all bytes
+total_all : (peer : Peer) (limit began : ℕ) (ps : List Arrival) → total (opened peer limit began) ps (length ps) ≡ bytes_of ps
+unfolding total
+total_all peer limit began ps = ap bytes_of (take-length ps)
+
+bytes_back : (peer : Peer) (at : ℕ) (ms : List (List ℕ)) → map (λ (a : Ask). a.bytes) (map (ask_at peer at) ms) ≡ ms
+bytes_back peer at [] = refl
+bytes_back peer at (m ∷ ms) = ap (λ (l : List (List ℕ)). m ∷ l) (bytes_back peer at ms)
+
+pub messages_none : (c : Connection) → map (λ (a : Ask). a.bytes) (asks_of c []) ≡ (frames (bytes_of [])).messages
+messages_none c = rw (asks_of-none c, frames-nil) refl
+
+pub messages_more : (peer : Peer) (limit began : ℕ) (ps : List Arrival) (a : Arrival) → in_time (opened peer limit began) ps (length ps) ≡ true → is_within limit (base (opened peer limit began) ps (length ps)) a.at ≡ true
+    → map (λ (k : Ask). k.bytes) (asks_of (opened peer limit began) ps) ≡ (frames (bytes_of ps)).messages
+    → map (λ (k : Ask). k.bytes) (asks_of (opened peer limit began) (ps ++ a ∷ [])) ≡ (frames (bytes_of (ps ++ a ∷ []))).messages
+messages_more peer limit began ps a t w h =
+    let c : Connection = opened peer limit began in
+    let rest : (left_by c ps).rest ≡ (frames (bytes_of ps)).rest = ap (λ (l : List ℕ). (frames l).rest) (total_all peer limit began ps) in
+    let ms : List (List ℕ) = (frames ((left_by c ps).rest ++ a.piece)).messages in
+    ap (map (λ (k : Ask). k.bytes)) (asks_of-push c ps a t w) ∙ map-append (λ (k : Ask). k.bytes) (asks_of c ps) (map (ask_at peer a.at) ms)
+    ∙ ap (λ (l : List (List ℕ)). l ++ map (λ (k : Ask). k.bytes) (map (ask_at peer a.at) ms)) h
+    ∙ ap (λ (l : List (List ℕ)). (frames (bytes_of ps)).messages ++ l) (bytes_back peer a.at ms ∙ ap (λ (l : List ℕ). (frames (l ++ a.piece)).messages) rest)
+    ∙ sym (ap (λ (k : Cut). k.messages) (frames-more (bytes_of ps) a.piece))
+    ∙ ap (λ (l : List ℕ). (frames l).messages) (bytes_of-push ps a)
+
+module _ {S C : Type 0} (left : S → Option (List ℕ)) (ticks : C → ℕ → C → Type 0) where
+  pub Readings-more : (a b c : C) (rs : List ℕ) (r : ℕ) → Readings ticks a rs b → ticks b r c → Readings ticks a (rs ++ r ∷ []) c
+  Readings-more a b c [] r e t = let P : C → Type 0 = λ x. ticks x r c in (c, subst P e t, refl)
+  Readings-more a b c (x ∷ rs) r h t = (h.0, h.1, Readings-more h.0 b c rs r h.2 t)
+
+  abbrev pub Hears-none : (peer : Peer) (limit : ℕ) (s : S) (a b : C) (began : ℕ) → ticks a began b → Hears left ticks peer limit s a s b
+  Hears-none peer limit s a b began t = record {
+    began = began;
+    arrivals = [];
+    pieces = tt;
+    in_time = in_time-none (opened peer limit began);
+    taken = Takes-none (left s);
+    readings = (b, t, refl);
+    messages = messages_none (opened peer limit began);
+  }
+
+  abbrev pub Hears-more : (peer : Peer) (limit : ℕ) (s0 s1 s2 : S) (c0 c1 c2 : C) (at : ℕ) (piece : List ℕ) → (h : Hears left ticks peer limit s0 c0 s1 c1) → IsPiece piece
+      → is_within limit (base (opened peer limit h.began) h.arrivals (length h.arrivals)) at ≡ true → Takes (left s1) (left s2) piece → ticks c1 at c2 → Hears left ticks peer limit s0 c0 s2 c2
+  Hears-more peer limit s0 s1 s2 c0 c1 c2 at piece h p w t r = record {
+    began = h.began;
+    arrivals = h.arrivals ++ record { at = at; piece = piece } ∷ [];
+    pieces = all_more (λ (a : Arrival). IsPiece a.piece) h.arrivals (record { at = at; piece = piece }) h.pieces p;
+    in_time = in_time-more (opened peer limit h.began) h.arrivals (record { at = at; piece = piece }) h.in_time w;
+    taken = subst (Takes (left s0) (left s2)) (bytes_of-push h.arrivals (record { at = at; piece = piece })) (Takes-more _ _ _ _ _ h.taken t);
+    readings = subst (λ (l : List ℕ). Readings ticks c0 (h.began ∷ l) c2) (sym (map-append (λ (a : Arrival). a.at) h.arrivals (record { at = at; piece = piece } ∷ [])))
+        (Readings-more c0 c1 c2 (h.began ∷ map (λ (a : Arrival). a.at) h.arrivals) at h.readings r);
+    messages = messages_more peer limit h.began h.arrivals (record { at = at; piece = piece }) h.in_time w h.messages;
+  }
+
+  -- the source moved on by nothing
+  abbrev pub Hears-same : (peer : Peer) (limit : ℕ) (s0 s1 s2 : S) (c0 c1 : C) → (h : Hears left ticks peer limit s0 c0 s1 c1) → Takes (left s1) (left s2) [] → Hears left ticks peer limit s0 c0 s2 c1
+  Hears-same peer limit s0 s1 s2 c0 c1 h t = record {
+    began = h.began;
+    arrivals = h.arrivals;
+    pieces = h.pieces;
+    in_time = h.in_time;
+    taken = subst (Takes (left s0) (left s2)) (append-nil (bytes_of h.arrivals)) (Takes-more _ _ _ _ _ h.taken t);
+    readings = h.readings;
+    messages = h.messages;
+  }
+
+-- an ask of the connection stays one
+pub ask_stays : (k l : Ask) (peer : Peer) (at : ℕ) → l ≡ record { bytes = l.bytes; source = peer; protocol = Tcp; at = l.at; client = 0 } → k ≡ record l { at = at; bytes = k.bytes }
+    → k ≡ record { bytes = k.bytes; source = peer; protocol = Tcp; at = k.at; client = 0 }
+ask_stays k l peer at e f =
+    f ∙ ap (λ (x : Ask). record x { at = at; bytes = k.bytes }) e
+    ∙ ap (λ (t : ℕ). record { bytes = k.bytes; source = peer; protocol = Tcp; at = t; client = 0 }) (sym (ap (λ (x : Ask). x.at) f))

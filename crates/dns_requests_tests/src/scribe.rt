@@ -1,0 +1,40 @@
+//! A handler that gives each message back with the last digit of its moment, and leaves empty messages without a reply.
+
+use dns_io::OutOfMemory;
+use dns_server_core::{AccessControl, Ask, ReplyBytes, RequestHandler, Settled};
+
+/// How many messages came.
+#[derive(Drop)]
+pub(crate) struct Scribe {
+    pub(crate) messages: u64,
+}
+
+impl RequestHandler for Scribe {
+    ghost serves = { λ access before ask settled after. Unit {0} };
+
+    ghost skips = { λ before after. Unit {0} };
+
+    fn handle_request(
+        &mut self,
+        _access: &AccessControl,
+        ask: &Ask,
+    ) -> Result<Settled, OutOfMemory> {
+        self.messages = self.messages.saturating_add(1);
+        Ok(Settled {
+            reply: reply_to(ask)?,
+            length: 0,
+            receipt: None,
+        })
+    }
+}
+
+/// The message with the last digit of its moment.
+fn reply_to(ask: &Ask) -> Result<Option<ReplyBytes>, OutOfMemory> {
+    let len = ask.bytes.len();
+    if len == 0 || len > 100 {
+        return Ok(None);
+    }
+    let mut reply = ask.bytes.copy()?;
+    reply.push(b'0' + (ask.at % 10) as u8)?;
+    Ok(Some(ReplyBytes::new(reply)?))
+}
