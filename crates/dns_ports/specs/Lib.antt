@@ -1,0 +1,4 @@
+pub mod Ports
+pub mod Memory
+pub mod Addresses
+pub mod Sockets

@@ -1,0 +1,227 @@
+//! A listener of the operating system.
+
+ghost use Rattle.std.specs.Prelude.{◌≡◌, ◌<◌, ◌≤◌, ◌+◌, None, All, length, IfOk, IsErrOf, vec_len, vec_capacity};
+ghost use Rattle.dns_io.specs.Edge.{HasCause, counted};
+ghost use Rattle.dns_ports.specs.Ports.{given_by};
+
+use crate::address::{address_of, peer_at};
+use crate::connection::{ConnectionInput, ConnectionOutput};
+use crate::faults::{count, is_passed_over};
+use crate::patience::Patience;
+use crate::port::{Accepted, TcpPort};
+use crate::stop_token::StopToken;
+use dns_io::{IoFault, Peer, SystemClock};
+use std::alloc::Global;
+use std::marker::Model;
+use std::net::{Net, SocketAddr, TcpListener, TcpStream, UdpSocket};
+use std::os::fd::OwnedFd;
+use std::time::Duration;
+use std::{io, rt};
+
+/// How long one wait for a connection is at most, in milliseconds.
+const WAIT: u64 = 100;
+
+/// A listener of the operating system, which its token stops within 100 milliseconds.
+///
+/// An accept passes over errors that one peer may cause, or that end a wait, and over a connection that is gone before it is
+/// made ready.
+#[derive(Drop)]
+pub struct ListenerPort<R> {
+    listener: TcpListener,
+    runtime: R,
+    stop: StopToken,
+    patience: Patience,
+    lent: u64,
+    faults: u64,
+}
+
+impl<R> Model for ListenerPort<R> {
+    ghost use Rattle.dns_ports.specs.Sockets.{ListenerCounts};
+
+    ghost Value = { ListenerCounts };
+
+    ghost view = { λ p. record { lent = p.lent; faults = p.faults } };
+}
+
+impl<R> ListenerPort<R> {
+    /// Its own address.
+    pub fn local_peer(&self) -> Result<Peer, IoFault> {
+        Ok(peer_at(self.listener.local_addr()?))
+    }
+
+    /// How many calls failed.
+    pub(crate) fn faults(&self) -> u64
+        ensures { result ≡ self.now.faults }
+    {
+        self.faults
+    }
+}
+
+impl<R: Net<Listener = TcpListener, Stream = TcpStream> + rt::Clock + Copy> ListenerPort<R> {
+    /// So many listeners of this address. A connection of theirs ends where it was silent for `limit` milliseconds, 0 for no
+    /// limit.
+    pub(crate) fn open(
+        alloc: Global,
+        runtime: R,
+        at: Peer,
+        limit: u64,
+        workers: u32,
+        stop: &StopToken,
+    ) -> Result<Vec<ListenerPort<R>>, IoFault>
+        ensures count { IfOk result (λ ports. length ports.items ≡ workers) }
+        ensures fresh { IfOk result (λ ports. All (λ port. port.faults ≡ 0) ports.items) }
+    {
+        let listener = bound(&runtime, at)?;
+        let patience = Patience::within(limit);
+        let mut ports = Vec::new(alloc);
+        for _place in 0..workers {
+            let port = ListenerPort::over(&listener, runtime, patience, stop)?;
+            if ports.push(port).is_err() {
+                return Err(IoFault::OutOfMemory);
+            }
+        }
+        Ok(ports)
+    }
+
+    /// One more listener over the same queue of connections.
+    fn over(
+        listener: &TcpListener,
+        runtime: R,
+        patience: Patience,
+        stop: &StopToken,
+    ) -> Result<ListenerPort<R>, IoFault>
+        ensures { IfOk result (λ port. port.faults ≡ 0) }
+    {
+        let listener = listener.try_clone()?;
+        let stop = stop.again()?;
+        Ok(ListenerPort {
+            listener,
+            runtime,
+            stop,
+            patience,
+            lent: 0,
+            faults: 0,
+        })
+    }
+
+    /// The next connection; `None` where the token is stopped.
+    fn next(
+        &self,
+    ) -> Result<Option<Accepted<ConnectionInput, ConnectionOutput, SystemClock<R>>>, IoFault> {
+        match next_stream(&self.listener, &self.stop, &self.patience)? {
+            Some((stream, from)) => Ok(Some(self.connection(stream, from)?)),
+            None => Ok(None),
+        }
+    }
+
+    /// The connection over a stream.
+    fn connection(
+        &self,
+        stream: TcpStream,
+        from: SocketAddr,
+    ) -> Result<Accepted<ConnectionInput, ConnectionOutput, SystemClock<R>>, IoFault> {
+        let back = stream.try_clone()?;
+        let output = ConnectionOutput::new(back, self.stop.again()?, self.patience.writes);
+        let input = ConnectionInput::new(stream, self.stop.again()?, self.patience.reads);
+        Ok(Accepted {
+            input,
+            output,
+            time: SystemClock::new(self.runtime),
+            peer: peer_at(from),
+        })
+    }
+}
+
+impl<R: Net<Listener = TcpListener, Stream = TcpStream> + rt::Clock + Copy> TcpPort
+    for ListenerPort<R> {
+    type In = ConnectionInput;
+
+    type Out = ConnectionOutput;
+
+    type Time = SystemClock<R>;
+
+    ghost left = { λ _. None };
+
+    ghost accepted = { λ _. None };
+
+    ghost ended = { λ _. None };
+
+    ghost lent = { λ p. p.lent };
+
+    ghost faults = { λ p. p.faults };
+
+    fn accept(
+        &mut self,
+    ) -> Result<Option<Accepted<ConnectionInput, ConnectionOutput, SystemClock<R>>>, IoFault>
+        ensures lends { self.new.lent ≡ self.old.lent + given_by result }
+        ensures faults { self.new.faults ≡ counted self.old.faults result }
+        ensures cause { HasCause self.old.faults self.new.faults result }
+        ensures uncounted { IsErrOf result IoFault.OutOfMemory → self.new.faults ≡ self.old.faults }
+    {
+        let Some(lent) = self.lent.checked_add(1) else {
+            return Err(IoFault::OutOfMemory);
+        };
+        let outcome = self.next();
+        match count(outcome, &mut self.faults)? {
+            Some(connection) => {
+                self.lent = lent;
+                Ok(Some(connection))
+            }
+            None => Ok(None),
+        }
+    }
+
+    fn done(&mut self, connection: Accepted<ConnectionInput, ConnectionOutput, SystemClock<R>>)
+        requires { 0 < self.old.lent }
+        ensures lends { self.new.lent + 1 ≡ self.old.lent }
+        ensures calm { self.new.faults ≡ self.old.faults }
+    {
+        self.lent -= 1;
+        drop(connection);
+    }
+}
+
+/// A listener of this address, whose accepts wait for at most 100 milliseconds. The library sets no such limit on a listener;
+/// the system's option for it is the same for each kind of socket, and an accept heeds it (socket(7)).
+fn bound<R: Net<Listener = TcpListener, Stream = TcpStream>>(
+    runtime: &R,
+    at: Peer,
+) -> io::Result<TcpListener> {
+    let listener = TcpListener::bind(runtime, address_of(at))?;
+    let socket = UdpSocket::from(OwnedFd::from(listener));
+    socket.set_read_timeout(Some(Duration::from_millis(WAIT)))?;
+    Ok(TcpListener::from(OwnedFd::from(socket)))
+}
+
+/// The next stream that could be made ready, and its peer; `None` where the token is stopped.
+fn next_stream(
+    listener: &TcpListener,
+    stop: &StopToken,
+    patience: &Patience,
+) -> Result<Option<(TcpStream, SocketAddr)>, IoFault> {
+    for _ in 0..u64::MAX {
+        if stop.is_stopped() {
+            return Ok(None);
+        }
+        match listener.accept() {
+            Ok((stream, from)) => {
+                if make_ready(&stream, patience.wait()).is_ok() {
+                    return Ok(Some((stream, from)));
+                }
+            }
+            Err(error) => {
+                if !is_passed_over(error.kind()) {
+                    return Err(error.into());
+                }
+            }
+        }
+    }
+    Err(IoFault::Failed)
+}
+
+/// Sets how long one read and one write wait, and that small writes go at once.
+fn make_ready(stream: &TcpStream, wait: Duration) -> io::Result<()> {
+    stream.set_read_timeout(Some(wait))?;
+    stream.set_write_timeout(Some(wait))?;
+    stream.set_nodelay(true)
+}

@@ -1,0 +1,135 @@
+//! A hub over the operating system.
+
+ghost use Rattle.std.specs.Prelude.{◌≡◌, ◌<◌, ◌≤◌, ◌+◌, None, All, length, IfOk, IsErrOf};
+ghost use Rattle.dns_io.specs.Edge.{HasCause, Rose, counted};
+ghost use Rattle.dns_ports.specs.Ports.{if_given};
+ghost use Rattle.dns_ports.specs.Memory.{faults_behind};
+
+use crate::faults::{count, faults_behind};
+use crate::hub::Hub;
+use crate::listener_port::ListenerPort;
+use crate::socket_port::SocketPort;
+use crate::stop_token::StopToken;
+use dns_io::{IoFault, Peer};
+use std::alloc::Global;
+use std::marker::Model;
+use std::net::{Net, TcpListener, TcpStream};
+use std::rt;
+
+/// Opens sockets and listeners of the operating system. A port that is taken back is closed.
+#[derive(Drop)]
+pub struct SocketHub<R> {
+    alloc: Global,
+    runtime: R,
+    lent_udp: u64,
+    lent_tcp: u64,
+    faults: u64,
+}
+
+impl<R> Model for SocketHub<R> {
+    ghost use Rattle.dns_ports.specs.Sockets.{HubCounts};
+
+    ghost Value = { HubCounts };
+
+    ghost view = { λ h. record { lent_udp = h.lent_udp; lent_tcp = h.lent_tcp; faults = h.faults } };
+}
+
+impl<R> SocketHub<R> {
+    /// A hub that opened nothing.
+    pub fn new(alloc: Global, runtime: R) -> SocketHub<R>
+        ensures { result ≡ record { lent_udp = 0; lent_tcp = 0; faults = 0 } }
+    {
+        SocketHub {
+            alloc,
+            runtime,
+            lent_udp: 0,
+            lent_tcp: 0,
+            faults: 0,
+        }
+    }
+}
+
+impl<R: Net<Listener = TcpListener, Stream = TcpStream> + rt::Clock + Copy> Hub for SocketHub<R> {
+    type Udp = SocketPort<R>;
+
+    type Tcp = ListenerPort<R>;
+
+    ghost openings = { λ _. None };
+
+    ghost closed_udp = { λ _. None };
+
+    ghost closed_tcp = { λ _. None };
+
+    ghost lent_udp = { λ h. h.lent_udp };
+
+    ghost lent_tcp = { λ h. h.lent_tcp };
+
+    ghost faults = { λ h. h.faults };
+
+    fn open_udp(&mut self, at: Peer, stop: &StopToken) -> Result<SocketPort<R>, IoFault>
+        ensures unused { IfOk result (λ port. port ≡ 0) }
+        ensures udp_lent { self.new.lent_udp ≡ self.old.lent_udp + if_given 1 result }
+        ensures tcp_lent { self.new.lent_tcp ≡ self.old.lent_tcp }
+        ensures faults { self.new.faults ≡ counted self.old.faults result }
+        ensures cause { HasCause self.old.faults self.new.faults result }
+        ensures uncounted { IsErrOf result IoFault.OutOfMemory → self.new.faults ≡ self.old.faults }
+    {
+        let Some(lent) = self.lent_udp.checked_add(1) else {
+            return Err(IoFault::OutOfMemory);
+        };
+        let opened = SocketPort::open(self.runtime, at, stop);
+        let port = count(opened, &mut self.faults)?;
+        self.lent_udp = lent;
+        Ok(port)
+    }
+
+    fn open_tcp(
+        &mut self,
+        at: Peer,
+        limit: u64,
+        workers: u32,
+        stop: &StopToken,
+    ) -> Result<Vec<ListenerPort<R>>, IoFault>
+        ensures count { IfOk result (λ ports. length ports.items ≡ workers) }
+        ensures unused { IfOk result (λ ports. All (λ port. port.faults ≡ 0) ports.items) }
+        ensures udp_lent { self.new.lent_udp ≡ self.old.lent_udp }
+        ensures tcp_lent { self.new.lent_tcp ≡ self.old.lent_tcp + if_given workers result }
+        ensures faults { self.new.faults ≡ counted self.old.faults result }
+        ensures cause { HasCause self.old.faults self.new.faults result }
+        ensures uncounted { IsErrOf result IoFault.OutOfMemory → self.new.faults ≡ self.old.faults }
+    {
+        let Some(lent) = self.lent_tcp.checked_add(u64::from(workers)) else {
+            return Err(IoFault::OutOfMemory);
+        };
+        let opened = ListenerPort::open(self.alloc, self.runtime, at, limit, workers, stop);
+        let ports = count(opened, &mut self.faults)?;
+        self.lent_tcp = lent;
+        Ok(ports)
+    }
+
+    fn close_udp(&mut self, port: SocketPort<R>)
+        requires { 0 < self.old.lent_udp }
+        ensures udp_lent { self.new.lent_udp + 1 ≡ self.old.lent_udp }
+        ensures tcp_lent { self.new.lent_tcp ≡ self.old.lent_tcp }
+        ensures faults { self.new.faults ≡ faults_behind self.old.faults port }
+        ensures later { self.old.faults ≤ self.new.faults }
+        ensures raised { 0 < port → Rose self.old.faults self.new.faults }
+        ensures calm { port ≡ 0 → self.new.faults ≡ self.old.faults }
+    {
+        self.faults = faults_behind(self.faults, port.faults());
+        self.lent_udp -= 1;
+    }
+
+    fn close_tcp(&mut self, port: ListenerPort<R>)
+        requires { 0 < self.old.lent_tcp }
+        ensures udp_lent { self.new.lent_udp ≡ self.old.lent_udp }
+        ensures tcp_lent { self.new.lent_tcp + 1 ≡ self.old.lent_tcp }
+        ensures faults { self.new.faults ≡ faults_behind self.old.faults port.faults }
+        ensures later { self.old.faults ≤ self.new.faults }
+        ensures raised { 0 < port.faults → Rose self.old.faults self.new.faults }
+        ensures calm { port.faults ≡ 0 → self.new.faults ≡ self.old.faults }
+    {
+        self.faults = faults_behind(self.faults, port.faults());
+        self.lent_tcp -= 1;
+    }
+}

@@ -1,0 +1,99 @@
+-- The answer of serving.
+use Rattle.std.proofs.Common.{◌≡◌, ◌⊎◌, inl, inr, ⊎_elim, ℕ, List, [], ◌∷◌, Option, Result, Ok, Err, refl, subst}
+use Rattle.std.specs.Prelude.{IfErr, OnOk}
+use Rattle.std.specs.List.{AllByRecursion}
+use Rattle.dns_io.specs.declared.edge.IoFault.{IoFault}
+use Rattle.dns_io.specs.declared.edge.IoFault.TheVariants.{Failed, OutOfMemory}
+use Rattle.dns_transport.specs.declared.error.NetError.{NetError}
+use Rattle.dns_transport.specs.declared.error.NetError.TheVariants as net
+use Rattle.dns_keeper.specs.declared.row.Row.{Row}
+use Rattle.dns_book.specs.Access.{Access}
+use Rattle.dns_ports.specs.Ports.{Datagram, Reply}
+use Rattle.dns_ports.specs.declared.port.Accepted.{Accepted}
+use Rattle.dns_ticket_lock.specs.Passes.{SettledBy, LeftBy}
+use Rattle.dns_server.specs.Sockets as sockets
+use Rattle.dns_server.specs.Listeners as listeners
+use Rattle.dns_server.specs.declared.worker.Worker.{Worker}
+use Rattle.dns_server.specs.Servers.{AnswersFor, IsDone, IsServingError, Matches, MatchesOnce, RoseAt, ServedListener, ServedSocket, ServerSeen, post_of, answer_of, as_net, first_fault, or_later, or_reading}
+
+or_done : (first later : Result (Unit {0}) IoFault) → or_later first later ≡ Ok tt → (first ≡ Ok tt) × (later ≡ Ok tt)
+or_done (Ok done) later e = (refl, e)
+or_done (Err fault) later e = absurd cc
+
+or_failed : (first later : Result (Unit {0}) IoFault) → or_later first later ≡ Err Failed → (first ≡ Err Failed) ⊎ (later ≡ Err Failed)
+or_failed (Ok done) later e = inr e
+or_failed (Err fault) later e = inl e
+
+net_done : (answer : Result (Unit {0}) IoFault) → OnOk (as_net answer) (answer ≡ Ok tt)
+net_done (Ok done) = refl
+net_done (Err Failed) = tt
+net_done (Err OutOfMemory) = tt
+
+net_failed : (answer : Result (Unit {0}) IoFault) → as_net answer ≡ Err net.Io → answer ≡ Err Failed
+net_failed (Ok done) e = absurd cc
+net_failed (Err Failed) e = refl
+net_failed (Err OutOfMemory) e = absurd cc
+
+net_kind : (answer : Result (Unit {0}) IoFault) → IfErr (as_net answer) IsServingError
+net_kind (Ok done) = tt
+net_kind (Err Failed) = inl refl
+net_kind (Err OutOfMemory) = inr refl
+
+on_ok : (answer : Result (Unit {0}) NetError) (A B : Type 0) → (A → B) → OnOk answer A → OnOk answer B
+on_ok (Ok done) A B f a = f a
+on_ok (Err error) A B f a = tt
+
+first_done : {P : Type 0} (workers : List (Worker P)) → first_fault workers ≡ Ok tt → AllByRecursion IsDone workers
+first_done [] e = tt
+first_done (w ∷ ws) e = let both = or_done w.answer (first_fault ws) e in (both.0, first_done ws both.1)
+
+first_rose : {P : Type 0} (faults : P → ℕ) (R : Worker P → Worker P → Type 0) → ((a b : Worker P) → R a b → b.answer ≡ Err Failed → RoseAt faults a b)
+    → (xs ys : List (Worker P)) → Matches R xs ys → first_fault ys ≡ Err Failed → MatchesOnce (RoseAt faults) xs ys
+first_rose faults R rose [] [] m e = absurd cc
+first_rose faults R rose [] (y ∷ ys) m e = absurd m
+first_rose faults R rose (x ∷ xs) [] m e = absurd m
+first_rose faults R rose (x ∷ xs) (y ∷ ys) m e = ⊎_elim (λ f. inl (rose x y m.0 f)) (λ f. inr (first_rose faults R rose xs ys m.1 f)) (or_failed y.answer (first_fault ys) e)
+
+-- how the workers ended answers for them
+pub answers_for : {U T : Type 0} (socket_faults : U → ℕ) (listener_faults : T → ℕ) (R : Worker U → Worker U → Type 0) (S : Worker T → Worker T → Type 0)
+    → ((a b : Worker U) → R a b → b.answer ≡ Err Failed → RoseAt socket_faults a b) → ((a b : Worker T) → S a b → b.answer ≡ Err Failed → RoseAt listener_faults a b)
+    → (before after : ServerSeen U T) → Matches R before.sockets after.sockets → Matches S before.listeners after.listeners
+    → (result : Result (Unit {0}) NetError) → result ≡ answer_of after → AnswersFor socket_faults listener_faults before after result
+answers_for socket_faults listener_faults R S r s before after m n result is =
+    let all : OnOk (answer_of after) ((first_fault after.sockets ≡ Ok tt) × (first_fault after.listeners ≡ Ok tt)) =
+    on_ok (answer_of after) _ _ (or_done (first_fault after.sockets) (first_fault after.listeners)) (net_done (or_later (first_fault after.sockets) (first_fault after.listeners))) in
+    rw is (record {
+      sockets = on_ok (answer_of after) _ _ (λ (both : (first_fault after.sockets ≡ Ok tt) × (first_fault after.listeners ≡ Ok tt)). first_done after.sockets both.0) all;
+      listeners = on_ok (answer_of after) _ _ (λ (both : (first_fault after.sockets ≡ Ok tt) × (first_fault after.listeners ≡ Ok tt)). first_done after.listeners both.1) all;
+      failed = λ e. ⊎_elim
+          (λ f. inl (first_rose socket_faults R r before.sockets after.sockets m f))
+          (λ f. inr (first_rose listener_faults S s before.listeners after.listeners n f))
+          (or_failed (first_fault after.sockets) (first_fault after.listeners) (net_failed _ e));
+      kind = net_kind (or_later (first_fault after.sockets) (first_fault after.listeners));
+    })
+
+-- and still does, where memory ran out in reading
+pub answers_reading : {U T : Type 0} (socket_faults : U → ℕ) (listener_faults : T → ℕ) (before after : ServerSeen U T) (answer : Result (Unit {0}) NetError) (reading : Result (Unit {0}) IoFault)
+    → AnswersFor socket_faults listener_faults before after answer → IfErr reading (λ fault. fault ≡ OutOfMemory) → AnswersFor socket_faults listener_faults before after (or_reading answer reading)
+answers_reading socket_faults listener_faults before after (Ok done) (Ok end) a k = a
+answers_reading socket_faults listener_faults before after (Ok done) (Err Failed) a k = absurd cc
+answers_reading socket_faults listener_faults before after (Ok done) (Err OutOfMemory) a k = record { sockets = tt; listeners = tt; failed = λ e. absurd cc; kind = inr refl }
+answers_reading socket_faults listener_faults before after (Err error) reading a k = a
+
+pub reading_ended : (answer : Result (Unit {0}) NetError) (reading : Result (Unit {0}) IoFault) (A : Type 0) → OnOk reading A → OnOk (or_reading answer reading) A
+reading_ended (Ok done) (Ok end) A a = a
+reading_ended (Ok done) (Err Failed) A a = tt
+reading_ended (Ok done) (Err OutOfMemory) A a = tt
+reading_ended (Err error) reading A a = tt
+
+-- a worker that failed
+module _ {K : Type 0} (krows : K → Option (List Row)) (kfaults : K → ℕ) where
+  pub socket_rose : {U : Type 0} (left received : U → Option (List Datagram)) (taken : U → Option (List Reply)) (faults : U → ℕ) (access : Access) (a b : Worker U)
+      → ServedSocket krows kfaults left received taken faults access a b → b.answer ≡ Err Failed → RoseAt faults a b
+  socket_rose left received taken faults access a b s e = subst (sockets.EndsBy (SettledBy krows kfaults access) LeftBy left received taken faults (post_of a) (post_of b) s.works.work.handled) e s.works.ends
+
+  pub listener_rose : {T R W C : Type 0} (left_of : R → Option (List ℕ)) (read_faults : R → ℕ) (taken flushed : W → Option (List ℕ)) (write_faults : W → ℕ) (ticks : C → ℕ → C → Type 0)
+      (left accepted ended : T → Option (List (Accepted R W C))) (faults : T → ℕ) (access : Access) (a b : Worker T)
+      → ServedListener krows kfaults left_of read_faults taken flushed write_faults ticks left accepted ended faults access a b → b.answer ≡ Err Failed → RoseAt faults a b
+  listener_rose left_of read_faults taken flushed write_faults ticks left accepted ended faults access a b s e =
+      subst (listeners.EndsBy (SettledBy krows kfaults access) LeftBy left_of read_faults taken flushed write_faults ticks a.limit left accepted ended faults (post_of a) (post_of b) s.works.work.handled) e s.works.ends

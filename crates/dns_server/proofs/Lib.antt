@@ -1,0 +1,5 @@
+pub mod Handling
+pub mod Attending
+pub mod SamePasses
+pub mod AllPasses
+pub mod Answering

@@ -1,0 +1,100 @@
+-- What the worker of a listener does with the connections that come in (RFC 1035 4.2.2, RFC 7766).
+use Rattle.std.specs.Prelude.{◌≡◌, ℕ, Bool, ◌^◌, ◌≤◌, true, false, List, [], ◌∷◌, map, Option, None, Some, Result, Ok, Err}
+use Rattle.std.specs.List.{sum_by}
+use Rattle.dns_io.specs.declared.edge.IoFault.{IoFault}
+use Rattle.dns_io.specs.declared.edge.IoFault.TheVariants as io
+use Rattle.dns_io.specs.Edge.{Grows, Keeps, Rose, Takes}
+use Rattle.dns_book.specs.declared.ask.Ask.{Ask}
+use Rattle.dns_book.specs.declared.ask.Settled.{Settled}
+use Rattle.dns_ports.specs.declared.port.Accepted.{Accepted}
+use Rattle.dns_server_core.specs.Connections.{is_safe}
+use Rattle.dns_requests.specs.declared.serve_fault.ServeFault.{ServeFault}
+use Rattle.dns_requests.specs.declared.serve_fault.ServeFault.TheVariants.{OutOfMemory}
+use Rattle.dns_requests.specs.Ends.{Ends}
+use Rattle.dns_server.specs.Sockets.{IsAtEnd, Post}
+
+-- an accepted connection: as it came, as it was handed back, and the answer of serving it, where it was served
+pub record HandedBack (R W C : Type 0) : Type 0 where
+  pub came : Accepted R W C
+  pub back : Accepted R W C
+  pub answer : Option (Result ℕ ServeFault)
+
+-- 1 where serving it found no memory
+abbrev pub unmet_by : Option (Result ℕ ServeFault) → ℕ
+unmet_by (Some (Err OutOfMemory)) = 1
+unmet_by _ = 0
+
+-- how many found no memory
+abbrev pub unmet : {R W C : Type 0} → List (HandedBack R W C) → ℕ
+unmet = sum_by (λ one. unmet_by one.answer)
+
+-- the meanings of a handler, and of the source, the sink and the clock of a connection
+module _ {H R W C : Type 0} (serves : H → Ask → Settled → H → Type 0) (skips : H → H → Type 0) (left : R → Option (List ℕ)) (read_faults : R → ℕ)
+    (taken flushed : W → Option (List ℕ)) (write_faults : W → ℕ) (ticks : C → ℕ → C → Type 0) (limit : ℕ) where
+  -- a connection from a safe peer was served, with this answer, under the limit and at most 2^32 reads
+  pub record IsServed (before : H) (came back : Accepted R W C) (answer : Result ℕ ServeFault) (after : H) : Type 0 where
+    pub safe : is_safe came.peer ≡ true
+    pub peer : back.peer ≡ came.peer
+    pub ends : Ends serves skips left read_faults taken write_faults ticks (record { peer = came.peer; limit = limit; reads = 2 ^ 32 })
+        (record { handler = before; source = came.input; sink = came.output; clock = came.time })
+        (record { handler = after; source = back.input; sink = back.output; clock = back.time }) answer
+    pub unflushed : Keeps (flushed came.output) (flushed back.output)
+    pub source_later : read_faults came.input ≤ read_faults back.input
+    pub sink_later : write_faults came.output ≤ write_faults back.output
+
+  -- a connection was served with some answer; the flag says that memory was found for it
+  pub record Serves (before : H) (came : Accepted R W C) (after : H) (back : Accepted R W C) (found : Bool) : Type 0 where
+    pub answer : Result ℕ ServeFault
+    pub served : IsServed before came back answer after
+    pub met : found ≡ true → unmet_by (Some answer) ≡ 0
+
+  -- one from a peer that is not safe was left alone
+  pub record IsUntouched (before : H) (came back : Accepted R W C) (after : H) : Type 0 where
+    pub unsafe : is_safe came.peer ≡ false
+    pub same : back ≡ came
+    pub still : after ≡ before
+
+  -- what became of a connection, by the answer of serving it
+  abbrev pub TreatsBy : H → Accepted R W C → Accepted R W C → Option (Result ℕ ServeFault) → H → Type 0
+  TreatsBy before came back None after = IsUntouched before came back after
+  TreatsBy before came back (Some answer) after = IsServed before came back answer after
+
+  -- one connection after the other
+  abbrev pub Run : H → List (HandedBack R W C) → H → Type 0
+  Run before [] after = after ≡ before
+  Run before (one ∷ others) after = (between : H) × TreatsBy before one.came one.back one.answer between × Run between others after
+
+-- the meanings of a handler, and of a listener and its connections
+module _ {H T R W C : Type 0} (serves : H → Ask → Settled → H → Type 0) (skips : H → H → Type 0) (left_of : R → Option (List ℕ)) (read_faults : R → ℕ)
+    (taken flushed : W → Option (List ℕ)) (write_faults : W → ℕ) (ticks : C → ℕ → C → Type 0) (limit : ℕ)
+    (left accepted ended : T → Option (List (Accepted R W C))) (faults : T → ℕ) (before after : Post H T) where
+  -- a connection was served or left alone, and handed back; the flag says that memory was found for it
+  pub record Attends (came : Accepted R W C) (found : Bool) : Type 0 where
+    pub back : Accepted R W C
+    pub answer : Option (Result ℕ ServeFault)
+    pub treated : TreatsBy serves skips left_of read_faults taken flushed write_faults ticks limit before.handler came back answer after.handler
+    pub unread : Keeps (left before.port) (left after.port)
+    pub unaccepted : Keeps (accepted before.port) (accepted after.port)
+    pub handed : Grows (ended before.port) (ended after.port) (back ∷ [])
+    pub later : faults before.port ≤ faults after.port
+    pub met : found ≡ true → unmet_by answer ≡ 0
+
+  -- each connection that was accepted was served or left alone, and handed back
+  pub record Attending : Type 0 where
+    pub handled : List (HandedBack R W C)
+    pub run : Run serves skips left_of read_faults taken flushed write_faults ticks limit before.handler handled after.handler
+    pub came : Takes (left before.port) (left after.port) (map (λ one. one.came) handled)
+    pub noted : Grows (accepted before.port) (accepted after.port) (map (λ one. one.came) handled)
+    pub handed : Grows (ended before.port) (ended after.port) (map (λ one. one.back) handled)
+    pub later : faults before.port ≤ faults after.port
+
+  -- why a worker ends, by its answer: nothing is left, and memory was found for all; or an accepting failed
+  abbrev pub EndsBy : List (HandedBack R W C) → Result (Unit {0}) IoFault → Type 0
+  EndsBy handled (Ok done) = IsAtEnd (left after.port) × (unmet handled ≡ 0)
+  EndsBy handled (Err io.Failed) = Rose (faults before.port) (faults after.port)
+  EndsBy handled (Err io.OutOfMemory) = Unit {0}
+
+  -- what a listener's worker did, with its answer
+  pub record WorksListener (result : Result (Unit {0}) IoFault) : Type 0 where
+    pub work : Attending
+    pub ends : EndsBy work.handled result

@@ -1,0 +1,129 @@
+-- What the worker of a socket does with the datagrams that come in (RFC 1035 4.2.1).
+use Rattle.std.specs.Prelude.{◌≡◌, ◌⊎◌, ◌≤◌, ℕ, Bool, true, false, List, [], ◌∷◌, map, Option, None, Some, IsSome, IfSome, Result, Ok, Err}
+use Rattle.std.specs.List.{flat_map, sum_by}
+use Rattle.dns_io.specs.declared.edge.IoFault.{IoFault}
+use Rattle.dns_io.specs.declared.edge.IoFault.TheVariants.{Failed, OutOfMemory}
+use Rattle.dns_io.specs.declared.peer.Peer.{Peer}
+use Rattle.dns_io.specs.declared.peer.Protocol.TheVariants.{Udp}
+use Rattle.dns_io.specs.Edge.{Grows, Keeps, Rose, Takes}
+use Rattle.dns_book.specs.declared.ask.Ask.{Ask}
+use Rattle.dns_book.specs.declared.ask.Settled.{Settled}
+use Rattle.dns_ports.specs.Ports.{Datagram, Reply}
+use Rattle.dns_server_core.specs.Books.{RoseBy}
+
+-- what became of a datagram: it was settled, and the socket took its reply, where one was owed; or the socket refused the reply;
+-- or no memory was found to settle it
+pub data Fate : Type 0 where
+  Answered : Settled → Fate
+  Refused : Settled → IoFault → Fate
+  Skipped : Fate
+
+-- a datagram that was received, and what became of it
+pub record Handled : Type 0 where
+  pub datagram : Datagram
+  pub fate : Fate
+
+-- a datagram as it is handed over
+abbrev pub ask_for : Datagram → Ask
+ask_for d = record { bytes = d.0; source = d.1; protocol = Udp; at = d.2; client = 0 }
+
+-- a reply that was taken for this peer, where one was owed
+abbrev pub answer_to : Peer → Option (List ℕ) → List Reply
+answer_to peer None = []
+answer_to peer (Some bytes) = (bytes, peer) ∷ []
+
+-- what the socket took for it
+abbrev pub taken_by : Peer → Fate → List Reply
+taken_by peer (Answered settled) = answer_to peer settled.reply
+taken_by peer (Refused settled fault) = []
+taken_by peer Skipped = []
+
+-- the replies that a socket took, in order, each for the sender of its datagram
+abbrev pub answers_of : List Handled → List Reply
+answers_of = flat_map (λ one. taken_by one.datagram.1 one.fate)
+
+-- 1 where the socket failed to take the reply
+abbrev pub failed_by : Fate → ℕ
+failed_by (Answered settled) = 0
+failed_by (Refused settled Failed) = 1
+failed_by (Refused settled OutOfMemory) = 0
+failed_by Skipped = 0
+
+-- how many replies the socket failed to take
+abbrev pub failures : List Handled → ℕ
+failures = sum_by (λ one. failed_by one.fate)
+
+-- 1 where no memory was found, to settle the message or to take its reply
+abbrev pub unmet_by : Fate → ℕ
+unmet_by (Answered settled) = 0
+unmet_by (Refused settled Failed) = 0
+unmet_by (Refused settled OutOfMemory) = 1
+unmet_by Skipped = 1
+
+-- how many found no memory
+abbrev pub unmet : List Handled → ℕ
+unmet = sum_by (λ one. unmet_by one.fate)
+
+-- the meanings of a handler
+module _ {H : Type 0} (serves : H → Ask → Settled → H → Type 0) (skips : H → H → Type 0) where
+  -- the step of the handler for this message. Where no memory was found even to hand it over, the handler did nothing
+  abbrev pub Steps : H → Ask → Fate → H → Type 0
+  Steps before ask (Answered settled) after = serves before ask settled after
+  Steps before ask (Refused settled fault) after = serves before ask settled after × IsSome settled.reply
+  Steps before ask Skipped after = (after ≡ before) ⊎ skips before after
+
+  -- one step for each datagram, in order
+  abbrev pub Run : H → List Handled → H → Type 0
+  Run before [] after = after ≡ before
+  Run before (one ∷ others) after = (between : H) × Steps before (ask_for one.datagram) one.fate between × Run between others after
+
+-- nothing is left, where that is told
+abbrev pub IsAtEnd : {A : Type 0} → Option (List A) → Type 0
+IsAtEnd left = IfSome left (λ items. items ≡ [])
+
+-- how a worker answers whose port gives no more, by whether memory was wanting before
+abbrev pub Ended : Bool → Result (Unit {0}) IoFault → Type 0
+Ended false (Ok done) = Unit {0}
+Ended true (Ok done) = ⊥
+Ended is_short (Err Failed) = ⊥
+Ended is_short (Err OutOfMemory) = Unit {0}
+
+-- a handler, and the port whose messages it settles
+pub record Post (H P : Type 0) : Type 0 where
+  pub handler : H
+  pub port : P
+
+-- the meanings of a handler and of a socket
+module _ {H U : Type 0} (serves : H → Ask → Settled → H → Type 0) (skips : H → H → Type 0) (left received : U → Option (List Datagram)) (taken : U → Option (List Reply)) (faults : U → ℕ)
+    (before after : Post H U) where
+  -- one message is settled, and its sender answered; the flag says that memory was found for both
+  pub record Handles (ask : Ask) (found : Bool) : Type 0 where
+    pub fate : Fate
+    pub step : Steps serves skips before.handler ask fate after.handler
+    pub unread : Keeps (left before.port) (left after.port)
+    pub unreceived : Keeps (received before.port) (received after.port)
+    pub answered : Grows (taken before.port) (taken after.port) (taken_by ask.source fate)
+    pub rose : RoseBy (failed_by fate) (faults before.port) (faults after.port)
+    pub later : faults before.port ≤ faults after.port
+    pub met : found ≡ true → unmet_by fate ≡ 0
+
+  -- one step of the handler for each datagram received, in order; the socket took the replies, but those that it refused
+  pub record Handling : Type 0 where
+    pub handled : List Handled
+    pub run : Run serves skips before.handler handled after.handler
+    pub came : Takes (left before.port) (left after.port) (map (λ one. one.datagram) handled)
+    pub noted : Grows (received before.port) (received after.port) (map (λ one. one.datagram) handled)
+    pub answered : Grows (taken before.port) (taken after.port) (answers_of handled)
+    pub rose : RoseBy (failures handled) (faults before.port) (faults after.port)
+    pub later : faults before.port ≤ faults after.port
+
+  -- why a worker ends, by its answer: nothing is left, and memory was found for all; or a receiving failed
+  abbrev pub EndsBy : List Handled → Result (Unit {0}) IoFault → Type 0
+  EndsBy handled (Ok done) = IsAtEnd (left after.port) × (unmet handled ≡ 0)
+  EndsBy handled (Err Failed) = Rose (faults before.port) (faults after.port)
+  EndsBy handled (Err OutOfMemory) = Unit {0}
+
+  -- what a socket's worker did, with its answer
+  pub record WorksSocket (result : Result (Unit {0}) IoFault) : Type 0 where
+    pub work : Handling
+    pub ends : EndsBy work.handled result

@@ -1,0 +1,28 @@
+//! The server: workers that serve sockets and listeners by one shared book, each on a thread of its own.
+#![tactic(auto)]
+
+mod crew;
+mod fault;
+mod limit;
+mod listener_threads;
+mod listener_worker;
+mod running;
+mod server;
+mod socket_threads;
+mod socket_worker;
+mod until;
+mod worker;
+
+pub use dns_ports::{Accepted, Arrived, Hub, Opening, StopToken, TcpPort, UdpPort};
+pub use dns_ticket_lock::{Pass, Seated, TicketBook};
+pub use fault::RegisterFault;
+pub use limit::Limit;
+pub use listener_worker::serve_listener;
+pub use server::ThreadServer;
+pub use socket_worker::serve_socket;
+pub use worker::Worker;
+
+/// The version of the server that this one behaves like.
+pub fn version() -> &'static str {
+    "0.26.3"
+}

@@ -1,0 +1,10 @@
+pub mod Totals
+pub mod Places
+pub mod Shares
+pub mod Seats
+pub mod Moves
+pub mod Ends
+pub mod Advancing
+pub mod Turning
+pub mod Order
+pub mod Removed

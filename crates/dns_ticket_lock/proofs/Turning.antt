@@ -1,0 +1,194 @@
+-- What one turn of a seat with one account comes to.
+use Rattle.std.proofs.Common.{◌≡◌, ◌⊎◌, inl, inr, ⊎_elim, ℕ, ◌+◌, ◌<◌, ◌||◌, Bool, true, false, Option, Some, None, Result, Ok, Err, IfOk, OnErr, List, [], ◌∷◌, ◌++◌, set, drop, length, refl, sym, ap, subst, ◌∙◌, arith}
+use Rattle.std.proofs.lemmas.List.{length-append, append-nil}
+use mathlib.Core.Option.{some}
+use lib.ListN.{get_elem?}
+use Rattle.dns_io.specs.declared.fault.OutOfMemory.{OutOfMemory}
+use Rattle.dns_io.specs.Edge.{Rose}
+use Rattle.dns_wire.specs.declared.record.Record.{Record}
+use Rattle.dns_keeper.specs.declared.row.Row.{Row}
+use Rattle.dns_book.specs.Access.{Access}
+use Rattle.dns_book.specs.declared.ask.Ask.{Ask}
+use Rattle.dns_book.specs.declared.ask.Receipt.{Receipt}
+use Rattle.dns_book.specs.declared.ask.Settled.{Settled}
+use Rattle.dns_book.specs.Book.{SeenOf, Ends, Settles, IsLeft}
+use Rattle.dns_ticket_lock.specs.declared.held.Member.{Member}
+use Rattle.dns_ticket_lock.specs.declared.held.Told.{Told}
+use Rattle.dns_ticket_lock.specs.declared.view.Account.{Account}
+use Rattle.dns_ticket_lock.specs.declared.view.Terms.{Terms}
+use Rattle.dns_ticket_lock.specs.declared.view.View.{View}
+use Rattle.dns_ticket_lock.specs.Passes.{PassSeen, IsSame, SettledBy}
+use Rattle.dns_ticket_lock.specs.Lists.{StartsWith, with_head}
+use Rattle.dns_ticket_lock.specs.Places.{all_bear, listed, places_of, places_from}
+use Rattle.dns_ticket_lock.specs.Naming.{NamesRows, Advances, batch_after}
+use Rattle.dns_ticket_lock.specs.Rule.{own, settled, member_of, with_member, FindsOwn, Done, IsDone}
+use Rattle.dns_ticket_lock.specs.Settling.{HasTerms, SettledAs, LeftAs, asked_by, done_by, receipt_in}
+use Rattle.dns_ticket_lock.proofs.Advancing.{Follows, follows}
+use Rattle.dns_ticket_lock.proofs.Seats.{within}
+
+or_last : (a b : Bool) → b ≡ true → (a || b) ≡ true
+or_last true b e = refl
+or_last false b e = e
+
+or_first : (a b : Bool) → a ≡ true → (a || b) ≡ true
+or_first a b e = rw e refl
+
+pub finds_place : (accounts : List Account) (low : ℕ) (rows : List Row) (members : List Member) → 0 < length accounts → FindsOwn accounts low rows members → low < length members
+finds_place [] low rows members some_own f = absurd (omega arith)
+finds_place (a ∷ more) low rows members some_own f = within members low (member_of a) f.1
+
+-- the list of members after
+pub members_are : (accounts : List Account) (low : ℕ) (rows : List Row) (members later : List Member) (done : Done) → 0 < length accounts → FindsOwn accounts low rows members
+    → ((m : Member) → get_elem? members low ≡ some m → later ≡ set members low (record { share = m.share + done.rise; mark = m.mark || done.mark }))
+    → later ≡ with_member (with_head (settled rows done) accounts) low members
+members_are [] low rows members later done some_own f is = absurd (omega arith)
+members_are (a ∷ more) low rows members later done some_own f is = is (member_of a) f.1
+
+-- a seat that has the one slot has this in it
+slot_or : {H : Type 0} → H → List (ℕ × Option H) → H
+slot_or d [] = d
+slot_or d (x ∷ xs) = held_or d x.1
+  where
+    held_or : {H : Type 0} → H → Option H → H
+    held_or d None = d
+    held_or d (Some h) = h
+
+pub same_held : {H : Type 0} (was : List (ℕ × Option H)) (x y : H) → was ≡ (0, Some x) ∷ [] → was ≡ (0, Some y) ∷ [] → x ≡ y
+unfolding slot_or
+same_held was x y p q = ap (slot_or x) (sym p ∙ q)
+
+module _ {K : Type 0} (krows : K → Option (List Row)) (kfaults : K → ℕ) where
+  -- what a turn did to the rows
+  pub record IsTurn (number : ℕ) (rows : List Row) (book later : SeenOf K) (told : Told) : Type 0 where
+    pub fit : IsDone number rows (done_by krows number rows later told)
+    pub many : told.count ≡ length (done_by krows number rows later told).batch
+    pub long : length rows + length (done_by krows number rows later told).batch ≡ later.row_count
+    pub named : NamesRows krows later (rows ++ (done_by krows number rows later told).batch)
+
+  pub turn_of : (number : ℕ) (rows : List Row) (book later : SeenOf K) (told : Told) → NamesRows krows book rows → Advances krows kfaults number book told.receipt told.count later → IsTurn number rows book later told
+  turn_of number rows book later told named step =
+      let f : Follows number told.count rows (krows later.keeper) = follows number told.count rows (krows book.keeper) (krows later.keeper) named.told step.rows in
+      let count = named.count in
+      let now = step.counted in
+      let many = f.many in
+      let long : length rows + length (batch_after number rows (krows later.keeper) told.count) ≡ later.row_count = omega arith in
+      record {
+        fit = record {
+          theirs = f.theirs;
+          places = step.places ∙ (ap (λ (n : ℕ). places_from (n + 1) told.count) (sym count) ∙ ap (places_from (length rows + 1)) (sym many));
+        };
+        many = sym many;
+        long = long;
+        named = record { told = f.now; count = length-append rows (batch_after number rows (krows later.keeper) told.count) ∙ long };
+      }
+
+  ends_rose : (before : SeenOf K) (ask : Ask) (batch : List Record) (failed : Bool) (receipt : Option Receipt) (after : SeenOf K) → Ends krows kfaults before ask batch failed receipt after → failed ≡ true → Rose (kfaults before.keeper) (kfaults after.keeper)
+  ends_rose before ask batch false None after (Ends.idle none) e = absurd (grind arith)
+  ends_rose before ask batch false (Some receipt) after (Ends.journalled more keeper grown later) e = absurd (grind arith)
+  ends_rose before ask batch true None after (Ends.failed more keeper kept later rose) e = rose
+  ends_rose before ask batch true (Some receipt) after x e = elim x [ ]
+
+  settle_rose : (access : Access) (before : SeenOf K) (ask : Ask) (done : Settled) (after : SeenOf K) → (s : Settles krows kfaults access before ask done after) → s.failed ≡ true → Rose (kfaults before.keeper) (kfaults after.keeper)
+  settle_rose access before ask done after s e =
+      subst (λ (b : SeenOf K). Rose (kfaults before.keeper) (kfaults b.keeper)) (sym s.counted) (ends_rose before ask _ s.failed done.receipt s.ended s.ends e)
+
+  -- the same settle, where its message says the number already
+  asked : (access : Access) (book : SeenOf K) (number : ℕ) (ask : Ask) (answer : Settled) (later : SeenOf K) → ask.client ≡ number → (s : Settles krows kfaults access book ask answer later)
+      → (s2 : Settles krows kfaults access book (asked_by number ask) answer later) × (s2.failed ≡ true → s.failed ≡ true)
+  asked access book number ask answer later client s =
+      subst (λ (n : ℕ). (s2 : Settles krows kfaults access book (asked_by n ask) answer later) × (s2.failed ≡ true → s.failed ≡ true)) client (s, λ e. e)
+
+  -- where the book answered, the account has settled
+  pub settles : (t : Terms) (access : Access) (number : ℕ) (accounts : List Account) (low : ℕ) (members : List Member) (ask : Ask) (answer : Settled) (rows : List Row) (book later : SeenOf K) (told : Told)
+      → 0 < length accounts → FindsOwn accounts low rows members → HasTerms t book → NamesRows krows book rows → ask.client ≡ number → Settles krows kfaults access book ask answer later
+      → IsTurn number rows book later told → told.receipt ≡ answer.receipt → kfaults book.keeper + told.rise ≡ kfaults later.keeper
+      → (Rose (kfaults book.keeper) (kfaults later.keeper) → (0 < told.rise) ⊎ (told.mark ≡ true))
+      → SettledAs krows kfaults t access number (own accounts) ask answer (own (with_head (settled rows (done_by krows number rows later told)) accounts))
+  settles t access number [] low members ask answer rows book later told some_own found terms named client s turn receipt rise rose = absurd (omega arith)
+  settles t access number (a ∷ more) low members ask answer rows book later told some_own found terms named client s turn receipt rise rose =
+      let same = asked access book number ask answer later client s in
+      record {
+        book = book;
+        rows = rows;
+        later = later;
+        terms = terms;
+        named = named;
+        began = found.0;
+        settles = same.0;
+        grew = ((done_by krows number rows later told).batch, refl);
+        seen = turn.named;
+        receipts = ap (λ (r : Option Receipt). a.receipts ++ listed r) receipt;
+        counted = omega arith;
+        failed = λ e. ⊎_elim (λ (some : 0 < told.rise). inl (omega arith)) (λ m. inr (or_last a.marked told.mark m))
+            (rose (settle_rose access book ask answer later s (same.1 e)));
+        mark = or_first a.marked told.mark;
+      }
+
+  -- where it found no memory, it has seen no less
+  pub leaves : (number : ℕ) (accounts : List Account) (low : ℕ) (members : List Member) (rows : List Row) (book later : SeenOf K) (told : Told) → 0 < length accounts → FindsOwn accounts low rows members
+      → told.receipt ≡ None → told.rise ≡ 0 → LeftAs (own accounts) (own (with_head (settled rows (done_by krows number rows later told)) accounts))
+  leaves number [] low members rows book later told some_own found receipt rise = absurd (omega arith)
+  leaves number (a ∷ more) low members rows book later told some_own found receipt rise = record {
+    seen = begins_further rows a.seen (done_by krows number rows later told).batch found.0;
+    receipts = ap (λ (r : Option Receipt). a.receipts ++ listed r) receipt ∙ append-nil a.receipts;
+    faults = omega arith;
+    mark = or_first a.marked told.mark;
+  }
+    where
+      begins_further : (rows seen batch : List Row) → StartsWith rows seen → StartsWith (rows ++ batch) seen
+      begins_further rows seen batch begins = Rattle.dns_ticket_lock.proofs.Seats.begins_more rows seen (rows ++ batch) (batch, refl) begins
+
+  pub answered : (t : Terms) (access : Access) (number : ℕ) (accounts : List Account) (low : ℕ) (members : List Member) (ask : Ask) (answer : Result Settled OutOfMemory) (rows : List Row) (book later : SeenOf K) (told : Told)
+      → 0 < length accounts → FindsOwn accounts low rows members → HasTerms t book → NamesRows krows book rows → ask.client ≡ number → IfOk answer (λ s. Settles krows kfaults access book ask s later)
+      → IsTurn number rows book later told → told.receipt ≡ receipt_in answer → kfaults book.keeper + told.rise ≡ kfaults later.keeper
+      → (Rose (kfaults book.keeper) (kfaults later.keeper) → (0 < told.rise) ⊎ (told.mark ≡ true))
+      → IfOk answer (λ s. SettledAs krows kfaults t access number (own accounts) ask s (own (with_head (settled rows (done_by krows number rows later told)) accounts)))
+  answered t access number accounts low members ask (Ok s) rows book later told some_own found terms named client ok turn receipt rise rose =
+      settles t access number accounts low members ask s rows book later told some_own found terms named client ok turn receipt rise rose
+  answered t access number accounts low members ask (Err fault) rows book later told some_own found terms named client ok turn receipt rise rose = tt
+
+  pub unanswered : (number : ℕ) (accounts : List Account) (low : ℕ) (members : List Member) (answer : Result Settled OutOfMemory) (rows : List Row) (book later : SeenOf K) (told : Told)
+      → 0 < length accounts → FindsOwn accounts low rows members → OnErr answer (IsLeft krows kfaults book later) → told.receipt ≡ receipt_in answer → kfaults book.keeper + told.rise ≡ kfaults later.keeper
+      → OnErr answer (LeftAs (own accounts) (own (with_head (settled rows (done_by krows number rows later told)) accounts)))
+  unanswered number accounts low members (Ok s) rows book later told some_own found err receipt rise = tt
+  unanswered number accounts low members (Err fault) rows book later told some_own found err receipt rise =
+      let left : IsLeft krows kfaults book later = err in
+      let same = left.uncounted in
+      leaves number accounts low members rows book later told some_own found receipt (omega arith)
+
+  pub seen_is : (accounts : List Account) (rows : List Row) (done : Done) → 0 < length accounts → (own (with_head (settled rows done) accounts)).seen ≡ rows ++ done.batch
+  seen_is [] rows done some_own = absurd (omega arith)
+  seen_is (a ∷ more) rows done some_own = refl
+
+-- the message is asked by a number in one step or in two
+pub asked_once : {K : Type 0} (krows : K → Option (List Row)) (kfaults : K → ℕ) (t : Terms) (access : Access) (number : ℕ) (before : Account) (ask : Ask) (answer : Settled) (after : Account)
+    → SettledAs krows kfaults t access number before (asked_by number ask) answer after → SettledAs krows kfaults t access number before ask answer after
+asked_once krows kfaults t access number before ask answer after s = record {
+  book = s.book;
+  rows = s.rows;
+  later = s.later;
+  terms = s.terms;
+  named = s.named;
+  began = s.began;
+  settles = s.settles;
+  grew = s.grew;
+  seen = s.seen;
+  receipts = s.receipts;
+  counted = s.counted;
+  failed = s.failed;
+  mark = s.mark;
+}
+
+-- what the turn of a seat comes to for its pass
+pub settled_by : {K : Type 0} (krows : K → Option (List Row)) (kfaults : K → ℕ) (access : Access) (before after : PassSeen) (ask asked : Ask) (answer : Result Settled OutOfMemory) (old new : View)
+    → before.terms ≡ old.terms → before.number ≡ old.low + 1 → before.account ≡ own old.accounts → asked ≡ asked_by before.number ask → IsSame before after → after.account ≡ own new.accounts
+    → IfOk answer (λ s. SettledAs krows kfaults old.terms access (old.low + 1) (own old.accounts) asked s (own new.accounts))
+    → IfOk answer (λ s. SettledBy krows kfaults access before ask s after)
+settled_by krows kfaults access before after ask asked (Ok s) old new terms number account ask_is same account2 ok =
+    let a = subst (λ (x : Account). SettledAs krows kfaults old.terms access (old.low + 1) (own old.accounts) asked s x) (sym account2) ok in
+    let b = subst (λ (x : Account). SettledAs krows kfaults old.terms access (old.low + 1) x asked s after.account) (sym account) a in
+    let c = subst (λ (n : ℕ). SettledAs krows kfaults old.terms access n before.account asked s after.account) (sym number) b in
+    let d = subst (λ (t : Terms). SettledAs krows kfaults t access before.number before.account asked s after.account) (sym terms) c in
+    let e = subst (λ (q : Ask). SettledAs krows kfaults before.terms access before.number before.account q s after.account) ask_is d in
+    record { same = same; account = asked_once krows kfaults before.terms access before.number before.account ask s after.account e }
+settled_by krows kfaults access before after ask asked (Err fault) old new terms number account ask_is same account2 ok = tt

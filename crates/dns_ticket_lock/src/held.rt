@@ -1,0 +1,189 @@
+//! What lies in the slot, and one settle of it.
+
+ghost use Rattle.std.specs.Prelude.{◌≡◌, ℕ, ◌+◌, ◌<◌, ◌≤◌, ◌^◌, ◌⊎◌, ◌||◌, true, length, replicate, slice_set, IfOk, IfSome, OnErr, None};
+ghost use mathlib.Core.Option.{some};
+ghost use lib.ListN.{get_elem?};
+ghost use Rattle.dns_io.specs.Edge.{Rose};
+ghost use Rattle.dns_book.specs.Book.{Settles, IsLeft, IsKept};
+ghost use Rattle.dns_ticket_lock.specs.Lists.{total};
+ghost use Rattle.dns_ticket_lock.specs.Shares.{share_of, marks_stand, new_member, last};
+ghost use Rattle.dns_ticket_lock.specs.Naming.{Advances};
+ghost use Rattle.dns_ticket_lock.specs.Settling.{Names, receipt_in};
+
+use crate::steps::Carried;
+use dns_book::{AccessControl, Ask, Book, Receipt, Settled};
+use dns_io::OutOfMemory;
+use dns_keeper::Keeper;
+use std::alloc::Global;
+
+/// What the list beside the book has for a number.
+#[derive(Clone, Copy)]
+pub struct Member {
+    /// By how much its settles raised the keeper's count of faults.
+    pub share: u64,
+    /// Whether that count stood at its last value when it settled.
+    pub mark: bool,
+}
+
+/// What lies in the slot: the book, and a member for each number.
+#[derive(Drop)]
+pub struct Held<K: Keeper> {
+    pub book: Book<K>,
+    pub members: Vec<Member>,
+    /// The keeper's count of faults when the book was shared.
+    pub start: u64,
+    ghost sums: { start + total share_of members.items ≡ K.faults book.keeper },
+    ghost marked: { marks_stand (K.faults book.keeper) members.items ≡ true },
+}
+
+impl<K: Keeper> Carried for Held<K> {
+    ghost names = { λ t rows members h. Names K.rows t rows members h.book h.members.items h.start };
+}
+
+/// What a settle did, beside its answer.
+#[derive(Clone, Copy)]
+pub struct Told {
+    /// The rows that it added, none where it added none.
+    pub receipt: Option<Receipt>,
+    /// How many rows it added.
+    pub count: u64,
+    /// By how much it raised the keeper's count of faults.
+    pub rise: u64,
+    /// Whether that count stood at its last value before.
+    pub mark: bool,
+}
+
+/// A member for each of so many numbers; none where memory runs out.
+pub(crate) fn new_members(alloc: Global, seats: usize) -> Option<Vec<Member>>
+    ensures { IfSome result (λ v. v.items ≡ replicate seats new_member) }
+{
+    let mut members = Vec::new(alloc);
+    for _ in 0..seats {
+        let Ok(()) = members.push(Member {
+            share: 0,
+            mark: false,
+        }) else {
+            return None;
+        };
+    }
+    Some(members)
+}
+
+/// The book with its new members.
+pub(crate) fn new_held<K: Keeper>(book: Book<K>, members: Vec<Member>) -> Held<K>
+    requires { members.items ≡ replicate (length members.items) new_member }
+    ensures members { result.members.items ≡ members.items }
+    ensures book { (result.book ≡ book) × (result.start ≡ K.faults book.keeper) }
+{
+    let start = book.fault_count();
+    Held {
+        book,
+        members,
+        start,
+    }
+}
+
+/// By how much the keeper's count of faults rose.
+fn rise_since<K: Keeper>(book: &Book<K>, was: u64) -> u64
+    requires { was ≤ K.faults book.now.keeper }
+    ensures rise { was + result ≡ K.faults book.now.keeper }
+    ensures fits { K.faults book.now.keeper < 2 ^ 64 }
+{
+    book.fault_count() - was
+}
+
+/// How many rows came.
+fn rows_since<K: Keeper>(book: &Book<K>, before: u64) -> u64
+    requires { before ≤ book.now.row_count }
+    ensures { before + result ≡ book.now.row_count }
+{
+    book.journal_len() - before
+}
+
+/// The receipt of an answer, if it has one.
+fn receipt_of(answer: &Result<Settled, OutOfMemory>) -> Option<Receipt>
+    ensures { result ≡ receipt_in answer.now }
+{
+    match answer {
+        Ok(settled) => settled.receipt,
+        Err(_) => None,
+    }
+}
+
+/// The member after a settle.
+fn member_after(member: Member, rise: u64, mark: bool) -> Member
+    requires { member.share + rise < 2 ^ 64 }
+    ensures { result ≡ record { share = member.share + rise; mark = member.mark || mark } }
+{
+    Member {
+        share: member.share + rise,
+        mark: member.mark || mark,
+    }
+}
+
+/// Settles one message by the book, and tells what that did.
+fn settle_book<K: Keeper>(
+    book: &mut Book<K>,
+    access: &AccessControl,
+    ask: &Ask,
+) -> (Result<Settled, OutOfMemory>, Told)
+    requires moment { ask.now.at < 2 ^ 47 }
+    requires bytes { length ask.now.bytes ≤ 65535 }
+    ensures ok { IfOk result.0 (λ settled. Settles K.rows K.faults access.now book.old ask.now settled book.new) }
+    ensures err { OnErr result.0 (IsLeft K.rows K.faults book.old book.new) }
+    ensures advances { Advances K.rows K.faults ask.now.client book.old result.1.receipt result.1.count book.new }
+    ensures receipt { result.1.receipt ≡ receipt_in result.0 }
+    ensures rise { K.faults book.old.keeper + result.1.rise ≡ K.faults book.new.keeper }
+    ensures fits { K.faults book.new.keeper < 2 ^ 64 }
+    ensures rose { Rose (K.faults book.old.keeper) (K.faults book.new.keeper) → (0 < result.1.rise) ⊎ (result.1.mark ≡ true) }
+    ensures mark { result.1.mark ≡ true → K.faults book.old.keeper ≡ last }
+{
+    let before = book.journal_len();
+    let was = book.fault_count();
+    let answer = book.settle(access, ask);
+    let told = Told {
+        receipt: receipt_of(&answer),
+        count: rows_since(book, before),
+        rise: rise_since(book, was),
+        mark: was == u64::MAX,
+    };
+    (answer, told)
+}
+
+/// Settles one message by the number low + 1, and adds to its member what that did to the keeper's count of faults.
+pub(crate) fn settle_held<K: Keeper>(
+    held: Held<K>,
+    low: usize,
+    access: &AccessControl,
+    ask: &Ask,
+) -> (Held<K>, Result<Settled, OutOfMemory>, Told)
+    requires moment { ask.now.at < 2 ^ 47 }
+    requires bytes { length ask.now.bytes ≤ 65535 }
+    requires low { low < length held.members.items }
+    ensures ok { IfOk result.1 (λ settled. Settles K.rows K.faults access.now held.book ask.now settled result.0.book) }
+    ensures err { OnErr result.1 (IsLeft K.rows K.faults held.book result.0.book) }
+    ensures advances { Advances K.rows K.faults ask.now.client held.book result.2.receipt result.2.count result.0.book }
+    ensures receipt { result.2.receipt ≡ receipt_in result.1 }
+    ensures rise { K.faults held.book.keeper + result.2.rise ≡ K.faults result.0.book.keeper }
+    ensures rose { Rose (K.faults held.book.keeper) (K.faults result.0.book.keeper) → (0 < result.2.rise) ⊎ (result.2.mark ≡ true) }
+    ensures members { (m : _) → get_elem? held.members.items low ≡ some m → result.0.members.items ≡ slice_set held.members.items low (record { share = m.share + result.2.rise; mark = m.mark || result.2.mark }) }
+    ensures start { result.0.start ≡ held.start }
+{
+    let Held {
+        mut book,
+        mut members,
+        start,
+    } = held;
+    let (answer, told) = settle_book(&mut book, access, ask);
+    let member = members[low];
+    members[low] = member_after(member, told.rise, told.mark);
+    (
+        Held {
+            book,
+            members,
+            start,
+        },
+        answer,
+        told,
+    )
+}

@@ -1,0 +1,131 @@
+//! A turn of a pass: it draws a ticket, takes the book when its turn comes, settles one message, and gives the book back.
+
+ghost use Rattle.std.specs.Prelude.{◌≡◌, ℕ, ◌+◌, ◌<◌, ◌≤◌, ◌^◌, length, [], ◌∷◌, ◌++◌, Some, None, IfOk, OnOk, OnErr};
+ghost use Rattle.dns_ticket_lock.specs.Lists.{with_head};
+ghost use Rattle.dns_ticket_lock.specs.Rule.{Takes, IsDone, waits, has, has_counted, rests, own, settled, with_member};
+ghost use Rattle.dns_ticket_lock.specs.Settling.{Names, SettledAs, LeftAs, done_by, asked_by};
+ghost use Rattle.dns_ticket_lock.specs.Passes.{SettledBy, LeftBy};
+
+use crate::counting::count_done;
+use crate::held::{Held, Told, settle_held};
+use crate::pass::{Pass, TicketBook};
+use crate::steps::{Board, Carried, draw, give, leave, take, wait_for_turn};
+use crate::view::View;
+use atomic_table::{Badge, Seat};
+use dns_book::{AccessControl, Ask, Settled};
+use dns_io::{Octets, OutOfMemory};
+use dns_keeper::Keeper;
+use std::mem;
+use std::sync::Wait;
+
+/// Draws a ticket, waits for its turn and takes the book out.
+fn begin_turn<T: Carried, R: Wait>(rt: &R, board: &Board<T>, seat: &mut Seat<Option<T>, View>) -> T
+    requires board { (board.now.table_id.words ≡ 3) × (board.now.table_id.slots ≡ 1) × (seat.old.table_id ≡ board.now.table_id) }
+    requires idle { (seat.old.me.1 ≡ []) × (seat.old.me.0.phase ≡ 0) × (0 < length seat.old.me.0.accounts) }
+    ensures same { seat.new.table_id ≡ seat.old.table_id }
+    ensures took { (ticket : ℕ) × (rows : _) × (members : _) × (seat.new.me ≡ (has rows members (waits ticket seat.old.me.0), (0, None) ∷ [])) × Takes T.names seat.old.me.0 rows members result }
+{
+    let ticket = draw(board, seat);
+    wait_for_turn(rt, board, seat, ticket);
+    take(board, seat)
+}
+
+/// Counts what was done, puts the book back and gives the turn to the next.
+fn end_turn<K: Keeper>(
+    board: &Board<Held<K>>,
+    seat: &mut Seat<Option<Held<K>>, View>,
+    held: Held<K>,
+    told: &Told,
+)
+    requires board { (board.now.table_id.words ≡ 3) × (board.now.table_id.slots ≡ 1) × (seat.old.table_id ≡ board.now.table_id) }
+    requires has { (seat.old.me.0.phase ≡ 2) × (seat.old.me.1 ≡ (0, None) ∷ []) }
+    requires done { IsDone (seat.old.me.0.low + 1) seat.old.me.0.rows (done_by K.rows (seat.old.me.0.low + 1) seat.old.me.0.rows held.book told.now) }
+    requires many { (told.now.count ≡ length (done_by K.rows (seat.old.me.0.low + 1) seat.old.me.0.rows held.book told.now).batch) × (length seat.old.me.0.rows + length (done_by K.rows (seat.old.me.0.low + 1) seat.old.me.0.rows held.book told.now).batch ≡ held.book.row_count) }
+    requires names { Names K.rows seat.old.me.0.terms (seat.old.me.0.rows ++ (done_by K.rows (seat.old.me.0.low + 1) seat.old.me.0.rows held.book told.now).batch) (with_member (with_head (settled seat.old.me.0.rows (done_by K.rows (seat.old.me.0.low + 1) seat.old.me.0.rows held.book told.now)) seat.old.me.0.accounts) seat.old.me.0.low seat.old.me.0.members) held.book held.members.items held.start }
+    ensures same { seat.new.table_id ≡ seat.old.table_id }
+    ensures rests { seat.new.me ≡ (rests (has_counted (done_by K.rows (seat.old.me.0.low + 1) seat.old.me.0.rows held.book told.now) seat.old.me.0), []) }
+{
+    count_done(board, seat, &held, told);
+    give(board, seat, held);
+    leave(board, seat);
+}
+
+/// One turn of a seat with one account: the message's client is its number. Tells how many rows there are then.
+fn settle_seat<K: Keeper, R: Wait>(
+    rt: &R,
+    board: &Board<Held<K>>,
+    seat: &mut Seat<Option<Held<K>>, View>,
+    access: &AccessControl,
+    ask: &Ask,
+) -> (Result<Settled, OutOfMemory>, u64)
+    requires board { (board.now.table_id.words ≡ 3) × (board.now.table_id.slots ≡ 1) × (seat.old.table_id ≡ board.now.table_id) }
+    requires idle { (seat.old.me.1 ≡ []) × (seat.old.me.0.phase ≡ 0) × (length seat.old.me.0.accounts ≡ 1) }
+    requires number { ask.now.client ≡ seat.old.me.0.low + 1 }
+    requires moment { ask.now.at < 2 ^ 47 }
+    requires bytes { length ask.now.bytes ≤ 65535 }
+    ensures same { seat.new.table_id ≡ seat.old.table_id }
+    ensures idle { (seat.new.me.1 ≡ []) × (seat.new.me.0.phase ≡ 0) × (length seat.new.me.0.accounts ≡ 1) }
+    ensures low { (seat.new.me.0.low ≡ seat.old.me.0.low) × (seat.new.me.0.terms ≡ seat.old.me.0.terms) }
+    ensures seen { length (own seat.new.me.0.accounts).seen ≡ result.1 }
+    ensures ok { IfOk result.0 (λ settled. SettledAs K.rows K.faults seat.old.me.0.terms access.now (seat.old.me.0.low + 1) (own seat.old.me.0.accounts) ask.now settled (own seat.new.me.0.accounts)) }
+    ensures err { OnErr result.0 (LeftAs (own seat.old.me.0.accounts) (own seat.new.me.0.accounts)) }
+{
+    let low = ask.client as usize - 1;
+    let held = begin_turn(rt, board, seat);
+    let (held, answer, told) = settle_held(held, low, access, ask);
+    let rows = held.book.journal_len();
+    end_turn(board, seat, held, &told);
+    (answer, rows)
+}
+
+/// The message with another client, in a buffer that is taken out of its place.
+fn asked_as(
+    buffer: &mut Vec<u8>,
+    empty: Vec<u8>,
+    ask: &Ask,
+    client: u32,
+) -> Result<Ask, OutOfMemory>
+    ensures { IfOk result (λ asked. asked ≡ asked_by client ask.now) }
+{
+    buffer.clear();
+    buffer.extend_from_slice(ask.bytes.as_slice())?;
+    Ok(Ask {
+        bytes: Octets::from_vec(mem::replace(buffer, empty)),
+        source: ask.source,
+        protocol: ask.protocol,
+        at: ask.at,
+        client,
+    })
+}
+
+impl<K: Keeper> TicketBook<K> {
+    /// Settles one message when the turn of the pass comes, as `Book::settle` does, on rows that begin with what the pass has
+    /// seen, and with the pass's number as its client; afterwards the pass has seen the rows as they then are. Where memory ran
+    /// out, nothing has changed but that the pass may have seen more.
+    ///
+    /// It waits for as long as those before it take: it looks a few times at once, then gives its processor away between two
+    /// looks, and then sleeps between them.
+    pub fn settle<R: Wait>(
+        &self,
+        rt: &R,
+        pass: &mut Pass,
+        access: &AccessControl,
+        ask: &Ask,
+    ) -> Result<Settled, OutOfMemory>
+        requires pass { pass.old.book ≡ self.now.id }
+        requires moment { ask.now.at < 2 ^ 47 }
+        requires bytes { length ask.now.bytes ≤ 65535 }
+        ensures ok { IfOk result (λ settled. SettledBy K.rows K.faults access.now pass.old ask.now settled pass.new) }
+        ensures err { OnErr result (LeftBy pass.old pass.new) }
+    {
+        let asked = asked_as(&mut pass.bytes, Vec::new(pass.alloc), ask, pass.number)?;
+        let badge = mem::replace(&mut pass.badge, Badge::blank());
+        let mut seat: Seat<Option<Held<K>>, View> = badge.into_seat();
+        let (answer, rows) = settle_seat(rt, &self.table.shared, &mut seat, access, &asked);
+        pass.badge = seat.into_badge();
+        pass.seen = rows;
+        let Ask { bytes, .. } = asked;
+        pass.bytes = bytes.into_vec();
+        answer
+    }
+}

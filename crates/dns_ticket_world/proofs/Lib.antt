@@ -1,0 +1,11 @@
+pub mod Tickets
+pub mod SeatLists
+pub mod RowPlaces
+pub mod Phases
+pub mod Turns
+pub mod Counting
+pub mod Making
+pub mod MadeSeats
+pub mod Sharing
+pub mod Stepping
+pub mod Meanings

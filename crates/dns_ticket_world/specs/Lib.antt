@@ -1,0 +1,5 @@
+pub mod Seats
+pub mod Rows
+pub mod World
+pub mod Facts
+pub mod Changes
