@@ -1,7 +1,7 @@
 -- Of what the program was given nothing is at fault: then it ends with the replies, or for want of memory.
 use Rattle.std.proofs.Common.{◌≡◌, ℕ, ◌≤◌, List, [], ◌∷◌, inl, inr, length, Option, Some, None, IsSome, Result, Ok, Err, refl, sym, ap, subst, ◌∙◌, length-append, arith}
 use Rattle.std.proofs.lemmas.Option.{same_Some}
-use Rattle.dns_io.specs.Edge.{Told, WasLonger}
+use Rattle.dns_io.specs.Edge.{Told, WasLonger, Rose}
 use Rattle.dns_name.specs.Name.{fold_of}
 use Rattle.dns_wire.specs.declared.record.Record.{Record}
 use Rattle.dns_keeper.specs.declared.row.Row.{Row}
@@ -15,8 +15,8 @@ use Rattle.dns_server_core.specs.Connections.{new_kept}
 use Rattle.dns_book.specs.Opening.{HadNoRow}
 use Rattle.dns_program.specs.declared.status.Status.{Status}
 use Rattle.dns_program.specs.declared.status.Status.TheVariants as status
-use Rattle.dns_program.specs.declared.run.Opening.{Opening}
-use Rattle.dns_program.specs.declared.run.Opening.TheVariants.{Recover}
+use Rattle.dns_program.specs.declared.opening.Opening.{Opening}
+use Rattle.dns_program.specs.declared.opening.Opening.TheVariants.{Recover}
 use Rattle.dns_program.specs.declared.command_line.Options.{Options}
 use Rattle.dns_program.specs.CommandLine.{options_of}
 use Rattle.dns_program.specs.EventText.{events_of}
@@ -50,32 +50,49 @@ no_rows : (origin : List (List ℕ)) (rows : List Row) (records : List Record) �
 no_rows origin [] records none r = absurd (let ran = r.runs in let end = r.is in cc)
 no_rows origin (row ∷ rows) records none r = absurd cc
 
-module _ (w : World) (x : IsSound w) where
+module _ (w : World) (no_zone_fault : Rose w.zone.faults_before w.zone.faults_after → ⊥) (no_journal_fault : Rose w.journal.faults_before w.journal.faults_after → ⊥) (told_zone : IsSome w.zone.after) (told_journal : IsSome w.journal.after) where
   of_look : (s : Status) → SeesNoRow w.journal s → s ≡ status.OutOfMemory
-  of_look s (journal_unread rose) = absurd (x.faultless.journal rose)
+  of_look s (journal_unread rose) = absurd (no_journal_fault rose)
   of_look s journal_without_memory = refl
 
   -- a journal without rows, and a zone text
   text_in : (origin : List (List ℕ)) → HasZone w origin → HadNoRow w.journal.before w.journal.after
       → (text : List ℕ) × (records : List Record) × (w.zone.before ≡ Some text) × (length text ≤ zone_bound) × (zone_of origin text ≡ Ok records)
   text_in origin (in_text text records none is short zone) had = (text, records, is, short, zone)
-  text_in origin (in_rows rows records is stands) had = absurd (no_rows (fold_of origin) rows records (told _ w.journal.before w.journal.after rows is x.told.journal had).1 stands)
+  text_in origin (in_rows rows records is stands) had = absurd (no_rows (fold_of origin) rows records (told _ w.journal.before w.journal.after rows is told_journal had).1 stands)
 
   of_zone : (origin : List (List ℕ)) (s : Status) → HasZone w origin → HadNoRow w.journal.before w.journal.after → ReadsNoZone w.zone origin s → s ≡ status.OutOfMemory
-  of_zone origin s has had (zone_unread rose) = absurd (x.faultless.zone rose)
+  of_zone origin s has had (zone_unread rose) = absurd (no_zone_fault rose)
   of_zone origin s has had (zone_too_long longer) =
       let t = text_in origin has had in
-      absurd (not_longer w.zone.before w.zone.after t.0 zone_bound t.2 x.told.zone t.3 longer)
+      absurd (not_longer w.zone.before w.zone.after t.0 zone_bound t.2 told_zone t.3 longer)
   of_zone origin s has had (zone_faulty line kind read) =
       let t = text_in origin has had in
-      let f = told _ w.zone.before w.zone.after t.0 t.2 x.told.zone read in
+      let f = told _ w.zone.before w.zone.after t.0 t.2 told_zone read in
       absurd (let good = t.4 in let bad = f.1.1.1 in cc)
   of_zone origin s has had zone_without_memory = refl
 
-  of_finding : (origin : List (List ℕ)) (s : Status) → HasZone w origin → FindsNot w.journal w.zone origin s → s ≡ status.OutOfMemory
+  pub of_finding : (origin : List (List ℕ)) (s : Status) → HasZone w origin → FindsNot w.journal w.zone origin s → s ≡ status.OutOfMemory
   of_finding origin s has (unseen sees untouched) = of_look s sees
   of_finding origin s has (no_zone none reads) = of_zone origin s has none reads
 
+  -- rows that stand for a zone are not refused
+  none_refused : (origin : List (List ℕ)) (row : _) (why : ReplayKind) → HasZone w origin → Finds w.journal w.zone origin Recover
+      → Told (λ old new. Replays (fold_of origin) old (Err (record { row = row; kind = why }))) w.journal.before w.journal.after → ⊥
+  none_refused origin row why (in_text text records none is short zone) found refused =
+      let had = told _ w.journal.before w.journal.after [] none told_journal found.0 in
+      had.1 refl
+  none_refused origin row why (in_rows rows records is stands) found refused =
+      let t = told _ w.journal.before w.journal.after rows is told_journal refused in
+      let same = replays_one (fold_of origin) rows (Ok records) (Err (record { row = row; kind = why })) stands t.1 in
+      absurd cc
+
+  pub of_opening : (origin : List (List ℕ)) (opening : Opening) (s : Status) → HasZone w origin → Finds w.journal w.zone origin opening → OpensNot w.journal origin opening s → s ≡ status.OutOfMemory
+  of_opening origin opening s has found (rows_refused row why refused) = absurd (none_refused origin row why has found refused)
+  of_opening origin opening s has found (journal_failed rose) = absurd (no_journal_fault rose)
+  of_opening origin opening s has found opening_without_memory = refl
+
+module _ (w : World) (x : IsSound w) where
   of_events : (s : Status) → LoadsNoEvents w.events s → s ≡ status.OutOfMemory
   of_events s (events_unread rose) = absurd (x.faultless.events rose)
   of_events s (events_too_long longer) = absurd (not_longer w.events.before w.events.after x.events.text event_bound x.events.told x.told.events x.events.short longer)
@@ -84,22 +101,6 @@ module _ (w : World) (x : IsSound w) where
       absurd (let good = x.events.read in let bad = f.1.1.1 in cc)
   of_events s events_without_memory = refl
 
-  -- rows that stand for a zone are not refused
-  none_refused : (origin : List (List ℕ)) (row : _) (why : ReplayKind) → HasZone w origin → Finds w.journal w.zone origin Recover
-      → Told (λ old new. Replays (fold_of origin) old (Err (record { row = row; kind = why }))) w.journal.before w.journal.after → ⊥
-  none_refused origin row why (in_text text records none is short zone) found refused =
-      let had = told _ w.journal.before w.journal.after [] none x.told.journal found.0 in
-      had.1 refl
-  none_refused origin row why (in_rows rows records is stands) found refused =
-      let t = told _ w.journal.before w.journal.after rows is x.told.journal refused in
-      let same = replays_one (fold_of origin) rows (Ok records) (Err (record { row = row; kind = why })) stands t.1 in
-      absurd cc
-
-  of_opening : (origin : List (List ℕ)) (opening : Opening) (s : Status) → HasZone w origin → Finds w.journal w.zone origin opening → OpensNot w.journal origin opening s → s ≡ status.OutOfMemory
-  of_opening origin opening s has found (rows_refused row why refused) = absurd (none_refused origin row why has found refused)
-  of_opening origin opening s has found (journal_failed rose) = absurd (x.faultless.journal rose)
-  of_opening origin opening s has found opening_without_memory = refl
-
   -- the zone of the words
   zone_for : (options : Options) → options_of w.words ≡ Some options → HasZone w options.origin
   zone_for options legal = subst (λ (o : Options). HasZone w o.origin) (same_Some _ _ (sym x.legal ∙ legal)) x.zone
@@ -107,9 +108,9 @@ module _ (w : World) (x : IsSound w) where
   of_refusal : (s : Status) → IsRefused w.words w.zone w.events w.journal s → s ≡ status.OutOfMemory
   of_refusal s (at_words none a b c) = absurd (let some = x.legal in cc)
   of_refusal s (without_memory a b c) = refl
-  of_refusal s (at_finding options legal finds u) = of_finding options.origin s (zone_for options legal) finds
+  of_refusal s (at_finding options legal finds u) = of_finding w x.faultless.zone x.faultless.journal x.told.zone x.told.journal options.origin s (zone_for options legal) finds
   of_refusal s (at_events options opening legal found loads) = of_events s loads
-  of_refusal s (at_opening options opening events legal found heard opens) = of_opening options.origin opening s (zone_for options legal) found opens
+  of_refusal s (at_opening options opening events legal found heard opens) = of_opening w x.faultless.zone x.faultless.journal x.told.zone x.told.journal options.origin opening s (zone_for options legal) found opens
 
   -- the events that were loaded are the valid ones
   none_rejected : (events : List Event) → LoadsEvents w.events events → (Valid new_kept events → ⊥) → ⊥

@@ -23,9 +23,9 @@ use Rattle.dns_server_core.specs.Runs.{Completed, Run}
 use Rattle.dns_server_core.specs.Books.{failures, RoseBy}
 use Rattle.dns_program.specs.declared.status.Status.{Status}
 use Rattle.dns_program.specs.declared.status.Status.TheVariants as status
-use Rattle.dns_program.specs.declared.run.Inputs.{Inputs}
-use Rattle.dns_program.specs.declared.run.Opening.{Opening}
-use Rattle.dns_program.specs.declared.run.Opening.TheVariants.{Begin, Recover}
+use Rattle.dns_program.specs.declared.run_list.Inputs.{Inputs}
+use Rattle.dns_program.specs.declared.opening.Opening.{Opening}
+use Rattle.dns_program.specs.declared.opening.Opening.TheVariants.{Begin, Recover}
 use Rattle.dns_program.specs.declared.command_line.Options.{Options}
 use Rattle.dns_program.specs.CommandLine.{access_of}
 use Rattle.dns_program.specs.Lines.{output_lines}
@@ -70,14 +70,14 @@ answered rows faults w text t a e = subst (λ (x : Status). Ends rows faults w x
 -- ---- the journal
 
 -- a journal before and after
-abbrev journal_of : Option (List Row) → Option (List Row) → ℕ → ℕ → Around (List Row)
+abbrev pub journal_of : Option (List Row) → Option (List Row) → ℕ → ℕ → Around (List Row)
 journal_of before after n m = record { before = before; after = after; faults_before = n; faults_after = m }
 
-Finds-on : (b m a : Option (List Row)) (fb fm fa : ℕ) (source : Around (List ℕ)) (origin : List (List ℕ)) (opening : Opening) → Finds (journal_of b m fb fm) source origin opening → NeverBegins m a → Finds (journal_of b a fb fa) source origin opening
+pub Finds-on : (b m a : Option (List Row)) (fb fm fa : ℕ) (source : Around (List ℕ)) (origin : List (List ℕ)) (opening : Opening) → Finds (journal_of b m fb fm) source origin opening → NeverBegins m a → Finds (journal_of b a fb fa) source origin opening
 Finds-on b m a fb fm fa source origin (Begin zone) f told = (HadNoRow-on b m a f.0 told, f.1)
 Finds-on b m a fb fm fa source origin Recover f told = (HadRows-on b m a f.0 told, f.1)
 
-OpensNot-earlier : (b m a : Option (List Row)) (fb fm fa : ℕ) (origin : List (List ℕ)) (opening : Opening) (s : Status) → OpensNot (journal_of m a fm fa) origin opening s → Keeps b m → fb ≤ fm → OpensNot (journal_of b a fb fa) origin opening s
+pub OpensNot-earlier : (b m a : Option (List Row)) (fb fm fa : ℕ) (origin : List (List ℕ)) (opening : Opening) (s : Status) → OpensNot (journal_of m a fm fa) origin opening s → Keeps b m → fb ≤ fm → OpensNot (journal_of b a fb fa) origin opening s
 OpensNot-earlier b m a fb fm fa origin opening s (rows_refused row why refused) k later = rows_refused row why (AreRefused-earlier b m a origin row why k refused)
 OpensNot-earlier b m a fb fm fa origin opening s (journal_failed rose) k later = journal_failed (Rose-earlier fb fm fa later rose)
 OpensNot-earlier b m a fb fm fa origin opening s opening_without_memory k later = opening_without_memory
@@ -100,7 +100,7 @@ recovered_not b a n m origin kind.NoZone h = opening_without_memory
 recovered_not b a n m origin kind.OutOfMemory h = opening_without_memory
 
 -- what was opened of a journal that nothing had changed yet
-IsOpened-earlier : {K : Type 0} (b m : Option (List Row)) (rows : K → Option (List Row)) (options : Options) (moment : ℕ) (opening : Opening) (first : SeenOf K) → Keeps b m → IsOpened m rows options moment opening first → IsOpened b rows options moment opening first
+pub IsOpened-earlier : {K : Type 0} (b m : Option (List Row)) (rows : K → Option (List Row)) (options : Options) (moment : ℕ) (opening : Opening) (first : SeenOf K) → Keeps b m → IsOpened m rows options moment opening first → IsOpened b rows options moment opening first
 IsOpened-earlier b m rows options moment (Begin zone) first k o = record {
   empty = HadNoRow-earlier b m (rows first.keeper) k o.empty;
   grown = GrowsByBatch-earlier b m (rows first.keeper) 0 (serial_of zone.records) moment (opening_of zone) k o.grown;
@@ -119,7 +119,7 @@ IsOpened-earlier b m rows options moment Recover first k o = record {
 }
 
 -- and it was told before
-IsOpened-told : {K : Type 0} (m : Option (List Row)) (rows : K → Option (List Row)) (options : Options) (moment : ℕ) (opening : Opening) (first : SeenOf K) → IsOpened m rows options moment opening first → NeverBegins m (rows first.keeper)
+pub IsOpened-told : {K : Type 0} (m : Option (List Row)) (rows : K → Option (List Row)) (options : Options) (moment : ℕ) (opening : Opening) (first : SeenOf K) → IsOpened m rows options moment opening first → NeverBegins m (rows first.keeper)
 IsOpened-told m rows options moment (Begin zone) first o = NeverBegins-told _ m (rows first.keeper) o.grown
 IsOpened-told m rows options moment Recover first o = NeverBegins-told _ m (rows first.keeper) o.kept
 

@@ -7,3 +7,8 @@ mod Told
 mod Settled
 mod Endings
 mod Completing
+mod Loops
+mod Crews
+mod Served
+mod ServeEndings
+mod RunEndings

@@ -48,25 +48,32 @@ is_option word =
     is_update_word word || is_path_word (codes "--zone=") word || is_path_word (codes "--journal=") word
     || is_some (net_behind (codes "--deny=") word) || is_some (net_behind (codes "--allow=") word)
 
--- options: `--update`, the zone text's path and the journal's path at most once each, and any number of networks
-abbrev pub are_options : List (List ℕ) → Bool
-are_options words =
-    list_all is_option words && nat_le (count_by is_update_word words) 1
+-- `--update`, the zone text's path and the journal's path stand at most once each
+abbrev pub has_no_double : List (List ℕ) → Bool
+has_no_double words =
+    nat_le (count_by is_update_word words) 1
     && nat_le (count_by (is_path_word (codes "--zone=")) words) 1 && nat_le (count_by (is_path_word (codes "--journal=")) words) 1
+
+-- options: none twice but for the networks
+abbrev pub are_options : List (List ℕ) → Bool
+are_options words = list_all is_option words && has_no_double words
 
 -- the options with the folded name of this text as the origin, where it is a name (RFC 1035 5.1, 2.3.3)
 abbrev pub options_for : Result (List (List ℕ)) ProtoError → Bool → List IpNet → List IpNet → Option Options
 options_for (Err e) allow_update denied allowed = None
 options_for (Ok name) allow_update denied allowed = Some (record { origin = fold_of name; allow_update = allow_update; denied = denied; allowed = allowed })
 
--- what legal words ask for: `events`, an origin, and options. Updates are let in where `--update` stands.
+-- what an origin and the options behind it ask for. Updates are let in where `--update` stands.
+abbrev pub options_behind : List ℕ → List (List ℕ) → Option Options
+options_behind origin words =
+    options_for (name_of origin) (list_any is_update_word words) (nets_behind (codes "--deny=") words) (nets_behind (codes "--allow=") words)
+
+-- what legal words of `events` ask for: the command, an origin, and options
 unfoldable pub options_of : List (List ℕ) → Option Options
 options_of [] = None
 options_of (command ∷ []) = None
 options_of (command ∷ origin ∷ words) =
-    if bytes_eq command (codes "events") && are_options words
-    then options_for (name_of origin) (list_any is_update_word words) (nets_behind (codes "--deny=") words) (nets_behind (codes "--allow=") words)
-    else None
+    if bytes_eq command (codes "events") && are_options words then options_behind origin words else None
 
 -- who is let in: the networks of the options
 abbrev pub access_of : Options → Access

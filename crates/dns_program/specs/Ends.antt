@@ -13,8 +13,8 @@ use Rattle.dns_server_core.specs.Runs.{Completed, Run}
 use Rattle.dns_server_core.specs.Books.{failures, RoseBy}
 use Rattle.dns_program.specs.declared.status.Status.{Status}
 use Rattle.dns_program.specs.declared.status.Status.TheVariants as status
-use Rattle.dns_program.specs.declared.run.Opening.{Opening}
-use Rattle.dns_program.specs.declared.run.Opening.TheVariants.{Begin, Recover}
+use Rattle.dns_program.specs.declared.opening.Opening.{Opening}
+use Rattle.dns_program.specs.declared.opening.Opening.TheVariants.{Begin, Recover}
 use Rattle.dns_program.specs.declared.command_line.Options.{Options}
 use Rattle.dns_program.specs.CommandLine.{options_of, access_of}
 use Rattle.dns_program.specs.Lines.{output_lines}

@@ -35,3 +35,7 @@ closing_lines serial rows open_ = number_line (codes "serial") serial ++ number_
 -- the whole output: a line for each reply, and the closing lines
 abbrev pub output_lines : List Out → ℕ → ℕ → ℕ → List ℕ
 output_lines outs serial rows open_ = flat_map out_line outs ++ closing_lines serial rows open_
+
+-- the whole output of `serve`: the zone's serial, and how many rows the journal has
+abbrev pub serve_lines : ℕ → ℕ → List ℕ
+serve_lines serial rows = number_line (codes "serial") serial ++ number_line (codes "journal_len") rows

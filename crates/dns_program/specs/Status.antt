@@ -23,6 +23,7 @@ status_number status.WriteFault = 7
 status_number status.KeeperFault = 8
 status_number status.TooLong = 9
 status_number status.OutOfMemory = 10
+status_number status.PortFault = 11
 
 -- what is wrong with a line of a zone text
 abbrev pub zone_kind_text : ZoneTextKind → List ℕ
@@ -56,6 +57,7 @@ refusal_line status.WriteFault = []
 refusal_line status.KeeperFault = codes "keeper fault\n"
 refusal_line status.TooLong = codes "too long\n"
 refusal_line status.OutOfMemory = []
+refusal_line status.PortFault = codes "port fault\n"
 
 -- the status of a source that was not read to its end
 abbrev pub read_status : ReadFault → Status

@@ -12,8 +12,8 @@ use Rattle.dns_server_core.specs.declared.event.Event.{Event}
 use Rattle.dns_book.specs.Opening.{HadNoRow, HadRows, AreRefused}
 use Rattle.dns_program.specs.declared.status.Status.{Status}
 use Rattle.dns_program.specs.declared.status.Status.TheVariants as status
-use Rattle.dns_program.specs.declared.run.Opening.{Opening}
-use Rattle.dns_program.specs.declared.run.Opening.TheVariants.{Begin, Recover}
+use Rattle.dns_program.specs.declared.opening.Opening.{Opening}
+use Rattle.dns_program.specs.declared.opening.Opening.TheVariants.{Begin, Recover}
 use Rattle.dns_program.specs.declared.command_line.Options.{Options}
 use Rattle.dns_program.specs.CommandLine.{options_of}
 use Rattle.dns_program.specs.EventText.{events_of}

@@ -5,7 +5,7 @@ ghost use Rattle.std.specs.List.{list_all, list_any};
 ghost use Rattle.std.specs.Option.{option_map};
 ghost use Rattle.dns_name.specs.Name.{fold_of};
 ghost use Rattle.dns_name.specs.NameText.{name_of};
-ghost use Rattle.dns_program.specs.CommandLine.{behind, first_behind, path_of, action_of_word, action_of, is_path_word, is_update_word, net_behind, nets_behind, is_option, are_options, options_for, options_of};
+ghost use Rattle.dns_program.specs.CommandLine.{behind, first_behind, path_of, action_of_word, action_of, is_path_word, is_update_word, net_behind, nets_behind, is_option, has_no_double, are_options, options_for, options_behind, options_of};
 
 use crate::network_text::network_of;
 use dns_book::IpNet;
@@ -72,7 +72,7 @@ impl Networks {
     }
 }
 
-/// What the words of a command ask for.
+/// What the words of a command ask for, where it listens aside.
 #[derive(Debug, Drop)]
 pub struct Options {
     /// The zone's origin, folded.
@@ -103,9 +103,21 @@ pub fn options_of(alloc: Global, words: &[String]) -> Result<Option<Options>, Ou
     if !are_options(words) {
         return Ok(None);
     }
+    options_behind(alloc, origin.as_str(), words)
+}
+
+/// What an origin and the options behind it ask for. None where the origin is no name's text.
+pub fn options_behind(
+    alloc: Global,
+    origin: &str,
+    words: &[String],
+) -> Result<Option<Options>, OutOfMemory>
+    ensures is { IfOk result (λ options. options ≡ options_behind origin.now (map string_bytes words.now)) }
+    ensures folded { IfOk result (λ options. IfSome options (λ o. fold_of o.origin ≡ o.origin)) }
+{
     let denied = nets_behind(alloc, words, DENY)?;
     let allowed = nets_behind(alloc, words, ALLOW)?;
-    options_for(alloc, origin.as_str(), has_update(words), denied, allowed)
+    options_for(alloc, origin, has_update(words), denied, allowed)
 }
 
 /// The path that a key names, as `--zone=`: what follows it in the first word that begins with it. The first two words,
@@ -194,10 +206,14 @@ fn options_for(
 fn are_options(words: &[String]) -> bool
     ensures { result ≡ are_options (map string_bytes words.now) }
 {
-    are_each_option(words)
-        && update_words(words) <= 1
-        && path_words(words, ZONE) <= 1
-        && path_words(words, JOURNAL) <= 1
+    are_each_option(words) && has_no_double(words)
+}
+
+/// Whether `--update`, `--zone=` and `--journal=` stand at most once each.
+pub fn has_no_double(words: &[String]) -> bool
+    ensures { result ≡ has_no_double (map string_bytes words.now) }
+{
+    update_words(words) <= 1 && path_words(words, ZONE) <= 1 && path_words(words, JOURNAL) <= 1
 }
 
 fn are_each_option(words: &[String]) -> bool
@@ -248,7 +264,8 @@ fn path_words(words: &[String], key: &str) -> usize
     count
 }
 
-fn is_option(word: &str) -> bool
+/// Whether a word is an option of `events`, and so of `serve`.
+pub fn is_option(word: &str) -> bool
     ensures { result ≡ is_option word.now }
 {
     is_update_word(word)
@@ -295,7 +312,8 @@ fn net_behind(word: &str, key: &str) -> Option<IpNet>
     }
 }
 
-fn first_behind<'a>(words: &'a [String], key: &str) -> Option<&'a str>
+/// What follows a key in the first word that begins with it.
+pub fn first_behind<'a>(words: &'a [String], key: &str) -> Option<&'a str>
     ensures { option_map (λ path. path.now) result ≡ first_behind key.now (map string_bytes words.now) }
 {
     for word in words {
@@ -306,7 +324,8 @@ fn first_behind<'a>(words: &'a [String], key: &str) -> Option<&'a str>
     None
 }
 
-fn behind<'a>(word: &'a str, key: &str) -> Option<&'a str>
+/// What follows a key at the beginning of a word.
+pub fn behind<'a>(word: &'a str, key: &str) -> Option<&'a str>
     ensures { option_map (λ rest. rest.now) result ≡ behind key.now word.now }
 {
     word.strip_prefix(key)

@@ -285,8 +285,9 @@ pub(crate) fn first_place(byte: u8, bytes: &[u8]) -> Option<usize>
     bytes.iter().position(|one| *one == byte)
 }
 
+/// An address and a port: 8 or 32 hex digits, and a decimal number below 65,536 with no zero before another digit.
 #[tactic(auto, unfolding(crate::specs::EventText::peer_of))]
-fn peer_of(ip: &[u8], port: &[u8]) -> Option<Peer>
+pub(crate) fn peer_of(ip: &[u8], port: &[u8]) -> Option<Peer>
     ensures { result ≡ peer_of ip.now port.now }
 {
     let ip = ip_of(ip)?;

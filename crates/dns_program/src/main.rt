@@ -6,16 +6,20 @@ mod command_line;
 mod event_text;
 mod help;
 mod lines;
+mod listening_words;
 mod network_text;
+mod opening;
 mod output;
+mod ports;
 mod run;
+mod run_list;
 mod status;
 
 use crate::closed_journal::ClosedJournal;
 use crate::command_line::{Action, JOURNAL, ZONE, action_of, path_of, unread_words};
 use crate::help::{HELP, VERSION};
 use crate::output::put_text;
-use crate::run::run;
+use crate::run_list::run_list;
 use crate::status::{Ended, Status, after_writing};
 use dns_io::{FileSource, OutOfMemory, Reading, SystemClock, Writing};
 use dns_journal::Journal;
@@ -85,7 +89,7 @@ fn command_over<K: Keeper + Drop, W: Write + Drop>(
     let mut zone = zone_source(rt, words);
     let mut events = Reading::new(rt.reader());
     let mut clock = SystemClock::new(rt);
-    let Ended { status, keeper: _ } = run(
+    let Ended { status, keeper: _ } = run_list(
         rt.alloc(),
         words,
         &mut zone,

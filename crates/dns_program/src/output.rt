@@ -1,14 +1,14 @@
 //! Writing the output: each line is handed over whole, and at the end all is handed on.
 
-ghost use Rattle.std.specs.Prelude.{◌≡◌, string_bytes};
+ghost use Rattle.std.specs.Prelude.{◌≡◌, ◌≤◌, string_bytes};
 ghost use Rattle.std.specs.List.{flat_map};
 ghost use Rattle.dns_io.specs.Around.{around_sink};
-ghost use Rattle.dns_program.specs.Lines.{out_line, number_line, closing_lines, output_lines};
+ghost use Rattle.dns_program.specs.Lines.{out_line, number_line, closing_lines, output_lines, serve_lines};
 ghost use Rattle.dns_program.specs.Status.{refusal_line};
-ghost use Rattle.dns_program.specs.Writing.{Writes, WritesWhole, after_writing};
+ghost use Rattle.dns_program.specs.Writing.{Writes, WritesWhole, EndsRefusing, after_writing};
 
 use crate::lines::{number_line, out_line};
-use crate::status::{Status, refusal_line};
+use crate::status::{Status, after_writing, refusal_line};
 use dns_io::{IoFault, Sink, write_all};
 use dns_server_core::Out;
 use std::alloc::Global;
@@ -21,8 +21,19 @@ pub fn put_text<W: Sink>(text: &str, out: &mut W) -> Result<(), IoFault>
     out.flush()
 }
 
+/// Writes the one line of a refusal, and tells how the program ends.
+pub fn refuse<W: Sink>(alloc: Global, status: Status, out: &mut W) -> Status
+    ensures ends { EndsRefusing (around_sink W.taken W.flushed W.faults out.old out.new) status result }
+    ensures later { W.faults out.old ≤ W.faults out.new }
+{
+    match status {
+        Status::OutOfMemory => Status::OutOfMemory,
+        status => after_writing(status, put_refusal(alloc, &status, out)),
+    }
+}
+
 /// Writes the line of a refusal, and hands it on.
-pub fn put_refusal<W: Sink>(alloc: Global, status: &Status, out: &mut W) -> Result<(), IoFault>
+fn put_refusal<W: Sink>(alloc: Global, status: &Status, out: &mut W) -> Result<(), IoFault>
     ensures { WritesWhole (around_sink W.taken W.flushed W.faults out.old out.new) (refusal_line status.now) result }
 {
     let line = refusal_line(alloc, status)?;
@@ -42,6 +53,20 @@ pub fn put_output<W: Sink>(
 {
     put_outs(alloc, outs, out)?;
     put_closing(alloc, serial, length, connections, out)?;
+    out.flush()
+}
+
+/// Writes the lines of the zone's serial and of the number of rows, and hands them on.
+pub fn put_totals<W: Sink>(
+    alloc: Global,
+    serial: u32,
+    rows: u64,
+    out: &mut W,
+) -> Result<(), IoFault>
+    ensures { WritesWhole (around_sink W.taken W.flushed W.faults out.old out.new) (serve_lines serial rows) result }
+{
+    put_number(alloc, "serial", u64::from(serial), out)?;
+    put_number(alloc, "journal_len", rows, out)?;
     out.flush()
 }
 

@@ -1,82 +1,64 @@
 //! The top call: what the words of the command line say is done.
 
-ghost use Rattle.std.specs.Prelude.{◌≡◌, ◌<◌, ◌≤◌, ◌^◌, length, IsSome, IfSome, IfNone, IfOk, IfErr, map, string_bytes, true, false};
+ghost use Rattle.std.specs.Prelude.{◌≡◌, ◌<◌, ◌≤◌, ◌^◌, ℕ, List, Some, IsSome, IfSome, IfOk, IfErr, map, string_bytes};
 ghost use Rattle.dns_io.specs.Around.{around, around_sink};
-ghost use Rattle.dns_io.specs.Edge.{Keeps};
 ghost use Rattle.dns_name.specs.Name.{fold_of};
 ghost use Rattle.dns_zone_map.specs.Zone.{serial_of};
-ghost use Rattle.dns_book.specs.Opening.{HadNoRow, HadRows};
 ghost use Rattle.dns_program.specs.declared.status.Status.TheVariants as status;
-ghost use Rattle.dns_program.specs.Lines.{output_lines};
-ghost use Rattle.dns_program.specs.Steps.{ReadsZone, ReadsNoZone, Finds, SeesNoRow, FindsNot, LoadsEvents, LoadsNoEvents, OpensNot, IsRefused};
+ghost use Rattle.dns_program.specs.Hubs.{around_hub, socket_by, listener_by, HasAllBack};
+ghost use Rattle.dns_program.specs.ListeningWords.{service_of, seats_of};
+ghost use Rattle.dns_program.specs.Lines.{serve_lines};
+ghost use Rattle.dns_program.specs.ServeEnds.{ServeEnds, RunEnds, RunCompletes};
+ghost use Rattle.dns_program.specs.ServingParts.{ServesBook, ServesNot, ServesOpened, ServesNone};
+ghost use Rattle.dns_program.specs.Parts.{IsReady};
 ghost use Rattle.dns_program.specs.World.{World};
-ghost use Rattle.dns_program.specs.Ends.{Ends};
-ghost use Rattle.dns_program.specs.Completeness.{Completes};
-ghost use Rattle.dns_program.specs.Parts.{Prepares, IsReady, OpensBook, unopened, unkept, SettlesEach, SettlesPart, SettlesAll, SettlesNot};
-ghost use Rattle.dns_program.specs.Writing.{EndsWriting, EndsRefusing};
+ghost use Rattle.dns_program.specs.Writing.{EndsWriting};
 
-use crate::command_line::{Networks, Options, options_of};
-use crate::event_text::{EventFault, events_of};
-use crate::output::{put_output, put_refusal};
+use crate::listening_words::{Service, service_of};
+use crate::opening::{Opening, Refusal, find_opening, open_book};
+use crate::output::{put_totals, refuse};
+use crate::ports::{serve_ports, take_back};
+use crate::run_list::run_list;
 use crate::status::{Ended, Status, after_writing};
-use dns_book::{Book, OpenKind};
-use dns_io::{Clock, OutOfMemory, Sink, Source, read_to_end};
-use dns_keeper::{KeepFault, Keeper};
-use dns_name::Name;
-use dns_server_core::{Event, Out, Server};
-use dns_zone::{Zone, ZoneTextFault, read_zone};
+use dns_book::{AccessControl, Book};
+use dns_io::{Clock, OutOfMemory, Sink, Source};
+use dns_keeper::Keeper;
+use dns_ports::{Hub, TcpPort};
+use dns_server::ThreadServer;
 use std::alloc::Global;
-
-/// The greatest length of a zone text, in bytes.
-const ZONE_BOUND: usize = 16_777_216;
-
-/// The greatest length of an event text, in bytes.
-const EVENT_BOUND: usize = 8_388_608;
-
-/// How the journal is opened.
-#[derive(Drop)]
-enum Opening {
-    /// It has no row, and is begun with the zone of the zone text.
-    Begin(Zone),
-    /// It has rows, which are to be read back.
-    Recover,
-}
-
-/// All that the command `events` works on.
-#[derive(Drop)]
-struct Inputs {
-    options: Options,
-    opening: Opening,
-    events: Vec<Event>,
-}
-
-/// A server that has settled its messages, and the replies to them.
-#[derive(Drop)]
-struct Served<K: Keeper> {
-    server: Server<Book<K>>,
-    outs: Vec<Out>,
-}
-
-/// Why not every message was settled, and the keeper.
-#[derive(Drop)]
-struct ServeFault<K> {
-    status: Status,
-    keeper: K,
-}
+use std::sync::Wait;
+use std::thread::Threads;
 
 /// Does what the words of the command line say, and ends with a status. The keeper is handed back.
 ///
-/// Of the zone text, the event text and the journal nothing is read before it is known that it is needed: no text and no
-/// row where the words are no command, no event text where there is no zone, and no zone text where the journal has rows.
-pub fn run<Z: Source, E: Source, W: Sink, K: Keeper, C: Clock>(
+/// The words of `serve` are done here: the zone is read and the journal opened as `events` does, the ports that the words name
+/// are opened, and what comes to them is settled and answered until the source `events` ends or fails; then the ports are handed
+/// back to the hub. Any other words are those of [`run_list`], which uses no hub. This call waits for the peers.
+pub fn run<
+    R: Threads + Wait + Sync,
+    Z: Source,
+    E: Source,
+    W: Sink,
+    K: Keeper + Send,
+    H: Hub,
+    C: Clock,
+>(
+    rt: &R,
     alloc: Global,
     words: &Vec<String>,
     zone: &mut Z,
     events: &mut E,
-    mut keeper: K,
+    keeper: K,
+    hub: &mut H,
     clock: &mut C,
     out: &mut W,
 ) -> Ended<K>
+where
+    H::Udp: Send,
+    H::Tcp: Send,
+    <H::Tcp as TcpPort>::In: Send,
+    <H::Tcp as TcpPort>::Out: Send,
+    <H::Tcp as TcpPort>::Time: Send,
     ensures keeper { IsSome result.keeper }
     ensures ends { IfSome result.keeper (λ left. let w : World = record {
       words = map string_bytes words.now.items;
@@ -85,13 +67,74 @@ pub fn run<Z: Source, E: Source, W: Sink, K: Keeper, C: Clock>(
       journal = around K.rows K.faults keeper left;
       output = around_sink W.taken W.flushed W.faults out.old out.new;
       moment = C.last clock.new;
-    } in Ends K.rows K.faults w result.status × Completes w result.status) }
+    } in RunEnds K.rows K.faults (socket_by H.Udp.left H.Udp.received H.Udp.taken H.Udp.faults)
+        (listener_by H.Tcp.left H.Tcp.accepted H.Tcp.ended H.Tcp.faults H.Tcp.In.left H.Tcp.In.faults H.Tcp.Out.taken H.Tcp.Out.flushed H.Tcp.Out.faults H.Tcp.Time.last) w
+        (around_hub H.openings H.closed_udp H.closed_tcp H.lent_udp H.lent_tcp H.faults hub.old hub.new) result.status
+        × RunCompletes w
+        (around_hub H.openings H.closed_udp H.closed_tcp H.lent_udp H.lent_tcp H.faults hub.old hub.new) result.status) }
+    ensures back { HasAllBack (around_hub H.openings H.closed_udp H.closed_tcp H.lent_udp H.lent_tcp H.faults hub.old hub.new) }
     ensures later_zone { Z.faults zone.old ≤ Z.faults zone.new }
     ensures later_events { E.faults events.old ≤ E.faults events.new }
     ensures later_output { W.faults out.old ≤ W.faults out.new }
 {
-    let inputs = match prepare(alloc, words, zone, events, &mut keeper) {
-        Ok(inputs) => inputs,
+    match service_of(alloc, words.as_slice()) {
+        Ok(Some(service)) => serve(rt, alloc, service, zone, events, keeper, hub, clock, out),
+        Ok(None) => run_list(alloc, words, zone, events, keeper, clock, out),
+        Err(OutOfMemory) => Ended {
+            status: Status::OutOfMemory,
+            keeper: Some(keeper),
+        },
+    }
+}
+
+/// Does what the words of `serve` say.
+fn serve<
+    R: Threads + Wait + Sync,
+    Z: Source,
+    E: Source,
+    W: Sink,
+    K: Keeper + Send,
+    H: Hub,
+    C: Clock,
+>(
+    rt: &R,
+    alloc: Global,
+    service: Service,
+    zone: &mut Z,
+    until: &mut E,
+    mut keeper: K,
+    hub: &mut H,
+    clock: &mut C,
+    out: &mut W,
+) -> Ended<K>
+where
+    H::Udp: Send,
+    H::Tcp: Send,
+    <H::Tcp as TcpPort>::In: Send,
+    <H::Tcp as TcpPort>::Out: Send,
+    <H::Tcp as TcpPort>::Time: Send,
+    requires folded { fold_of service.options.origin ≡ service.options.origin }
+    requires limit { service.listening.limit < 2 ^ 47 }
+    requires workers { (0 < service.listening.workers) × (service.listening.workers ≤ 64) }
+    requires some { 0 < seats_of service.listening }
+    ensures keeper { IsSome result.keeper }
+    ensures ends { IfSome result.keeper (λ left. (words : List (List ℕ)) → service_of words ≡ Some service → let w : World = record {
+      words = words;
+      zone = around Z.left Z.faults zone.old zone.new;
+      events = around E.left E.faults until.old until.new;
+      journal = around K.rows K.faults keeper left;
+      output = around_sink W.taken W.flushed W.faults out.old out.new;
+      moment = C.last clock.new;
+    } in ServeEnds K.rows K.faults (socket_by H.Udp.left H.Udp.received H.Udp.taken H.Udp.faults)
+        (listener_by H.Tcp.left H.Tcp.accepted H.Tcp.ended H.Tcp.faults H.Tcp.In.left H.Tcp.In.faults H.Tcp.Out.taken H.Tcp.Out.flushed H.Tcp.Out.faults H.Tcp.Time.last) w
+        (around_hub H.openings H.closed_udp H.closed_tcp H.lent_udp H.lent_tcp H.faults hub.old hub.new) result.status) }
+    ensures back { HasAllBack (around_hub H.openings H.closed_udp H.closed_tcp H.lent_udp H.lent_tcp H.faults hub.old hub.new) }
+    ensures later_zone { Z.faults zone.old ≤ Z.faults zone.new }
+    ensures later_events { E.faults until.old ≤ E.faults until.new }
+    ensures later_output { W.faults out.old ≤ W.faults out.new }
+{
+    let opening = match find_opening(alloc, &service.options.origin, zone, &mut keeper) {
+        Ok(opening) => opening,
         Err(status) => {
             return Ended {
                 status: refuse(alloc, status, out),
@@ -100,259 +143,117 @@ pub fn run<Z: Source, E: Source, W: Sink, K: Keeper, C: Clock>(
         }
     };
     let moment = clock.now();
-    match serve(alloc, inputs, keeper, moment) {
-        Ok(served) => Ended {
-            status: finish(alloc, &served, out),
-            keeper: Some(served.server.into_book().into_keeper()),
+    match serve_opened(rt, alloc, opening, keeper, moment, service, until, hub) {
+        Ok(book) => Ended {
+            status: finish(alloc, &book, out),
+            keeper: Some(book.into_keeper()),
         },
-        Err(fault) => Ended {
-            status: refuse(alloc, fault.status, out),
-            keeper: Some(fault.keeper),
+        Err(refusal) => Ended {
+            status: refuse(alloc, refusal.status, out),
+            keeper: Some(refusal.keeper),
         },
     }
 }
 
-/// Reads the words, and what they name.
-fn prepare<Z: Source, E: Source, K: Keeper>(
+/// Opens the journal at this moment, and serves its book.
+fn serve_opened<R: Threads + Wait + Sync, E: Source, K: Keeper + Send, H: Hub>(
+    rt: &R,
     alloc: Global,
-    words: &Vec<String>,
-    zone: &mut Z,
-    events: &mut E,
-    keeper: &mut K,
-) -> Result<Inputs, Status>
-    ensures ok { IfOk result (Prepares (map string_bytes words.now.items)
-        (around Z.left Z.faults zone.old zone.new) (around E.left E.faults events.old events.new)
-        (around K.rows K.faults keeper.old keeper.new)) }
-    ensures err { IfErr result (IsRefused (map string_bytes words.now.items)
-        (around Z.left Z.faults zone.old zone.new) (around E.left E.faults events.old events.new)
-        (around K.rows K.faults keeper.old keeper.new)) }
-    ensures ready { IfOk result (λ inputs. IsReady inputs.opening (K.rows keeper.new)) }
-    ensures kept { Keeps (K.rows keeper.old) (K.rows keeper.new) }
-    ensures later { K.faults keeper.old ≤ K.faults keeper.new }
-    ensures later_zone { Z.faults zone.old ≤ Z.faults zone.new }
-    ensures later_events { E.faults events.old ≤ E.faults events.new }
-{
-    let options = match options_of(alloc, words.as_slice()) {
-        Ok(Some(options)) => options,
-        Ok(None) => return Err(Status::Usage),
-        Err(OutOfMemory) => return Err(Status::OutOfMemory),
-    };
-    let opening = find_opening(alloc, &options.origin, zone, keeper)?;
-    let events = load_events(alloc, events)?;
-    Ok(Inputs {
-        options,
-        opening,
-        events,
-    })
-}
-
-/// How the journal is to be opened: with the zone of the zone text, or, where it has rows, by those. The zone text is read
-/// only where the journal has no row.
-fn find_opening<Z: Source, K: Keeper>(
-    alloc: Global,
-    origin: &Name,
-    source: &mut Z,
-    keeper: &mut K,
-) -> Result<Opening, Status>
-    requires { fold_of origin.now ≡ origin.now }
-    ensures ok { IfOk result (Finds
-        (around K.rows K.faults keeper.old keeper.new) (around Z.left Z.faults source.old source.new) origin.now) }
-    ensures err { IfErr result (FindsNot
-        (around K.rows K.faults keeper.old keeper.new) (around Z.left Z.faults source.old source.new) origin.now) }
-    ensures ready { IfOk result (λ opening. IsReady opening (K.rows keeper.new)) }
-    ensures kept { Keeps (K.rows keeper.old) (K.rows keeper.new) }
-    ensures later { K.faults keeper.old ≤ K.faults keeper.new }
-    ensures later_source { Z.faults source.old ≤ Z.faults source.new }
-{
-    if has_rows(keeper)? {
-        return Ok(Opening::Recover);
-    }
-    let zone = read_zone_text(alloc, origin, source)?;
-    Ok(Opening::Begin(zone))
-}
-
-/// Whether the journal has a row.
-fn has_rows<K: Keeper>(keeper: &mut K) -> Result<bool, Status>
-    ensures some { IfOk result (λ has. has ≡ true → HadRows (K.rows keeper.old) (K.rows keeper.new)) }
-    ensures none { IfOk result (λ has. has ≡ false → HadNoRow (K.rows keeper.old) (K.rows keeper.new)) }
-    ensures err { IfErr result (SeesNoRow (around K.rows K.faults keeper.old keeper.new)) }
-    ensures kept { Keeps (K.rows keeper.old) (K.rows keeper.new) }
-    ensures later { K.faults keeper.old ≤ K.faults keeper.new }
-{
-    match keeper.row_from(i64::MIN) {
-        Ok(Some(_)) => Ok(true),
-        Ok(None) => Ok(false),
-        Err(fault) => Err(unkept(fault)),
-    }
-}
-
-/// The status of a journal that failed, or for which memory ran out.
-fn unkept(fault: KeepFault) -> Status
-    ensures { result ≡ unkept fault }
-{
-    match fault {
-        KeepFault::Failed => Status::KeeperFault,
-        KeepFault::OutOfMemory => Status::OutOfMemory,
-    }
-}
-
-/// The zone of a text, which is read to its end.
-fn read_zone_text<Z: Source>(alloc: Global, origin: &Name, source: &mut Z) -> Result<Zone, Status>
-    requires { fold_of origin.now ≡ origin.now }
-    ensures ok { IfOk result (ReadsZone (around Z.left Z.faults source.old source.new) origin.now) }
-    ensures err { IfErr result (ReadsNoZone (around Z.left Z.faults source.old source.new) origin.now) }
-    ensures later { Z.faults source.old ≤ Z.faults source.new }
-{
-    let text = read_to_end(alloc, source, ZONE_BOUND)?;
-    match read_zone(alloc, text.as_slice(), origin) {
-        Ok(zone) => Ok(zone),
-        Err(ZoneTextFault::Refused { line, kind }) => Err(Status::ZoneText { line, kind }),
-        Err(ZoneTextFault::OutOfMemory) => Err(Status::OutOfMemory),
-    }
-}
-
-/// The events of a text, which is read to its end.
-fn load_events<E: Source>(alloc: Global, source: &mut E) -> Result<Vec<Event>, Status>
-    ensures ok { IfOk result (λ events. LoadsEvents (around E.left E.faults source.old source.new) events.items) }
-    ensures err { IfErr result (LoadsNoEvents (around E.left E.faults source.old source.new)) }
-    ensures later { E.faults source.old ≤ E.faults source.new }
-{
-    let text = read_to_end(alloc, source, EVENT_BOUND)?;
-    match events_of(alloc, text.as_slice()) {
-        Ok(events) => Ok(events),
-        Err(EventFault::Line(line)) => Err(Status::EventLine { line }),
-        Err(EventFault::OutOfMemory) => Err(Status::OutOfMemory),
-    }
-}
-
-/// Opens the journal, and settles the messages in order.
-fn serve<K: Keeper>(
-    alloc: Global,
-    inputs: Inputs,
-    keeper: K,
-    moment: u64,
-) -> Result<Served<K>, ServeFault<K>>
-    requires moment { moment < 2 ^ 47 }
-    requires ready { IsReady inputs.opening (K.rows keeper) }
-    ensures ok { IfOk result (λ served. SettlesAll K.rows K.faults keeper inputs moment served.outs.items served.server) }
-    ensures err { IfErr result (λ fault. SettlesNot K.rows K.faults keeper inputs moment fault.status fault.keeper) }
-{
-    let Inputs {
-        options,
-        opening,
-        events,
-    } = inputs;
-    let book = open_book(alloc, &options, opening, keeper, moment)?;
-    let served = settle_all(alloc, book, options.denied, options.allowed, &events)?;
-    Ok(served)
-}
-
-/// Opens the journal at this moment: begins it with the zone, or reads it back.
-fn open_book<K: Keeper>(
-    alloc: Global,
-    options: &Options,
     opening: Opening,
     keeper: K,
     moment: u64,
-) -> Result<Book<K>, ServeFault<K>>
+    service: Service,
+    until: &mut E,
+    hub: &mut H,
+) -> Result<Book<K>, Refusal<K>>
+where
+    H::Udp: Send,
+    H::Tcp: Send,
+    <H::Tcp as TcpPort>::In: Send,
+    <H::Tcp as TcpPort>::Out: Send,
+    <H::Tcp as TcpPort>::Time: Send,
     requires moment { moment < 2 ^ 47 }
     requires ready { IsReady opening (K.rows keeper) }
-    ensures ok { IfOk result (OpensBook K.rows K.faults keeper options.now opening moment) }
-    ensures err { IfErr result (λ fault. OpensNot (around K.rows K.faults keeper fault.keeper) options.now.origin opening fault.status) }
-    ensures kept { IfErr result (λ fault. Keeps (K.rows keeper) (K.rows fault.keeper)) }
+    requires limit { service.listening.limit < 2 ^ 47 }
+    requires workers { (0 < service.listening.workers) × (service.listening.workers ≤ 64) }
+    requires some { 0 < seats_of service.listening }
+    ensures ok { IfOk result (ServesOpened K.rows K.faults (socket_by H.Udp.left H.Udp.received H.Udp.taken H.Udp.faults)
+        (listener_by H.Tcp.left H.Tcp.accepted H.Tcp.ended H.Tcp.faults H.Tcp.In.left H.Tcp.In.faults H.Tcp.Out.taken H.Tcp.Out.flushed H.Tcp.Out.faults H.Tcp.Time.last)
+        (around_hub H.openings H.closed_udp H.closed_tcp H.lent_udp H.lent_tcp H.faults hub.old hub.new) (around E.left E.faults until.old until.new) keeper service opening moment) }
+    ensures err { IfErr result (λ refusal. ServesNone K.rows K.faults (socket_by H.Udp.left H.Udp.received H.Udp.taken H.Udp.faults)
+        (listener_by H.Tcp.left H.Tcp.accepted H.Tcp.ended H.Tcp.faults H.Tcp.In.left H.Tcp.In.faults H.Tcp.Out.taken H.Tcp.Out.flushed H.Tcp.Out.faults H.Tcp.Time.last)
+        (around_hub H.openings H.closed_udp H.closed_tcp H.lent_udp H.lent_tcp H.faults hub.old hub.new) (around E.left E.faults until.old until.new) keeper service opening moment refusal.status refusal.keeper) }
+    ensures back { HasAllBack (around_hub H.openings H.closed_udp H.closed_tcp H.lent_udp H.lent_tcp H.faults hub.old hub.new) }
+    ensures later { E.faults until.old ≤ E.faults until.new }
 {
-    let allow_update = options.allow_update;
-    match opening {
-        Opening::Begin(zone) => match Book::begin(alloc, keeper, allow_update, moment, zone) {
-            Ok(book) => Ok(book),
-            Err(fault) => Err(ServeFault {
-                status: unkept(fault.fault),
-                keeper: fault.keeper,
-            }),
-        },
-        Opening::Recover => match Book::recover(alloc, keeper, &options.origin, allow_update) {
-            Ok(book) => Ok(book),
-            Err(fault) => Err(ServeFault {
-                status: unopened(fault.kind),
-                keeper: fault.keeper,
-            }),
-        },
-    }
+    let book = open_book(alloc, &service.options, opening, keeper, moment)?;
+    let served = serve_book(rt, alloc, book, service, until, hub)?;
+    Ok(served)
 }
 
-/// The status of a journal that was not read back. No zone is asked for then, so `NoZone` does not come.
-fn unopened(kind: OpenKind) -> Status
-    ensures { result ≡ unopened kind }
-{
-    match kind {
-        OpenKind::Recovery { row, kind } => Status::Recovery { row, kind },
-        OpenKind::KeeperFault => Status::KeeperFault,
-        OpenKind::NoZone | OpenKind::OutOfMemory => Status::OutOfMemory,
-    }
-}
-
-/// Settles the messages that events complete, in order, where these networks say who is let in. A list that is not valid
-/// is not begun.
-fn settle_all<K: Keeper>(
+/// Shares the book among as many workers as the words ask for, has them serve, and closes it.
+fn serve_book<R: Threads + Wait + Sync, E: Source, K: Keeper + Send, H: Hub>(
+    rt: &R,
     alloc: Global,
     book: Book<K>,
-    denied: Networks,
-    allowed: Networks,
-    events: &Vec<Event>,
-) -> Result<Served<K>, ServeFault<K>>
-    ensures ok { IfOk result (λ served.
-        SettlesEach K.rows K.faults (record { allowed = allowed; denied = denied }) book events.now.items served.outs.items served.server) }
-    ensures err { IfErr result (λ fault.
-        SettlesPart K.rows K.faults (record { allowed = allowed; denied = denied }) book events.now.items fault.status fault.keeper) }
+    service: Service,
+    until: &mut E,
+    hub: &mut H,
+) -> Result<Book<K>, Refusal<K>>
+where
+    H::Udp: Send,
+    H::Tcp: Send,
+    <H::Tcp as TcpPort>::In: Send,
+    <H::Tcp as TcpPort>::Out: Send,
+    <H::Tcp as TcpPort>::Time: Send,
+    requires limit { service.listening.limit < 2 ^ 47 }
+    requires workers { (0 < service.listening.workers) × (service.listening.workers ≤ 64) }
+    requires some { 0 < seats_of service.listening }
+    ensures ok { IfOk result (ServesBook K.rows K.faults (socket_by H.Udp.left H.Udp.received H.Udp.taken H.Udp.faults)
+        (listener_by H.Tcp.left H.Tcp.accepted H.Tcp.ended H.Tcp.faults H.Tcp.In.left H.Tcp.In.faults H.Tcp.Out.taken H.Tcp.Out.flushed H.Tcp.Out.faults H.Tcp.Time.last)
+        (around_hub H.openings H.closed_udp H.closed_tcp H.lent_udp H.lent_tcp H.faults hub.old hub.new) (around E.left E.faults until.old until.new) service book) }
+    ensures err { IfErr result (λ refusal. ServesNot K.rows K.faults (socket_by H.Udp.left H.Udp.received H.Udp.taken H.Udp.faults)
+        (listener_by H.Tcp.left H.Tcp.accepted H.Tcp.ended H.Tcp.faults H.Tcp.In.left H.Tcp.In.faults H.Tcp.Out.taken H.Tcp.Out.flushed H.Tcp.Out.faults H.Tcp.Time.last)
+        (around_hub H.openings H.closed_udp H.closed_tcp H.lent_udp H.lent_tcp H.faults hub.old hub.new) (around E.left E.faults until.old until.new) service book refusal.status refusal.keeper) }
+    ensures back { HasAllBack (around_hub H.openings H.closed_udp H.closed_tcp H.lent_udp H.lent_tcp H.faults hub.old hub.new) }
+    ensures later { E.faults until.old ≤ E.faults until.new }
 {
-    let mut server = Server::with_access(alloc, book, denied.into_vec(), allowed.into_vec());
-    if !server.valid_events(events) {
-        return Err(given_up(server, Status::NotValid));
-    }
-    server.failed_updates();
-    let mut outs = Vec::new(alloc);
-    match server.run_events(events, &mut outs) {
-        Ok(()) => Ok(Served { server, outs }),
-        Err(_) => Err(given_up(server, Status::OutOfMemory)),
+    let Service { options, listening } = service;
+    let access = AccessControl::from_networks(
+        options.denied.into_vec(),
+        options.allowed.into_vec(),
+    );
+    let mut server = match ThreadServer::new(alloc, book, access, listening.seats()) {
+        Ok(server) => server,
+        Err((book, OutOfMemory)) => return Err(refused(book, Status::OutOfMemory)),
+    };
+    let outcome = serve_ports(rt, &mut server, &listening, until, hub);
+    take_back(&mut server, hub);
+    let book = server.into_book();
+    match outcome {
+        Ok(()) => Ok(book),
+        Err(status) => Err(refused(book, status)),
     }
 }
 
-/// A server that goes no further.
-fn given_up<K: Keeper>(server: Server<Book<K>>, status: Status) -> ServeFault<K>
-    ensures keeper { result.keeper ≡ server.handler.keeper }
+/// A book that is served no further.
+fn refused<K: Keeper>(book: Book<K>, status: Status) -> Refusal<K>
+    ensures keeper { result.keeper ≡ book.keeper }
     ensures status { result.status ≡ status }
 {
-    ServeFault {
+    Refusal {
         status,
-        keeper: server.into_book().into_keeper(),
+        keeper: book.into_keeper(),
     }
 }
 
-/// Writes the one line of a refusal, and tells how the program ends.
-fn refuse<W: Sink>(alloc: Global, status: Status, out: &mut W) -> Status
-    ensures ends { EndsRefusing (around_sink W.taken W.flushed W.faults out.old out.new) status result }
-    ensures later { W.faults out.old ≤ W.faults out.new }
-{
-    match status {
-        Status::OutOfMemory => Status::OutOfMemory,
-        status => after_writing(status, put_refusal(alloc, &status, out)),
-    }
-}
-
-/// Writes a line for each reply and the three closing lines, and tells how the program ends.
-fn finish<K: Keeper, W: Sink>(alloc: Global, served: &Served<K>, out: &mut W) -> Status
+/// Writes the two closing lines, and tells how the program ends.
+fn finish<K: Keeper, W: Sink>(alloc: Global, book: &Book<K>, out: &mut W) -> Status
     ensures ends { EndsWriting (around_sink W.taken W.flushed W.faults out.old out.new)
-        (output_lines served.now.outs.items (serial_of served.now.server.handler.zone.records)
-        served.now.server.handler.row_count (length served.now.server.kept.connections))
-        status.Ok result }
+        (serve_lines (serial_of book.now.zone.records) book.now.row_count) status.Ok result }
     ensures later { W.faults out.old ≤ W.faults out.new }
 {
-    let serial = served.server.serial();
-    let length = served.server.journal_len();
-    let connections = served.server.open_count();
-    let outs = served.outs.as_slice();
-    after_writing(
-        Status::Ok,
-        put_output(alloc, outs, serial, length, connections, out),
-    )
+    let serial = book.serial();
+    let length = book.journal_len();
+    after_writing(Status::Ok, put_totals(alloc, serial, length, out))
 }

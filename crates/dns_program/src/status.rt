@@ -11,7 +11,7 @@ use std::alloc::Global;
 use std::process::ExitCode;
 
 /// How a run ended. Of several causes the first in the order of the work is told: the words, the first look at the
-/// journal, the zone text, the event text, the opening of the journal, the list of events, the output.
+/// journal, the zone text, the event text, the opening of the journal, the list of events or the sockets, the output.
 #[derive(Clone, Copy, Debug, PartialEq, Eq)]
 pub enum Status {
     /// The output was written, and handed on.
@@ -49,10 +49,12 @@ pub enum Status {
     TooLong,
     /// Memory ran out.
     OutOfMemory,
+    /// A socket could not be opened, or failed.
+    PortFault,
 }
 
 impl Status {
-    /// The status that the process ends with, from 0 to 10.
+    /// The status that the process ends with, from 0 to 11.
     pub fn number(&self) -> u8
         ensures { result ≡ status_number self.now }
     {
@@ -68,6 +70,7 @@ impl Status {
             Status::KeeperFault => 8,
             Status::TooLong => 9,
             Status::OutOfMemory => 10,
+            Status::PortFault => 11,
         }
     }
 
@@ -132,6 +135,7 @@ pub fn refusal_line(alloc: Global, status: &Status) -> Result<String, OutOfMemor
         Status::ReadFault => String::from_str(alloc, "read fault\n")?,
         Status::KeeperFault => String::from_str(alloc, "keeper fault\n")?,
         Status::TooLong => String::from_str(alloc, "too long\n")?,
+        Status::PortFault => String::from_str(alloc, "port fault\n")?,
     };
     Ok(line)
 }

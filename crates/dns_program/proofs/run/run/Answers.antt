@@ -1,21 +1,19 @@
-use Rattle.std.proofs.Common.{ap, ◌∙◌}
-use Rattle.dns_book.specs.Book.{SeenOf}
-use Rattle.dns_program.proofs.Endings.{refused, answered, answers, unsettled}
-use Rattle.dns_program.proofs.Completing.{ends_and_completes}
+use Rattle.std.proofs.Common.{refl, sym, ◌∙◌}
+use Rattle.dns_program.proofs.RunEndings.{if_some, by_serve, by_events, for_memory}
 use Rattle.dns_program.proofs.run.run.Goals as goal
+
+pub returns-in-Ok-Some-clause-ends : goal.returns-in-Ok-Some-clause-ends
+returns-in-Ok-Some-clause-ends g c =
+    let legal = rw c.as_slice.ensures.value at (sym c.in-Ok-Some.ensures.is ∙ c.in-Ok-Some.field-0-is) in
+    if_some c.serve.result.keeper _ _ c.serve.ensures.ends (λ left ends. by_serve _ _ _ _ _ _ _ _ legal (ends _ legal))
+
+pub returns-in-Ok-None-clause-ends : goal.returns-in-Ok-None-clause-ends
+returns-in-Ok-None-clause-ends g c =
+    let none = rw c.as_slice.ensures.value at (sym c.in-Ok-None.ensures.is ∙ c.in-Ok-None.field-0-is) in
+    if_some c.run_list.result.keeper _ _ c.run_list.ensures.ends (λ left both. by_events _ _ _ _ _ _ _ none
+    (record { opened = refl; sockets = refl; listeners = refl; sockets_out = refl; listeners_out = refl; faults = refl }) both.0 both.1)
 
 pub returns-in-Err-clause-ends : goal.returns-in-Err-clause-ends
 returns-in-Err-clause-ends g c =
-    ends_and_completes g.K.Keeper.rows g.K.Keeper.faults _ _ (refused g.K.Keeper.rows g.K.Keeper.faults _ _ _ (record { cause = c.in-Err.ensures.err; kept = c.in-Err.ensures.kept }) c.refuse.ensures.ends)
-
-pub returns-in-Ok-serve-clause-ends : goal.returns-in-Ok-serve-clause-ends
-returns-in-Ok-serve-clause-ends g c =
-    let settled = rw c.now-moment.ensures.reading at c.in-Ok-serve.ensures.ok in
-    let left = c.into_keeper.ensures.keeper ∙ ap (λ (b : SeenOf g.row.K.Denot). b.keeper) c.into_book.ensures in
-    let kept = rw c.into_book.ensures at c.into_keeper.ensures.book in
-    ends_and_completes g.K.Keeper.rows g.K.Keeper.faults _ _ (answered g.K.Keeper.rows g.K.Keeper.faults _ _ _ (answers g.K.Keeper.rows g.K.Keeper.faults _ _ _ _ _ _ _ _ _ _ c.in-Ok.ensures.ok c.in-Ok.ensures.kept c.in-Ok.ensures.later _ _ settled left kept) c.finish.ensures.ends)
-
-pub returns-in-Err-serve-clause-ends : goal.returns-in-Err-serve-clause-ends
-returns-in-Err-serve-clause-ends g c =
-    let unsettles = rw c.now-moment.ensures.reading at c.in-Err-serve.ensures.err in
-    ends_and_completes g.K.Keeper.rows g.K.Keeper.faults _ _ (unsettled g.K.Keeper.rows g.K.Keeper.faults _ _ _ _ _ _ _ _ _ _ c.in-Ok.ensures.ok c.in-Ok.ensures.kept c.in-Ok.ensures.later _ _ unsettles c.refuse-in-Err-serve.ensures.ends)
+    for_memory _ _ _ _ _ _ (record { content = refl; faults = refl }) (record { content = refl; faults = refl }) (record { content = refl; faults = refl })
+    (record { opened = refl; sockets = refl; listeners = refl; sockets_out = refl; listeners_out = refl; faults = refl }) (record { taken = refl; flushed = refl; faults = refl })

@@ -1,5 +1,5 @@
 use Rattle.dns_program.proofs.Endings.{begun_not, recovered_not}
-use Rattle.dns_program.proofs.run.open_book.Goals as goal
+use Rattle.dns_program.proofs.opening.open_book.Goals as goal
 
 pub returns-in-Err-clause-err : goal.returns-in-Err-clause-err
 returns-in-Err-clause-err g c = rw (c.in-Begin.is, c.unkept.ensures) (begun_not _ _ _ _ _ _ _ c.in-Err.ensures.err)

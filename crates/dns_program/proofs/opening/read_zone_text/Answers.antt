@@ -2,7 +2,7 @@ use Rattle.std.proofs.Common.{rules}
 use Rattle.std.proofs.lemmas.Result.{err_from_is_err_and}
 use Rattle.dns_program.specs.Steps.{zone_faulty, zone_without_memory}
 use Rattle.dns_program.proofs.TextsRead.{zone_cut}
-use Rattle.dns_program.proofs.run.read_zone_text.Goals as goal
+use Rattle.dns_program.proofs.opening.read_zone_text.Goals as goal
 
 pub returns-in_err-text-clause-err : goal.returns-in_err-text-clause-err
 returns-in_err-text-clause-err g c =

@@ -2,7 +2,7 @@
 use Rattle.std.proofs.Common.{refl, sym}
 use Rattle.dns_program.specs.Parts.{of_invalid}
 use Rattle.dns_program.proofs.Settled.{settled_each, cut_short}
-use Rattle.dns_program.proofs.run.settle_all.Goals as goal
+use Rattle.dns_program.proofs.run_list.settle_all.Goals as goal
 
 pub returns-then-not-valid_events-clause-err : goal.returns-then-not-valid_events-clause-err
 returns-then-not-valid_events-clause-err g c =

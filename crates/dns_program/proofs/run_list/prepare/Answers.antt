@@ -1,7 +1,7 @@
 use Rattle.std.proofs.Common.{refl, sym, ◌∙◌}
 use Rattle.std.proofs.lemmas.Result.{err_from_is_err_and}
 use Rattle.dns_program.specs.Steps.{at_words, without_memory, at_finding, at_events}
-use Rattle.dns_program.proofs.run.prepare.Goals as goal
+use Rattle.dns_program.proofs.run_list.prepare.Goals as goal
 
 pub returns-in-Ok-None-clause-err : goal.returns-in-Ok-None-clause-err
 returns-in-Ok-None-clause-err g c =

@@ -1,7 +1,7 @@
 use Rattle.std.proofs.Common.{refl}
 use Rattle.std.proofs.lemmas.Result.{err_from_is_err_and}
 use Rattle.dns_program.specs.Steps.{unseen, no_zone}
-use Rattle.dns_program.proofs.run.find_opening.Goals as goal
+use Rattle.dns_program.proofs.opening.find_opening.Goals as goal
 
 pub returns-in_err-has_rows-clause-err : goal.returns-in_err-has_rows-clause-err
 returns-in_err-has_rows-clause-err g c =
