@@ -4,6 +4,7 @@ mod Keys
 mod TextsRead
 mod TextsWritten
 mod Told
+mod SentJournal
 mod Settled
 mod Endings
 mod Completing

@@ -15,3 +15,4 @@ pub mod ServingParts
 pub mod Completeness
 pub mod Writing
 pub mod Parts
+pub mod HostFiles

@@ -5,22 +5,33 @@ pub const VERSION: &str = "dns 0.1.0\n";
 
 /// The answer to `--help`.
 pub const HELP: &str = "\
-dns: an authoritative DNS server over lists of events
+dns: an authoritative DNS server for one zone
 
-usage: dns events ORIGIN [--update] [--zone=PATH] [--journal=PATH] [--deny=IP/PREFIX]... [--allow=IP/PREFIX]...
+usage: dns serve ORIGIN [--udp=IP:PORT] [--tcp=IP:PORT] [--workers=N] [--limit=MS] [OPTION]...
+       dns events ORIGIN [OPTION]...
        dns --help | --version
 
-events reads the zone at ORIGIN from the file that --zone= names, and event lines from standard input. It answers
-each message that comes in, and writes a line for each reply. Without --zone= the zone text is empty.
+options of both:
+       [--zone=PATH] [--journal=PATH] [--update] [--deny=IP/PREFIX]... [--allow=IP/PREFIX]...
+
+serve answers what comes by UDP and by TCP at these addresses, at least one of them, until its standard input ends. Then
+it writes its two closing lines. IP is 8 hex digits (IPv4) or 32 (IPv6): 7f000001 is 127.0.0.1, 00000000 every address.
+  --workers=  how many connections are served at once, 1 to 64; 16 where it does not stand. Others wait.
+  --limit=    for how many milliseconds a connection may stay without a whole message; 5000 where it does not stand, 0 for
+              any time.
+
+events answers a list of events from standard input, and writes a line for each reply: the same server without a network.
+
+ORIGIN is the name at the top of the zone.
+
+--zone= names the file of the zone text, a master file (RFC 1035 5) without $INCLUDE. Its types are A, AAAA, NS, CNAME, PTR, MX,
+SRV, SOA and TXT, and any other by its number (RFC 3597 5). Without it the zone text is empty, which is no zone.
+
+--journal= names the file of the journal, a database of SQLite. It is made where there is none. Where it has rows, the zone
+is what they stand for, and no zone text is read. Without it the journal is in memory, and gone when the program ends.
 
 --update lets updates in (RFC 2136), from whoever is let in. An update that passes comes into the journal before it is
 answered. Without --update it is Refused.
-
---journal= names the file of the journal. Where it has rows, the zone is what they stand for, and no zone text is
-read. Without it the journal is in memory, and gone when the program ends.
-
-ORIGIN is the name at the top of the zone. The zone text is a master file (RFC 1035 5), without $INCLUDE. Its types are
-A, AAAA, NS, CNAME, PTR, MX, SRV, SOA and TXT, and any other by its number (RFC 3597 5).
 
 --deny= and --allow= name networks: the addresses that have the first PREFIX bits of IP, at most 32 or 128 of them.
 Within the sender's own address family, a sender in an allowed network is let in; else one in a denied network is
@@ -35,13 +46,13 @@ An event line is one of these, with one space between words:
   S AT                     the server stops, and no line follows
 AT is a moment in milliseconds, not below that of the line before; CONN the connection's number, greater than those
 accepted before; LIMIT for how many milliseconds it may stay without a whole message, or 0. AT and LIMIT are below
-2^47. IP and PORT are the other end, IP in 8 hex digits (IPv4) or 32 (IPv6), as in the options. HEX is at most 65535
-bytes, two hex digits each, or - for none. On a connection each message stands behind the two bytes of its length.
-Empty lines and lines that begin with # are passed over.
+2^47. IP and PORT are the other end, IP as in the options. HEX is at most 65535 bytes, two hex digits each, or - for none. On a
+connection each message stands behind the two bytes of its length. Empty lines and lines that begin with # are passed over.
 
-The output has a line for each reply, P IP PORT HEX or C CONN HEX, and then
+The output of events has a line for each reply, P IP PORT HEX or C CONN HEX. Then come, in both commands,
   serial N       the zone's serial
   journal_len N  how many rows the journal has
+and in events
   open N         how many connections are open
 
 Exit status, and the one line that is written in place of the output:
@@ -56,6 +67,8 @@ Exit status, and the one line that is written in place of the output:
   8   keeper fault              the journal could not be read or opened
   9   too long                  the zone text has more than 16777216 bytes, or the event text more than 8388608
   10                            memory ran out
+  11  port fault                an address could not be listened at, or receiving at it failed
 
-example: dns events example.com. --zone=examples/example.com.zone <examples/www.events
+example: dns serve example.com. --zone=examples/example.com.zone --udp=7f000001:5300 --tcp=7f000001:5300
+         and at another terminal: dig @127.0.0.1 -p 5300 www.example.com
 ";

@@ -4,6 +4,7 @@
 mod closed_journal;
 mod command_line;
 mod event_text;
+mod file_journal;
 mod help;
 mod lines;
 mod listening_words;
@@ -17,33 +18,51 @@ mod status;
 
 use crate::closed_journal::ClosedJournal;
 use crate::command_line::{Action, JOURNAL, ZONE, action_of, path_of, unread_words};
+use crate::file_journal::FileJournal;
 use crate::help::{HELP, VERSION};
 use crate::output::put_text;
-use crate::run_list::run_list;
+use crate::run::run;
 use crate::status::{Ended, Status, after_writing};
 use dns_io::{FileSource, OutOfMemory, Reading, SystemClock, Writing};
-use dns_journal::Journal;
 use dns_keeper::{Keeper, MemoryKeeper};
-use std::env;
+use dns_ports::SocketHub;
 use std::fs::{self, File};
 use std::io::{self, BufWriter, Write};
+use std::net::{Net, TcpListener, TcpStream};
 use std::process::ExitCode;
+use std::sync::Wait;
+use std::thread::Threads;
+use std::{env, rt};
 
-/// Does what the words of the command line say, and ends with the status's number. Nothing is written but to standard
-/// output.
-fn main(rt: HostRuntime) -> ExitCode {
-    perform(&rt).exit_code()
+/// What the words of the command line ask for, with the keeper of the journal that they name.
+enum Task {
+    /// To tell of the program.
+    Tell(&'static str),
+    /// A command over a journal in memory.
+    InMemory(MemoryKeeper),
+    /// A command over a journal in a file.
+    InFile(FileJournal),
+    /// A command over a journal that could not be opened.
+    Closed(ClosedJournal),
 }
 
-/// Does what the words say, over standard output.
-fn perform(rt: &HostRuntime) -> Status {
-    let Ok(words) = words_in(rt) else {
-        return Status::OutOfMemory;
+/// Does what the words of the command line say, and ends with the status's number. What it writes goes to standard output,
+/// to the ports that the words name, and to the journal's file.
+fn main(rt: HostRuntime) -> ExitCode {
+    let Ok(words) = words_in(&rt) else {
+        return Status::OutOfMemory.exit_code();
     };
-    match BufWriter::new(rt.alloc(), io::writer(rt)) {
-        Ok(writer) => obey(rt, &words, &mut Writing::new(writer)),
-        Err(_) => Status::OutOfMemory,
-    }
+    let Ok(writer) = BufWriter::new(rt.alloc(), io::writer(&rt)) else {
+        return Status::OutOfMemory.exit_code();
+    };
+    let mut out = Writing::new(writer);
+    let status = match task_of(&rt, &words) {
+        Task::Tell(text) => after_writing(Status::Ok, put_text(text, &mut out)),
+        Task::InMemory(keeper) => command_over(&rt, &rt, &words, keeper, &mut out),
+        Task::InFile(keeper) => command_over(&rt, &rt, &words, keeper, &mut out),
+        Task::Closed(keeper) => command_over(&rt, &rt, &words, keeper, &mut out),
+    };
+    status.exit_code()
 }
 
 /// The words of the command line, without the program's name.
@@ -59,42 +78,44 @@ fn words_in(rt: &HostRuntime) -> Result<Vec<String>, OutOfMemory> {
     Ok(words)
 }
 
-/// Does what the words say: tells of the program, or runs the command over the objects that the words name.
-fn obey<W: Write + Drop>(rt: &HostRuntime, words: &Vec<String>, out: &mut Writing<W>) -> Status {
+/// What the words ask for. The journal's file is opened, or made.
+fn task_of(rt: &HostRuntime, words: &Vec<String>) -> Task {
     match action_of(words.as_slice()) {
-        Action::Help => after_writing(Status::Ok, put_text(HELP, out)),
-        Action::Version => after_writing(Status::Ok, put_text(VERSION, out)),
-        Action::Command => command(rt, words, out),
+        Action::Help => Task::Tell(HELP),
+        Action::Version => Task::Tell(VERSION),
+        Action::Command => command_task(rt, words),
     }
 }
 
-/// Runs the command over the journal that the words name, or one in memory.
-fn command<W: Write + Drop>(rt: &HostRuntime, words: &Vec<String>, out: &mut Writing<W>) -> Status {
+/// The command over the journal that the words name, or over one in memory.
+fn command_task(rt: &HostRuntime, words: &Vec<String>) -> Task {
     let Some(path) = path_of(words.as_slice(), JOURNAL) else {
-        return command_over(rt, words, MemoryKeeper::new(rt.alloc()), out);
+        return Task::InMemory(MemoryKeeper::new(rt.alloc()));
     };
-    match Journal::from_file(rt, path) {
-        Ok(journal) => command_over(rt, words, journal, out),
-        Err(error) => command_over(rt, words, ClosedJournal::after(&error), out),
+    match FileJournal::open(rt, path) {
+        Ok(journal) => Task::InFile(journal),
+        Err(error) => Task::Closed(ClosedJournal::after(&error)),
     }
 }
 
-/// Runs the command over this journal, the zone file that the words name, standard input and the system's clock.
-fn command_over<K: Keeper + Drop, W: Write + Drop>(
-    rt: &HostRuntime,
-    words: &Vec<String>,
-    keeper: K,
-    out: &mut Writing<W>,
-) -> Status {
+/// Runs the command over this journal, the zone file that the words name, standard input, the system's clock and sockets.
+fn command_over<
+    S: Threads + Wait + Sync + Net<Listener = TcpListener, Stream = TcpStream> + rt::Clock,
+    K: Keeper + Drop + Send,
+    W: Write + Drop,
+>(rt: &HostRuntime, sockets: &S, words: &Vec<String>, keeper: K, out: &mut Writing<W>) -> Status {
     let mut zone = zone_source(rt, words);
     let mut events = Reading::new(rt.reader());
+    let mut hub = SocketHub::new(rt.alloc(), sockets);
     let mut clock = SystemClock::new(rt);
-    let Ended { status, keeper: _ } = run_list(
+    let Ended { status, keeper: _ } = run(
+        sockets,
         rt.alloc(),
         words,
         &mut zone,
         &mut events,
         keeper,
+        &mut hub,
         &mut clock,
         out,
     );
