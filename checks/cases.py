@@ -243,6 +243,9 @@ def real_runs():
         no_file = f"--zone={folder}/none"
         yield "a zone file that is not there", ran(["events", "example.com.", no_file], input=b""), read_fault
         yield "a folder for a zone file", ran(["events", "example.com.", f"--zone={folder}"], input=b""), read_fault
+        journal = Path(folder) / "journal"
+        faulty = ran(["serve", "example.com.", f"--journal={journal}", "--upd=7f000001:0"], input=b"")
+        yield "words that are no command make no journal", (*faulty, journal.exists()), (1, b"usage\n", False)
     yield "standard input that is empty", ran(["events", "example.com.", example], stdin=subprocess.DEVNULL), (0, closing)
     yield "no zone file", ran(["events", "example.com."], input=b""), (2, b"zone text line 0: NotOneSoa\n")
     yield "words that are not UTF-8", ran([b"events", b"example.com\xff"], input=b""), (1, b"usage\n")

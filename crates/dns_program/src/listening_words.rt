@@ -1,12 +1,13 @@
 //! What the words of the command `serve` ask for.
 
-ghost use Rattle.std.specs.Prelude.{◌≡◌, ◌<◌, ◌≤◌, ◌^◌, IfOk, IfSome, map, count_by, string_bytes, is_some};
+ghost use Rattle.std.specs.Prelude.{◌≡◌, ◌<◌, ◌≤◌, ◌^◌, ◌||◌, IfOk, IfSome, map, count_by, string_bytes, is_some};
 ghost use Rattle.std.specs.List.{list_all};
 ghost use Rattle.dns_name.specs.Name.{fold_of};
+ghost use Rattle.dns_program.specs.CommandLine.{options_of};
 ghost use Rattle.dns_program.specs.ListeningWords.{address_of, limit_of, workers_of, is_address_word, is_limit_word, is_workers_word, is_serve_option, address_in, limit_in, workers_in, listening_of, are_serve_options, service_of, count_at, seats_of};
 
 use crate::command_line::{
-    Options, behind, first_behind, has_no_double, is_option, options_behind,
+    Options, behind, first_behind, has_no_double, is_option, options_behind, options_of,
 };
 use crate::event_text::{decimal_of, first_place, peer_of};
 use dns_io::{OutOfMemory, Peer};
@@ -102,6 +103,16 @@ pub fn service_of(alloc: Global, words: &[String]) -> Result<Option<Service>, Ou
         })),
         None => Ok(None),
     }
+}
+
+/// Whether the words are a command: those of `serve`, or those of `events`.
+pub fn is_command(alloc: Global, words: &[String]) -> Result<bool, OutOfMemory>
+    ensures { IfOk result (λ is. is ≡ (is_some (service_of (map string_bytes words.now)) || is_some (options_of (map string_bytes words.now)))) }
+{
+    if service_of(alloc, words)?.is_some() {
+        return Ok(true);
+    }
+    Ok(options_of(alloc, words)?.is_some())
 }
 
 fn are_serve_options(words: &[String]) -> bool

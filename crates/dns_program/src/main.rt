@@ -20,10 +20,12 @@ use crate::closed_journal::ClosedJournal;
 use crate::command_line::{Action, JOURNAL, ZONE, action_of, path_of, unread_words};
 use crate::file_journal::FileJournal;
 use crate::help::{HELP, VERSION};
+use crate::listening_words::is_command;
 use crate::output::put_text;
 use crate::run::run;
 use crate::status::{Ended, Status, after_writing};
 use dns_io::{FileSource, OutOfMemory, Reading, SystemClock, Writing};
+use dns_journal::PersistenceError;
 use dns_keeper::{Keeper, MemoryKeeper};
 use dns_ports::SocketHub;
 use std::fs::{self, File};
@@ -87,11 +89,20 @@ fn task_of(rt: &HostRuntime, words: &Vec<String>) -> Task {
     }
 }
 
-/// The command over the journal that the words name, or over one in memory.
+/// The command over the journal that the words name, or over one in memory. For words that are no command no file is opened.
 fn command_task(rt: &HostRuntime, words: &Vec<String>) -> Task {
     let Some(path) = path_of(words.as_slice(), JOURNAL) else {
         return Task::InMemory(MemoryKeeper::new(rt.alloc()));
     };
+    match is_command(rt.alloc(), words.as_slice()) {
+        Ok(true) => file_task(rt, path),
+        Ok(false) => Task::InMemory(MemoryKeeper::new(rt.alloc())),
+        Err(OutOfMemory) => Task::Closed(ClosedJournal::after(&PersistenceError::OutOfMemory)),
+    }
+}
+
+/// The command over the journal at a path, or over what stands for it where it could not be opened.
+fn file_task(rt: &HostRuntime, path: &str) -> Task {
     match FileJournal::open(rt, path) {
         Ok(journal) => Task::InFile(journal),
         Err(error) => Task::Closed(ClosedJournal::after(&error)),
