@@ -69,17 +69,17 @@ class Wrong(Exception):
 
 
 def free_port():
-    """A port that neither UDP nor TCP uses on loopback just now."""
-    for _ in range(100):
+    """A port that neither UDP nor TCP uses on loopback just now, and that the system gives to no client."""
+    for _ in range(1_000):
+        port = random.randrange(10_000, 32_000)
         with socket.socket() as stream, socket.socket(type=socket.SOCK_DGRAM) as datagrams:
-            stream.bind(("127.0.0.1", 0))
-            port = stream.getsockname()[1]
             try:
+                stream.bind(("127.0.0.1", port))
                 datagrams.bind(("127.0.0.1", port))
             except OSError:
                 continue
             return port
-    raise Wrong("no free port")
+    raise Wrong("no port is free")
 
 
 class Serving:

@@ -155,15 +155,16 @@ def due_on(stream, options):
 
 
 def free_port(host=HOST):
-    """A port that nobody listens at, by UDP and by TCP."""
+    """A port that nobody listens at, by UDP and by TCP, and that the system gives to no client."""
     while True:
+        port = random.randrange(10_000, 32_000)
         with socket.socket(family(host), socket.SOCK_DGRAM) as udp, socket.socket(family(host)) as tcp:
-            udp.bind((host, 0))
             try:
-                tcp.bind((host, udp.getsockname()[1]))
+                udp.bind((host, port))
+                tcp.bind((host, port))
             except OSError:
                 continue
-            return udp.getsockname()[1]
+            return port
 
 
 def family(host):
@@ -377,7 +378,7 @@ def run(words, **streams):
 
 def stops():
     """How a run ends: at the end of standard input, with connections open, and where a port is taken."""
-    rows = ZONE.count("\n")
+    rows = ZONE.count("\n") + 1  # the snapshot's, and one for each record
     closing = (0, f"serial 7\njournal_len {rows}\n")
     with serving("--limit=0") as server:
         with server.connected() as silent:
