@@ -19,8 +19,8 @@ member_after-requires g c =
     let fits = c.settle_book-answer.ensures.fits in
     omega arith
 
-pub invariant_of-result : goal.invariant_of-result
-invariant_of-result g c =
+pub invariant_of-held : goal.invariant_of-held
+invariant_of-held g c =
     let h = c.args.held.now in
     let m = c.index-member.result.now in
     let now = c.member_after.result in
