@@ -78,24 +78,27 @@ fn settle_seat<K: Keeper, R: Wait>(
     (answer, rows)
 }
 
-/// The message with another client, in a buffer that is taken out of its place.
-fn asked_as(
-    buffer: &mut Vec<u8>,
-    empty: Vec<u8>,
-    ask: &Ask,
-    client: u32,
-) -> Result<Ask, OutOfMemory>
-    ensures { IfOk result (λ asked. asked ≡ asked_by client ask.now) }
+/// Copies a message into a buffer. Where memory runs out, the buffer has nothing of use.
+fn copy_into(buffer: &mut Vec<u8>, message: &Octets) -> Result<(), OutOfMemory>
+    ensures { OnOk result (buffer.new.items ≡ message.now) }
 {
     buffer.clear();
-    buffer.extend_from_slice(ask.bytes.as_slice())?;
-    Ok(Ask {
-        bytes: Octets::from_vec(mem::replace(buffer, empty)),
+    buffer.extend_from_slice(message.as_slice())?;
+    Ok(())
+}
+
+/// The message, in this copy of its bytes, with another client.
+fn asked_as(copy: Vec<u8>, ask: &Ask, client: u32) -> Ask
+    requires { copy.items ≡ ask.now.bytes }
+    ensures { result ≡ asked_by client ask.now }
+{
+    Ask {
+        bytes: Octets::from_vec(copy),
         source: ask.source,
         protocol: ask.protocol,
         at: ask.at,
         client,
-    })
+    }
 }
 
 impl<K: Keeper> TicketBook<K> {
@@ -118,7 +121,9 @@ impl<K: Keeper> TicketBook<K> {
         ensures ok { IfOk result (λ settled. SettledBy K.rows K.faults access.now pass.old ask.now settled pass.new) }
         ensures err { OnErr result (LeftBy pass.old pass.new) }
     {
-        let asked = asked_as(&mut pass.bytes, Vec::new(pass.alloc), ask, pass.number)?;
+        copy_into(&mut pass.bytes, &ask.bytes)?;
+        let copy = mem::replace(&mut pass.bytes, Vec::new(pass.alloc));
+        let asked = asked_as(copy, ask, pass.number);
         let badge = mem::replace(&mut pass.badge, Badge::blank());
         let mut seat: Seat<Option<Box<Held<K>>>, View> = badge.into_seat();
         let (answer, rows) = settle_seat(rt, &self.table.shared, &mut seat, access, &asked);
