@@ -1,4 +1,4 @@
-//! Four threads ask for the same names, each of which can be had once.
+//! Four threads send the same updates, each of which can be made once.
 
 ghost use Rattle.std.specs.Prelude.{◌≡◌, ◌≤◌, length, IfSome};
 ghost use Rattle.std.specs.Thread.{IsSync};
@@ -14,27 +14,39 @@ use std::sync::Wait;
 use std::test::Fail;
 use std::thread::{Threads, join};
 
-/// How many names there are.
-const NAMES: u32 = 250;
+/// How many updates each thread sends.
+const UPDATES: u32 = 2_000;
 
-/// An update that adds an address to a name where no such name is in use (RFC 2136 2.4.5, 2.5.1), without the name's four digits.
-const HEAD: &[u8] = b"\x12\x34\x28\0\0\x01\0\x01\0\x01\0\0\x07example\x03com\0\0\x06\0\x01\x05n";
+/// The address of www.example.com in the zone, as a number: 192.0.2.1.
+const FIRST_ADDRESS: u32 = 0xc000_0201;
 
-const MIDDLE: &[u8] = b"\x07example\x03com\0\0\xff\0\xfe\0\0\0\0\0\0\x05n";
+/// An update of www.example.com where it has the address behind these bytes (RFC 2136 2.4.2).
+const WHERE_IT_HAS: &[u8] =
+    b"\x12\x34\x28\0\0\x01\0\x01\0\x02\0\0\x07example\x03com\0\0\x06\0\x01\x03www\xc0\x0c\0\x01\0\x01\0\0\0\0\0\x04";
 
-const END: &[u8] = b"\x07example\x03com\0\0\x01\0\x01\0\0\x0e\x10\0\x04\xc0\0\x02\x37";
+/// The address behind these bytes is deleted (RFC 2136 2.5.4).
+const DELETED: &[u8] = b"\x03www\xc0\x0c\0\x01\0\xfe\0\0\0\0\0\x04";
 
-/// The update for the name with this number, below 10,000.
-fn claim(alloc: Global, number: u32) -> Option<Ask>
+/// The address behind these bytes is added (RFC 2136 2.5.1).
+const ADDED: &[u8] = b"\x03www\xc0\x0c\0\x01\0\x01\0\0\x0e\x10\0\x04";
+
+/// The update with this number, which is below 2,000: where www.example.com has the address with this number, it gets the next one
+/// in its place. So each update can be made once, after the one before it.
+fn next_address(alloc: Global, number: u32) -> Option<Ask>
     ensures moment { IfSome result (λ ask. ask.at ≡ 0) }
     ensures bytes { IfSome result (λ ask. length ask.bytes ≤ 65535) }
 {
-    let digits = format!(in alloc; "{:04}", number).ok()?;
-    let mut bytes = Octets::from_slice(alloc, HEAD).ok()?;
-    bytes.append(digits.as_bytes()).ok()?;
-    bytes.append(MIDDLE).ok()?;
-    bytes.append(digits.as_bytes()).ok()?;
-    bytes.append(END).ok()?;
+    let old = FIRST_ADDRESS.wrapping_add(number).to_be_bytes();
+    let new = FIRST_ADDRESS
+        .wrapping_add(number)
+        .wrapping_add(1)
+        .to_be_bytes();
+    let mut bytes = Octets::from_slice(alloc, WHERE_IT_HAS).ok()?;
+    bytes.append(&old).ok()?;
+    bytes.append(DELETED).ok()?;
+    bytes.append(&old).ok()?;
+    bytes.append(ADDED).ok()?;
+    bytes.append(&new).ok()?;
     ask(alloc, bytes.as_slice())
 }
 
@@ -49,8 +61,8 @@ fn has_no_error(settled: &Settled) -> bool {
     }
 }
 
-/// Whether the name with this number was had.
-fn claimed<R: Wait>(
+/// Whether the update with this number was made.
+fn made<R: Wait>(
     rt: &R,
     alloc: Global,
     book: &TicketBook<MemoryKeeper>,
@@ -60,15 +72,15 @@ fn claimed<R: Wait>(
     requires { pass.old.book ≡ book.now.id }
     ensures { IfSome result (λ _. pass.new.book ≡ book.now.id) }
 {
-    let ask = claim(alloc, number)?;
+    let ask = next_address(alloc, number)?;
     let settled = book
         .settle(rt, pass, &AccessControl::new(alloc), &ask)
         .ok()?;
     Some(has_no_error(&settled))
 }
 
-/// Which names were had by a pass that asks for each.
-fn claims<R: Wait>(
+/// Which updates were made by a pass that sends each.
+fn all_made<R: Wait>(
     rt: &R,
     alloc: Global,
     book: &TicketBook<MemoryKeeper>,
@@ -76,16 +88,16 @@ fn claims<R: Wait>(
 ) -> Option<Vec<bool>>
     requires { pass.book ≡ book.now.id }
 {
-    let mut had = Vec::new(alloc);
-    for number in 0..NAMES {
-        let one = claimed(rt, alloc, book, &mut pass, number)?;
-        had.push(one).ok()?;
+    let mut which = Vec::new(alloc);
+    for number in 0..UPDATES {
+        let one = made(rt, alloc, book, &mut pass, number)?;
+        which.push(one).ok()?;
     }
-    Some(had)
+    Some(which)
 }
 
 /// The same for two passes at once.
-fn two_claims<R: Threads + Wait + Sync>(
+fn two_made<R: Threads + Wait + Sync>(
     rt: &R,
     alloc: Global,
     book: &TicketBook<MemoryKeeper>,
@@ -98,10 +110,10 @@ fn two_claims<R: Threads + Wait + Sync>(
         rt,
         || -> Option<Vec<bool>>
             requires { IsSync R.row × (first.book ≡ book.now.id) }
-        { claims(rt, alloc, book, first) },
+        { all_made(rt, alloc, book, first) },
         || -> Option<Vec<bool>>
             requires { IsSync R.row × (second.book ≡ book.now.id) }
-        { claims(rt, alloc, book, second) },
+        { all_made(rt, alloc, book, second) },
     );
     Some((one?, two?))
 }
@@ -117,8 +129,8 @@ fn two_of(book: &TicketBook<MemoryKeeper>, passes: &mut Vec<Pass>) -> Option<(Pa
     Some((one, two))
 }
 
-/// Which names four threads had.
-fn four_claims<R: Threads + Wait + Sync>(
+/// Which updates four threads made.
+fn four_made<R: Threads + Wait + Sync>(
     rt: &R,
     alloc: Global,
     book: &TicketBook<MemoryKeeper>,
@@ -132,10 +144,10 @@ fn four_claims<R: Threads + Wait + Sync>(
         rt,
         || -> Option<(Vec<bool>, Vec<bool>)>
             requires { IsSync R.row × (one.0.book ≡ book.now.id) × (one.1.book ≡ book.now.id) }
-        { two_claims(rt, alloc, book, one) },
+        { two_made(rt, alloc, book, one) },
         || -> Option<(Vec<bool>, Vec<bool>)>
             requires { IsSync R.row × (two.0.book ≡ book.now.id) × (two.1.book ≡ book.now.id) }
-        { two_claims(rt, alloc, book, two) },
+        { two_made(rt, alloc, book, two) },
     );
     Some((one?, two?))
 }
@@ -152,13 +164,13 @@ fn count_at(lists: [&Vec<bool>; 4], place: usize) -> u32 {
 }
 
 #[test]
-fn each_name_is_had_by_one_of_four_threads(rt: HostRuntime) -> Result<(), Fail> {
+fn each_update_is_made_by_one_of_four_threads(rt: HostRuntime) -> Result<(), Fail> {
     let alloc = rt.alloc();
     let Ok((shared, passes)) = TicketBook::new(alloc, book(alloc)?, 4) else {
         return Err(Fail::from("no memory"));
     };
-    let ((a, b), (c, d)) = four_claims(&rt, alloc, &shared, passes).ok_or("not all were asked")?;
-    for place in 0..NAMES as usize {
+    let ((a, b), (c, d)) = four_made(&rt, alloc, &shared, passes).ok_or("not all were sent")?;
+    for place in 0..UPDATES as usize {
         assert_eq!(rt; count_at([&a, &b, &c, &d], place), 1);
     }
     Ok(())

@@ -7,7 +7,7 @@ ghost use Rattle.dns_ticket_lock.specs.Lists.{total};
 ghost use Rattle.dns_ticket_lock.specs.Rule.{faults_of};
 ghost use Rattle.dns_ticket_lock.specs.Passes.{AreAll, ClosedFor, pass_faults};
 
-use crate::held::Held;
+use crate::held::book_of;
 use crate::pass::{Pass, TicketBook};
 use crate::steps::{Board, Carried, Fuse};
 use crate::view::View;
@@ -89,11 +89,7 @@ impl<K: Keeper> TicketBook<K> {
         closed.free();
         match slot {
             Some(held) => {
-                let Held {
-                    book,
-                    members: _,
-                    start: _,
-                } = held;
+                let book = book_of(Box::into_inner(held));
                 let _rows = book.journal_len();
                 book
             }

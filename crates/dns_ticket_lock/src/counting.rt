@@ -13,36 +13,36 @@ use std::marker::Brand;
 
 /// Counts what was told of a settle, which is what the call picks.
 fn note<K: Keeper, J: Batch>(
-    board: &Board<Held<K>>,
-    seat: &mut Seat<Option<Held<K>>, View>,
-    held: &Held<K>,
+    board: &Board<Box<Held<K>>>,
+    seat: &mut Seat<Option<Box<Held<K>>>, View>,
+    held: &Box<Held<K>>,
     told: &Told,
 )
     requires board { (board.now.table_id.words ≡ 3) × (board.now.table_id.slots ≡ 1) × (seat.old.table_id ≡ board.now.table_id) }
     requires has { seat.old.me.0.phase ≡ 2 }
     requires done { IsDone (seat.old.me.0.low + 1) seat.old.me.0.rows J.done }
-    requires many { (told.now.count ≡ length J.done.batch) × (length seat.old.me.0.rows + length J.done.batch ≡ held.now.book.row_count) }
-    requires picked { J.done ≡ done_by K.rows (seat.old.me.0.low + 1) seat.old.me.0.rows held.now.book told.now }
+    requires many { (told.now.count ≡ length J.done.batch) × (length seat.old.me.0.rows + length J.done.batch ≡ held.now.value.book.row_count) }
+    requires picked { J.done ≡ done_by K.rows (seat.old.me.0.low + 1) seat.old.me.0.rows held.now.value.book told.now }
     ensures same { seat.new.table_id ≡ seat.old.table_id }
-    ensures counted { seat.new.me ≡ (has_counted (done_by K.rows (seat.old.me.0.low + 1) seat.old.me.0.rows held.now.book told.now) seat.old.me.0, seat.old.me.1) }
+    ensures counted { seat.new.me ≡ (has_counted (done_by K.rows (seat.old.me.0.low + 1) seat.old.me.0.rows held.now.value.book told.now) seat.old.me.0, seat.old.me.1) }
 {
     let _rows = held.book.journal_len();
-    count::<Held<K>, J>(board, seat, told.count);
+    count::<Box<Held<K>>, J>(board, seat, told.count);
 }
 
 /// Counts what a settle did by which the book became this.
 pub(crate) fn count_done<K: Keeper>(
-    board: &Board<Held<K>>,
-    seat: &mut Seat<Option<Held<K>>, View>,
-    held: &Held<K>,
+    board: &Board<Box<Held<K>>>,
+    seat: &mut Seat<Option<Box<Held<K>>>, View>,
+    held: &Box<Held<K>>,
     told: &Told,
 )
     requires board { (board.now.table_id.words ≡ 3) × (board.now.table_id.slots ≡ 1) × (seat.old.table_id ≡ board.now.table_id) }
     requires has { seat.old.me.0.phase ≡ 2 }
-    requires done { IsDone (seat.old.me.0.low + 1) seat.old.me.0.rows (done_by K.rows (seat.old.me.0.low + 1) seat.old.me.0.rows held.now.book told.now) }
-    requires many { (told.now.count ≡ length (done_by K.rows (seat.old.me.0.low + 1) seat.old.me.0.rows held.now.book told.now).batch) × (length seat.old.me.0.rows + length (done_by K.rows (seat.old.me.0.low + 1) seat.old.me.0.rows held.now.book told.now).batch ≡ held.now.book.row_count) }
+    requires done { IsDone (seat.old.me.0.low + 1) seat.old.me.0.rows (done_by K.rows (seat.old.me.0.low + 1) seat.old.me.0.rows held.now.value.book told.now) }
+    requires many { (told.now.count ≡ length (done_by K.rows (seat.old.me.0.low + 1) seat.old.me.0.rows held.now.value.book told.now).batch) × (length seat.old.me.0.rows + length (done_by K.rows (seat.old.me.0.low + 1) seat.old.me.0.rows held.now.value.book told.now).batch ≡ held.now.value.book.row_count) }
     ensures same { seat.new.table_id ≡ seat.old.table_id }
-    ensures counted { seat.new.me ≡ (has_counted (done_by K.rows (seat.old.me.0.low + 1) seat.old.me.0.rows held.now.book told.now) seat.old.me.0, seat.old.me.1) }
+    ensures counted { seat.new.me ≡ (has_counted (done_by K.rows (seat.old.me.0.low + 1) seat.old.me.0.rows held.now.value.book told.now) seat.old.me.0, seat.old.me.1) }
 {
     note::<K, Brand>(board, seat, held, told);
 }

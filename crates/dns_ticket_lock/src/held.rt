@@ -1,6 +1,6 @@
 //! What lies in the slot, and one settle of it.
 
-ghost use Rattle.std.specs.Prelude.{◌≡◌, ℕ, ◌+◌, ◌<◌, ◌≤◌, ◌^◌, ◌⊎◌, ◌||◌, true, length, replicate, slice_set, IfOk, IfSome, OnErr, None};
+ghost use Rattle.std.specs.Prelude.{◌≡◌, ℕ, ◌+◌, ◌<◌, ◌≤◌, ◌^◌, ◌⊎◌, ◌||◌, true, length, replicate, slice_set, IfOk, IfErr, IfSome, OnErr, None};
 ghost use mathlib.Core.Option.{some};
 ghost use lib.ListN.{get_elem?};
 ghost use Rattle.dns_io.specs.Edge.{Rose};
@@ -14,7 +14,7 @@ use crate::steps::Carried;
 use dns_book::{AccessControl, Ask, Book, Receipt, Settled};
 use dns_io::OutOfMemory;
 use dns_keeper::Keeper;
-use std::alloc::Global;
+use std::alloc::{AllocFailed, Global};
 
 /// What the list beside the book has for a number.
 #[derive(Clone, Copy)]
@@ -36,8 +36,8 @@ pub struct Held<K: Keeper> {
     ghost marked: { marks_stand (K.faults book.keeper) members.items ≡ true },
 }
 
-impl<K: Keeper> Carried for Held<K> {
-    ghost names = { λ t rows members h. Names K.rows t rows members h.book h.members.items h.start };
+impl<K: Keeper> Carried for Box<Held<K>> {
+    ghost names = { λ t rows members h. Names K.rows t rows members h.value.book h.value.members.items h.value.start };
 }
 
 /// What a settle did, beside its answer.
@@ -69,17 +69,38 @@ pub(crate) fn new_members(alloc: Global, seats: usize) -> Option<Vec<Member>>
     Some(members)
 }
 
-/// The book with its new members.
-pub(crate) fn new_held<K: Keeper>(book: Book<K>, members: Vec<Member>) -> Held<K>
+/// The book alone again.
+pub(crate) fn book_of<K: Keeper>(held: Held<K>) -> Book<K>
+    ensures { result ≡ held.book }
+{
+    let Held {
+        book,
+        members: _,
+        start: _,
+    } = held;
+    book
+}
+
+/// The book with its new members, in a box, so that each turn moves a pointer alone; the book as it was where memory runs out.
+pub(crate) fn new_held<K: Keeper>(
+    alloc: Global,
+    book: Book<K>,
+    members: Vec<Member>,
+) -> Result<Box<Held<K>>, Book<K>>
     requires { members.items ≡ replicate (length members.items) new_member }
-    ensures members { result.members.items ≡ members.items }
-    ensures book { (result.book ≡ book) × (result.start ≡ K.faults book.keeper) }
+    ensures members { IfOk result (λ held. held.value.members.items ≡ members.items) }
+    ensures book { IfOk result (λ held. (held.value.book ≡ book) × (held.value.start ≡ K.faults book.keeper)) }
+    ensures err { IfErr result (λ back. back ≡ book) }
 {
     let start = book.fault_count();
-    Held {
+    let held = Held {
         book,
         members,
         start,
+    };
+    match Box::new(alloc, held) {
+        Ok(held) => Ok(held),
+        Err(AllocFailed { value }) => Err(book_of(value)),
     }
 }
 
@@ -152,38 +173,25 @@ fn settle_book<K: Keeper>(
 
 /// Settles one message by the number low + 1, and adds to its member what that did to the keeper's count of faults.
 pub(crate) fn settle_held<K: Keeper>(
-    held: Held<K>,
+    held: &mut Held<K>,
     low: usize,
     access: &AccessControl,
     ask: &Ask,
-) -> (Held<K>, Result<Settled, OutOfMemory>, Told)
+) -> (Result<Settled, OutOfMemory>, Told)
     requires moment { ask.now.at < 2 ^ 47 }
     requires bytes { length ask.now.bytes ≤ 65535 }
-    requires low { low < length held.members.items }
-    ensures ok { IfOk result.1 (λ settled. Settles K.rows K.faults access.now held.book ask.now settled result.0.book) }
-    ensures err { OnErr result.1 (IsLeft K.rows K.faults held.book result.0.book) }
-    ensures advances { Advances K.rows K.faults ask.now.client held.book result.2.receipt result.2.count result.0.book }
-    ensures receipt { result.2.receipt ≡ receipt_in result.1 }
-    ensures rise { K.faults held.book.keeper + result.2.rise ≡ K.faults result.0.book.keeper }
-    ensures rose { Rose (K.faults held.book.keeper) (K.faults result.0.book.keeper) → (0 < result.2.rise) ⊎ (result.2.mark ≡ true) }
-    ensures members { (m : _) → get_elem? held.members.items low ≡ some m → result.0.members.items ≡ slice_set held.members.items low (record { share = m.share + result.2.rise; mark = m.mark || result.2.mark }) }
-    ensures start { result.0.start ≡ held.start }
+    requires low { low < length held.old.members.items }
+    ensures ok { IfOk result.0 (λ settled. Settles K.rows K.faults access.now held.old.book ask.now settled held.new.book) }
+    ensures err { OnErr result.0 (IsLeft K.rows K.faults held.old.book held.new.book) }
+    ensures advances { Advances K.rows K.faults ask.now.client held.old.book result.1.receipt result.1.count held.new.book }
+    ensures receipt { result.1.receipt ≡ receipt_in result.0 }
+    ensures rise { K.faults held.old.book.keeper + result.1.rise ≡ K.faults held.new.book.keeper }
+    ensures rose { Rose (K.faults held.old.book.keeper) (K.faults held.new.book.keeper) → (0 < result.1.rise) ⊎ (result.1.mark ≡ true) }
+    ensures members { (m : _) → get_elem? held.old.members.items low ≡ some m → held.new.members.items ≡ slice_set held.old.members.items low (record { share = m.share + result.1.rise; mark = m.mark || result.1.mark }) }
+    ensures start { held.new.start ≡ held.old.start }
 {
-    let Held {
-        mut book,
-        mut members,
-        start,
-    } = held;
-    let (answer, told) = settle_book(&mut book, access, ask);
-    let member = members[low];
-    members[low] = member_after(member, told.rise, told.mark);
-    (
-        Held {
-            book,
-            members,
-            start,
-        },
-        answer,
-        told,
-    )
+    let (answer, told) = settle_book(&mut held.book, access, ask);
+    let member = held.members[low];
+    held.members[low] = member_after(member, told.rise, told.mark);
+    (answer, told)
 }

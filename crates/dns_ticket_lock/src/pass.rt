@@ -13,7 +13,7 @@ use std::marker::Model;
 /// A book that threads take in turn, by ticket: whoever comes first is served first.
 #[derive(Drop)]
 pub struct TicketBook<K: Keeper> {
-    pub(crate) table: Table<Option<Held<K>>, View, Badge<Terms>, Queueing, Global>,
+    pub(crate) table: Table<Option<Box<Held<K>>>, View, Badge<Terms>, Queueing, Global>,
 }
 
 impl<K: Keeper> Model for TicketBook<K> {

@@ -6,7 +6,7 @@ ghost use Rattle.dns_ticket_lock.specs.Naming.{terms_at};
 ghost use Rattle.dns_ticket_lock.specs.Passes.{InOrder, AreNew, ArePasses};
 
 use crate::deed::deed;
-use crate::held::{Held, new_held, new_members};
+use crate::held::{book_of, new_held, new_members};
 use crate::pass::{Pass, TicketBook};
 use crate::steps::{Board, Carried, Cut};
 use crate::view::View;
@@ -94,11 +94,14 @@ impl<K: Keeper> TicketBook<K> {
         let Some(terms) = deed(alloc, &book, seats as usize) else {
             return Err((book, OutOfMemory));
         };
-        let Ok(mut slots) = Vec::with_capacity(alloc, 1) else {
-            return Err((book, OutOfMemory));
-        };
         let rows = book.journal_len();
-        let held = new_held(book, members);
+        let held = match new_held(alloc, book, members) {
+            Ok(held) => held,
+            Err(book) => return Err((book, OutOfMemory)),
+        };
+        let Ok(mut slots) = Vec::with_capacity(alloc, 1) else {
+            return Err((book_of(Box::into_inner(held)), OutOfMemory));
+        };
         slots.push_reserved(Some(held));
         match Table::new(alloc, &[0, 0, rows], slots, &terms) {
             Ok((table, first)) => {
@@ -106,11 +109,7 @@ impl<K: Keeper> TicketBook<K> {
                 Ok((TicketBook { table }, passes))
             }
             Err(Refused { slots }) => {
-                let Held {
-                    book,
-                    members: _,
-                    start: _,
-                } = held_back(slots);
+                let book = book_of(Box::into_inner(held_back(slots)));
                 Err((book, OutOfMemory))
             }
         }

@@ -32,18 +32,18 @@ fn begin_turn<T: Carried, R: Wait>(rt: &R, board: &Board<T>, seat: &mut Seat<Opt
 
 /// Counts what was done, puts the book back and gives the turn to the next.
 fn end_turn<K: Keeper>(
-    board: &Board<Held<K>>,
-    seat: &mut Seat<Option<Held<K>>, View>,
-    held: Held<K>,
+    board: &Board<Box<Held<K>>>,
+    seat: &mut Seat<Option<Box<Held<K>>>, View>,
+    held: Box<Held<K>>,
     told: &Told,
 )
     requires board { (board.now.table_id.words ≡ 3) × (board.now.table_id.slots ≡ 1) × (seat.old.table_id ≡ board.now.table_id) }
     requires has { (seat.old.me.0.phase ≡ 2) × (seat.old.me.1 ≡ (0, None) ∷ []) }
-    requires done { IsDone (seat.old.me.0.low + 1) seat.old.me.0.rows (done_by K.rows (seat.old.me.0.low + 1) seat.old.me.0.rows held.book told.now) }
-    requires many { (told.now.count ≡ length (done_by K.rows (seat.old.me.0.low + 1) seat.old.me.0.rows held.book told.now).batch) × (length seat.old.me.0.rows + length (done_by K.rows (seat.old.me.0.low + 1) seat.old.me.0.rows held.book told.now).batch ≡ held.book.row_count) }
-    requires names { Names K.rows seat.old.me.0.terms (seat.old.me.0.rows ++ (done_by K.rows (seat.old.me.0.low + 1) seat.old.me.0.rows held.book told.now).batch) (with_member (with_head (settled seat.old.me.0.rows (done_by K.rows (seat.old.me.0.low + 1) seat.old.me.0.rows held.book told.now)) seat.old.me.0.accounts) seat.old.me.0.low seat.old.me.0.members) held.book held.members.items held.start }
+    requires done { IsDone (seat.old.me.0.low + 1) seat.old.me.0.rows (done_by K.rows (seat.old.me.0.low + 1) seat.old.me.0.rows held.value.book told.now) }
+    requires many { (told.now.count ≡ length (done_by K.rows (seat.old.me.0.low + 1) seat.old.me.0.rows held.value.book told.now).batch) × (length seat.old.me.0.rows + length (done_by K.rows (seat.old.me.0.low + 1) seat.old.me.0.rows held.value.book told.now).batch ≡ held.value.book.row_count) }
+    requires names { Names K.rows seat.old.me.0.terms (seat.old.me.0.rows ++ (done_by K.rows (seat.old.me.0.low + 1) seat.old.me.0.rows held.value.book told.now).batch) (with_member (with_head (settled seat.old.me.0.rows (done_by K.rows (seat.old.me.0.low + 1) seat.old.me.0.rows held.value.book told.now)) seat.old.me.0.accounts) seat.old.me.0.low seat.old.me.0.members) held.value.book held.value.members.items held.value.start }
     ensures same { seat.new.table_id ≡ seat.old.table_id }
-    ensures rests { seat.new.me ≡ (rests (has_counted (done_by K.rows (seat.old.me.0.low + 1) seat.old.me.0.rows held.book told.now) seat.old.me.0), []) }
+    ensures rests { seat.new.me ≡ (rests (has_counted (done_by K.rows (seat.old.me.0.low + 1) seat.old.me.0.rows held.value.book told.now) seat.old.me.0), []) }
 {
     count_done(board, seat, &held, told);
     give(board, seat, held);
@@ -53,8 +53,8 @@ fn end_turn<K: Keeper>(
 /// One turn of a seat with one account: the message's client is its number. Tells how many rows there are then.
 fn settle_seat<K: Keeper, R: Wait>(
     rt: &R,
-    board: &Board<Held<K>>,
-    seat: &mut Seat<Option<Held<K>>, View>,
+    board: &Board<Box<Held<K>>>,
+    seat: &mut Seat<Option<Box<Held<K>>>, View>,
     access: &AccessControl,
     ask: &Ask,
 ) -> (Result<Settled, OutOfMemory>, u64)
@@ -71,31 +71,34 @@ fn settle_seat<K: Keeper, R: Wait>(
     ensures err { OnErr result.0 (LeftAs (own seat.old.me.0.accounts) (own seat.new.me.0.accounts)) }
 {
     let low = ask.client as usize - 1;
-    let held = begin_turn(rt, board, seat);
-    let (held, answer, told) = settle_held(held, low, access, ask);
+    let mut held = begin_turn(rt, board, seat);
+    let (answer, told) = settle_held(held.as_mut(), low, access, ask);
     let rows = held.book.journal_len();
     end_turn(board, seat, held, &told);
     (answer, rows)
 }
 
-/// The message with another client, in a buffer that is taken out of its place.
-fn asked_as(
-    buffer: &mut Vec<u8>,
-    empty: Vec<u8>,
-    ask: &Ask,
-    client: u32,
-) -> Result<Ask, OutOfMemory>
-    ensures { IfOk result (λ asked. asked ≡ asked_by client ask.now) }
+/// Copies a message into a buffer. Where memory runs out, the buffer has nothing of use.
+fn copy_into(buffer: &mut Vec<u8>, message: &Octets) -> Result<(), OutOfMemory>
+    ensures { OnOk result (buffer.new.items ≡ message.now) }
 {
     buffer.clear();
-    buffer.extend_from_slice(ask.bytes.as_slice())?;
-    Ok(Ask {
-        bytes: Octets::from_vec(mem::replace(buffer, empty)),
+    buffer.extend_from_slice(message.as_slice())?;
+    Ok(())
+}
+
+/// The message, in this copy of its bytes, with another client.
+fn asked_as(copy: Vec<u8>, ask: &Ask, client: u32) -> Ask
+    requires { copy.items ≡ ask.now.bytes }
+    ensures { result ≡ asked_by client ask.now }
+{
+    Ask {
+        bytes: Octets::from_vec(copy),
         source: ask.source,
         protocol: ask.protocol,
         at: ask.at,
         client,
-    })
+    }
 }
 
 impl<K: Keeper> TicketBook<K> {
@@ -118,9 +121,11 @@ impl<K: Keeper> TicketBook<K> {
         ensures ok { IfOk result (λ settled. SettledBy K.rows K.faults access.now pass.old ask.now settled pass.new) }
         ensures err { OnErr result (LeftBy pass.old pass.new) }
     {
-        let asked = asked_as(&mut pass.bytes, Vec::new(pass.alloc), ask, pass.number)?;
+        copy_into(&mut pass.bytes, &ask.bytes)?;
+        let copy = mem::replace(&mut pass.bytes, Vec::new(pass.alloc));
+        let asked = asked_as(copy, ask, pass.number);
         let badge = mem::replace(&mut pass.badge, Badge::blank());
-        let mut seat: Seat<Option<Held<K>>, View> = badge.into_seat();
+        let mut seat: Seat<Option<Box<Held<K>>>, View> = badge.into_seat();
         let (answer, rows) = settle_seat(rt, &self.table.shared, &mut seat, access, &asked);
         pass.badge = seat.into_badge();
         pass.seen = rows;

@@ -10,7 +10,7 @@ use Rattle.dns_ticket_lock.proofs.held.settle_held.Goals as goal
 
 pub member_after-requires : goal.member_after-requires
 member_after-requires g c =
-    let h = c.args.held in
+    let h = c.args.held.now in
     let m = c.index-member.result.now in
     let at : get_elem? h.members.items c.args.low ≡ some m = at_index h.members.items c.args.low m c.requires.low c.index-member.ensures in
     let small = share_within h.members.items c.args.low m at in
@@ -19,9 +19,9 @@ member_after-requires g c =
     let fits = c.settle_book-answer.ensures.fits in
     omega arith
 
-pub invariant_of-result : goal.invariant_of-result
-invariant_of-result g c =
-    let h = c.args.held in
+pub invariant_of-held : goal.invariant_of-held
+invariant_of-held g c =
+    let h = c.args.held.now in
     let m = c.index-member.result.now in
     let now = c.member_after.result in
     let book = c.settle_book-answer.new.book in
@@ -41,7 +41,7 @@ invariant_of-result g c =
 
 pub returns-clause-members : goal.returns-clause-members
 returns-clause-members g c m at =
-    let h = c.args.held in
+    let h = c.args.held.now in
     let told = c.settle_book-answer.result.1 in
     let here = at_index h.members.items c.args.low c.index-member.result.now c.requires.low c.index-member.ensures in
     let same : c.index-member.result.now ≡ m = some-injective c.index-member.result.now m (sym here ∙ at) in

@@ -1,6 +1,7 @@
-use Rattle.std.proofs.Common.{◌≡◌, ℕ, List, Option, Some, None, length, sym, ap, subst, ◌∙◌, arith, rules}
+use Rattle.std.proofs.Common.{◌≡◌, ℕ, List, Option, Some, None, length, sym, ap, subst, subst₂, ◌∙◌, arith, rules}
 use mathlib.Core.Option.{some-injective}
 use lib.ListN.{get_elem?}
+use Rattle.dns_book.specs.Book.{IsKept}
 use Rattle.dns_ticket_lock.specs.Rule.{terms_of}
 use Rattle.dns_ticket_lock.specs.Settling.{Names}
 use Rattle.dns_ticket_lock.specs.Passes.{BookSeen, AreAll, ClosedFor}
@@ -57,7 +58,9 @@ returns g c =
     let is_slot : Some got.0 ≡ c.take-slot.result = some-injective (Some got.0) c.take-slot.result (sym there ∙ c.take-slot.ensures.value) in
     let h = c.in-Some.held in
     let same : got.0 ≡ h = some_is got.0 h (is_slot ∙ c.in-Some.is) in
-    let n : Names g.K.Keeper.rows t got.2 got.3 h.book h.members.items h.start = subst (λ (y : _). Names g.K.Keeper.rows t got.2 got.3 y.book y.members.items y.start) same got.4 in
-    subst (λ (b : BookSeen). ClosedFor g.K.Keeper.rows g.K.Keeper.faults b.terms c.args.passes.items h.book) (sym is)
-    (closed_for g.K.Keeper.rows g.K.Keeper.faults t c.args.passes.items seat.me.0.accounts h.book got.2 got.3 h.members.items h.start n got.5 got.6 got.7 got.8 many h.sums h.marked c.journal_len-rows.ensures.book
+    let n : Names g.K.Keeper.rows t got.2 got.3 h.value.book h.value.members.items h.value.start = subst (λ (y : _). Names g.K.Keeper.rows t got.2 got.3 y.value.book y.value.members.items y.value.start) same got.4 in
+    let back : c.book_of-book.result ≡ h.value.book = c.book_of-book.ensures ∙ ap (λ (x : _). x.book) c.into_inner.ensures in
+    let kept = subst (λ (b : _). IsKept g.K.Keeper.rows b) back c.journal_len-rows.ensures.book in
+    subst₂ (λ (t2 : BookSeen) (b : _). ClosedFor g.K.Keeper.rows g.K.Keeper.faults t2.terms c.args.passes.items b) (sym is) (sym back)
+    (closed_for g.K.Keeper.rows g.K.Keeper.faults t c.args.passes.items seat.me.0.accounts h.value.book got.2 got.3 h.value.members.items h.value.start n got.5 got.6 got.7 got.8 many h.value.sums h.value.marked kept
     c.join_all-seat.ensures.found c.join_all-seat.ensures.faults)

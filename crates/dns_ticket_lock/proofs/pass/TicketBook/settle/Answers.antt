@@ -27,9 +27,9 @@ returns-clause-ok g c =
       terms = ap (λ (x : View). x.terms) view2 ∙ (e.low.1 ∙ (ap (λ (x : View). x.terms) (sym view) ∙ sym (ap (λ (p : PassSeen). p.terms) is)));
       number = sym (ap (λ (p : PassSeen). p.number) is);
     } in
-    settled_by g.K.Keeper.rows g.K.Keeper.faults c.args.access.now before after c.args.ask.now c.in_ok-asked.asked c.settle_seat-answer.result.0 old new
+    settled_by g.K.Keeper.rows g.K.Keeper.faults c.args.access.now before after c.args.ask.now c.asked_as-asked.result c.settle_seat-answer.result.0 old new
     (ap (λ (p : PassSeen). p.terms) is ∙ ap (λ (x : View). x.terms) view)
     (ap (λ (p : PassSeen). p.number) is ∙ number)
     (ap (λ (p : PassSeen). p.account) is ∙ ap (λ (x : View). own x.accounts) view)
-    (c.in_ok-asked.ensures ∙ ap (λ (n : ℕ). asked_by n c.args.ask.now) (sym (ap (λ (p : PassSeen). p.number) is)))
+    (c.asked_as-asked.ensures ∙ ap (λ (n : ℕ). asked_by n c.args.ask.now) (sym (ap (λ (p : PassSeen). p.number) is)))
     same (ap (λ (x : View). own x.accounts) view2) e.ok
