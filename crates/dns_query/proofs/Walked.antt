@@ -205,3 +205,6 @@ pub folded_front : (labels : List (List ℕ)) (wire new rest : List ℕ) → IsN
 folded_front labels wire new rest n is folded =
     let size : length new ≡ length wire = ap length folded ∙ length-map wire to_ascii_lowercase in
     take_at new rest (length wire) size ∙ folded ∙ ap (map to_ascii_lowercase) is ∙ labels_bytes-fold_of labels n.each
+
+pub folded_rest : (wire new rest : List ℕ) → new ≡ map to_ascii_lowercase wire → drop (length wire) (new ++ rest) ≡ rest
+folded_rest wire new rest folded = drop_at new rest (length wire) (ap length folded ∙ length-map wire to_ascii_lowercase)

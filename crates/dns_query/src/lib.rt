@@ -4,6 +4,8 @@
 mod numbers;
 mod query;
 mod query_name;
+#[cfg(test)]
+mod tests;
 
 pub use query::{Query, read_query};
 pub use query_name::QueryName;

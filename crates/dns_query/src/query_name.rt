@@ -1,6 +1,6 @@
 //! The name that is asked for, as it stands in the message.
 
-ghost use Rattle.std.specs.Prelude.{◌≡◌, ◌≤◌, ℕ, length, take, IfSome, IfNone};
+ghost use Rattle.std.specs.Prelude.{◌≡◌, ◌≤◌, ℕ, length, take, drop, IfSome, IfNone};
 ghost use Rattle.dns_name.specs.Name.{IsName, fold_of, labels_bytes};
 ghost use Rattle.dns_query.specs.Query.{SpelledAt};
 
@@ -57,7 +57,9 @@ impl<'a> QueryName<'a> {
     /// they are. What stands behind them in the room is left as it was.
     pub fn fold_into(&self, room: &mut [u8; 254]) -> usize
         ensures len { result ≡ length (labels_bytes self.now) }
+        ensures short { result ≤ 254 }
         ensures folded { take result room.new ≡ labels_bytes (fold_of self.now) }
+        ensures rest { drop result room.new ≡ drop result room.old }
     {
         let wire = self.as_wire();
         let front = &mut room[..wire.len()];
