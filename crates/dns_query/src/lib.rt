@@ -1,0 +1,11 @@
+//! Queries that are read in place: nothing is copied, and no memory is taken (RFC 1035 4.1, RFC 6891 6.1).
+#![tactic(auto)]
+
+mod numbers;
+mod query;
+mod query_name;
+#[cfg(test)]
+mod tests;
+
+pub use query::{Query, read_query};
+pub use query_name::QueryName;
