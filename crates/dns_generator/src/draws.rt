@@ -1,0 +1,52 @@
+//! The numbers that a seed draws.
+
+ghost use Rattle.std.specs.Prelude.{◌≡◌};
+ghost use Rattle.dns_generator.specs.Draws.{next_state, drawn, kind_of, host_number, rest_of};
+
+/// The multiplier of the linear congruence modulo 2^64.
+const MULTIPLIER: u128 = 6_364_136_223_846_793_005;
+
+/// Its increment.
+const INCREMENT: u128 = 1_442_695_040_888_963_407;
+
+/// The state behind this one.
+pub(crate) fn next_state(state: u64) -> u64
+    ensures { result ≡ next_state state }
+{
+    let wide = u128::from(state) * MULTIPLIER + INCREMENT;
+    (wide % (1 << 64)) as u64
+}
+
+/// A number that was drawn.
+#[derive(Clone, Copy)]
+pub(crate) struct Draw(u32);
+
+impl Draw {
+    /// The number that a state draws: its upper half.
+    pub(crate) fn of(state: u64) -> Draw
+        ensures { result.0 ≡ drawn state }
+    {
+        Draw((state / (1 << 32)) as u32)
+    }
+
+    /// What kind of message is drawn, below 8.
+    pub(crate) fn kind(self) -> u32
+        ensures { result ≡ kind_of self.0 }
+    {
+        self.0 % 8
+    }
+
+    /// The number of the host, below 64.
+    pub(crate) fn host_number(self) -> u32
+        ensures { result ≡ host_number self.0 }
+    {
+        self.0 / 8 % 64
+    }
+
+    /// The rest, below 2^23.
+    pub(crate) fn rest(self) -> u32
+        ensures { result ≡ rest_of self.0 }
+    {
+        self.0 / 512
+    }
+}
