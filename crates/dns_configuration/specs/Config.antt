@@ -1,7 +1,7 @@
 -- What the text of a configuration says, read as TOML.
-use Rattle.std.specs.Prelude.{ℕ, List, Bool, false, not, ◌||◌, if◌then◌else◌, codes, Option, Some, None, Result, Ok, Err}
+use Rattle.std.specs.Prelude.{◌≡◌, ℕ, List, Bool, false, not, ◌||◌, if◌then◌else◌, codes, Option, Some, None, Result, Ok, Err}
 use Rattle.std.specs.Str.{bytes_eq}
-use Rattle.toml.specs.Data.{Data, string, Members, no_members, member, get_member}
+use Rattle.toml.specs.Data.{Data, as_str, Members, no_members, member, get_member}
 use Rattle.toml.specs.Parse.{parse_document}
 use Rattle.dns_configuration.specs.declared.config.ConfigFault.{ConfigFault}
 use Rattle.dns_configuration.specs.declared.config.ConfigFault.TheVariants.{NotToml, UnknownKey, Missing, NotText, OutOfMemory}
@@ -15,11 +15,14 @@ abbrev pub has_other_key : List ℕ → Members → Bool
 has_other_key key no_members = false
 has_other_key key (member k d rest) = not (bytes_eq k key) || has_other_key key rest
 
--- the text of a value, where it is one
+-- the text that a value is
+abbrev pub text_of : Data → Result (List ℕ) ConfigFault
+text_of d = elim (as_str d) [ Some text ↦ Ok text | None ↦ Err NotText ]
+
+-- the text of the value that there is
 abbrev pub text_in : Option Data → Result (List ℕ) ConfigFault
 text_in None = Err Missing
-text_in (Some (string text)) = Ok text
-text_in (Some d) = Err NotText
+text_in (Some d) = text_of d
 
 -- the path that a table names, or what is wrong with the table
 abbrev pub path_in : Option Members → Result (List ℕ) ConfigFault

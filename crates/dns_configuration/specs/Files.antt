@@ -1,5 +1,5 @@
 -- The texts of files, and what the files in memory do at each read.
-use Rattle.std.specs.Prelude.{◌≡◌, ℕ, List, [], ◌∷◌, if◌then◌else◌, Option, Some, None, Result, Ok, Err, MatchBool, IsErrOf}
+use Rattle.std.specs.Prelude.{◌≡◌, ℕ, List, [], ◌∷◌, if◌then◌else◌, Option, Some, None, Result, Ok, Err, MatchBool, MatchResult}
 use Rattle.std.specs.Str.{bytes_eq}
 use Rattle.dns_io.specs.Edge.{one_more}
 use Rattle.dns_io.specs.Memory.{next_fails}
@@ -38,9 +38,9 @@ read_once s = record s { reads = one_more s.reads }
 
 -- what a read at a path answers and leaves: it fails exactly where its number is listed
 abbrev pub ReadsNext : FilesState → List ℕ → Result (Option (List ℕ)) KeepFault → FilesState → Type 0
-ReadsNext before path (Ok found) after =
-    MatchBool (next_fails before.failing_reads before.reads) ⊥ ((found ≡ text_at before.files path) × (after ≡ read_once before))
-ReadsNext before path (Err Failed) after =
-    MatchBool (next_fails before.failing_reads before.reads) (after ≡ failed_read before) ⊥
-ReadsNext before path (Err OutOfMemory) after =
-    MatchBool (next_fails before.failing_reads before.reads) ⊥ (after ≡ read_once before)
+ReadsNext before path result after =
+    MatchBool (next_fails before.failing_reads before.reads)
+    ((result ≡ Err Failed) × (after ≡ failed_read before))
+    (MatchResult result
+    (λ found. (found ≡ text_at before.files path) × (after ≡ read_once before))
+    (λ fault. (fault ≡ OutOfMemory) × (after ≡ read_once before)))

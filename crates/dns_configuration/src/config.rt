@@ -1,8 +1,10 @@
 //! The text of a configuration.
 
-ghost use Rattle.std.specs.Prelude.{◌≡◌, Ok, IfOk, IfErr};
-ghost use Rattle.toml.specs.View.{table_view};
-ghost use Rattle.dns_configuration.specs.Config.{zone_path_key, has_other_key, path_in, zone_path_of, Tells};
+ghost use Rattle.std.specs.Prelude.{◌≡◌, Ok, Some, IfOk, IfErr};
+ghost use Rattle.std.specs.Option.{option_map};
+ghost use Rattle.toml.specs.Data.{get_member};
+ghost use Rattle.toml.specs.View.{view, table_view};
+ghost use Rattle.dns_configuration.specs.Config.{zone_path_key, has_other_key, text_of, path_in, zone_path_of, Tells};
 
 use crate::path_text::PathText;
 use std::alloc::Global;
@@ -56,26 +58,43 @@ impl FileConfig {
                 });
             }
         };
-        let zone_path = path_in(&table)?;
+        let zone_path = path_in(alloc, &table)?;
         Ok(FileConfig { zone_path })
     }
 }
 
 /// The path that a table names.
-fn path_in(table: &Table) -> Result<PathText, ConfigFault>
+fn path_in(alloc: Global, table: &Table) -> Result<PathText, ConfigFault>
     ensures ok { IfOk result (λ path. path_in (Some (table_view table.now)) ≡ Ok path) }
     ensures err { IfErr result (Tells (path_in (Some (table_view table.now)))) }
 {
     if has_other_key(table) {
         return Err(ConfigFault::UnknownKey);
     }
-    match table.get(ZONE_PATH) {
+    match zone_path(table) {
         None => Err(ConfigFault::Missing),
-        Some(Value::String(path)) => match path.clone() {
-            Ok(path) => Ok(PathText::new(path)),
+        Some(value) => text_of(alloc, value),
+    }
+}
+
+/// The value at `zone_path`, where there is one.
+fn zone_path(table: &Table) -> Option<&Value>
+    ensures { option_map (λ value. view value.now) result ≡ get_member zone_path_key (table_view table.now) }
+{
+    table.get(ZONE_PATH)
+}
+
+/// The text that a value is.
+fn text_of(alloc: Global, value: &Value) -> Result<PathText, ConfigFault>
+    ensures ok { IfOk result (λ path. text_of (view value.now) ≡ Ok path) }
+    ensures err { IfErr result (Tells (text_of (view value.now))) }
+{
+    match value.as_str() {
+        None => Err(ConfigFault::NotText),
+        Some(text) => match String::from_str(alloc, text) {
+            Ok(text) => Ok(PathText::new(text)),
             Err(_) => Err(ConfigFault::OutOfMemory),
         },
-        Some(_) => Err(ConfigFault::NotText),
     }
 }
 

@@ -2,7 +2,7 @@
 
 ghost use Rattle.std.specs.Prelude.{◌≡◌, Some, IfOk, string_bytes};
 ghost use Rattle.std.specs.Option.{option_copied};
-ghost use Rattle.dns_configuration.specs.Paths.{is_absolute, ends_with_slash, is_empty, joined, path_from};
+ghost use Rattle.dns_configuration.specs.Paths.{is_absolute, ends_with_slash, joined, path_from};
 
 use dns_io::OutOfMemory;
 use std::alloc::Global;
@@ -13,7 +13,7 @@ pub(crate) fn path_from(
     folder: Option<&str>,
     path: &str,
 ) -> Result<String, OutOfMemory>
-    ensures { IfOk result (λ whole. string_bytes whole ≡ path_from (option_copied folder) path.now) }
+    ensures { IfOk result (λ whole. string_bytes whole ≡ path_from (option_copied folder.entry) path.now) }
 {
     match folder {
         None => Ok(String::from_str(alloc, path)?),
