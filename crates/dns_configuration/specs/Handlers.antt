@@ -1,5 +1,5 @@
 -- A zone that came from a file, and why none came.
-use Rattle.std.specs.Prelude.{◌≡◌, ℕ, List, Option, Some, None, Result, Ok, Err}
+use Rattle.std.specs.Prelude.{◌≡◌, ℕ, List, Option, Some, None, Result, Err}
 use Rattle.dns_io.specs.Edge.{Rose}
 use Rattle.dns_wire.specs.declared.record.Record.{Record}
 use Rattle.dns_zone_map.specs.Zone.{Contents}

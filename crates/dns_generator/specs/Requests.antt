@@ -15,9 +15,13 @@ use Rattle.dns_generator.specs.Draws.{host_number, rest_of}
 abbrev pub origin_name : List (List ℕ)
 origin_name = codes "example" ∷ codes "com" ∷ []
 
+-- the label of the host with this number: the letter h, and the number in decimal
+abbrev pub host_label : ℕ → List ℕ
+host_label number = codes "h" ++ decimal number
+
 -- the host of a drawn number: hN.example.com.
 abbrev pub host_of : ℕ → List (List ℕ)
-host_of draw = (codes "h" ++ decimal (host_number draw)) ∷ origin_name
+host_of draw = host_label (host_number draw) ∷ origin_name
 
 -- the header of the request with this number. The counts of the sections are those that it is written with.
 abbrev pub header_for : ℕ → ℕ → Bool → Header

@@ -1,6 +1,6 @@
 //! The numbers that a seed draws.
 
-ghost use Rattle.std.specs.Prelude.{◌≡◌};
+ghost use Rattle.std.specs.Prelude.{◌≡◌, ◌<◌};
 ghost use Rattle.dns_generator.specs.Draws.{next_state, drawn, kind_of, host_number, rest_of};
 
 /// The multiplier of the linear congruence modulo 2^64.
@@ -38,7 +38,8 @@ impl Draw {
 
     /// The number of the host, below 64.
     pub(crate) fn host_number(self) -> u32
-        ensures { result ≡ host_number self.0 }
+        ensures is { result ≡ host_number self.0 }
+        ensures below { result < 64 }
     {
         self.0 / 8 % 64
     }

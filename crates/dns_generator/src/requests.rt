@@ -1,7 +1,6 @@
 //! The messages that a drawn number asks for.
 
-ghost use Rattle.std.specs.Prelude.{◌≡◌, ◌<◌, ◌≤◌, ◌^◌, [], ◌∷◌, ◌++◌, codes, length, IfOk, string_bytes};
-ghost use Rattle.std.specs.Fmt.{decimal};
+ghost use Rattle.std.specs.Prelude.{◌≡◌, ◌<◌, ◌≤◌, length, IfOk, string_bytes};
 ghost use Rattle.dns_wire.specs.MessageBytes.{message_bytes};
 ghost use Rattle.dns_generator.specs.Requests as requests;
 
@@ -26,13 +25,23 @@ pub fn origin_name(alloc: Global) -> Result<Name, OutOfMemory>
 fn host_of(alloc: Global, draw: Draw) -> Result<Name, OutOfMemory>
     ensures { IfOk result (λ name. name ≡ requests.host_of draw.0) }
 {
-    let number = draw.host_number();
-    let label = format!(in alloc; "h{number}")?;
+    let label = host_label(alloc, draw.host_number())?;
     let mut name = Name::root(alloc);
     name.push(label.as_bytes())?;
     name.push(b"example")?;
     name.push(b"com")?;
     Ok(name)
+}
+
+/// The label of the host with this number.
+#[tactic(auto, using(crate::proofs::Hosts::length_host_label))]
+fn host_label(alloc: Global, number: u32) -> Result<String, OutOfMemory>
+    requires { number < 64 }
+    ensures label { IfOk result (λ label. string_bytes label ≡ requests.host_label number) }
+    ensures some { IfOk result (λ label. 0 < length (string_bytes label)) }
+    ensures short { IfOk result (λ label. length (string_bytes label) ≤ 3) }
+{
+    Ok(format!(in alloc; "h{number}")?)
 }
 
 /// The header of the request with this number. The counts of the sections are those that it is written with.
