@@ -1,65 +1,51 @@
 //! The texts of configurations.
 
-use dns_configuration::{ConfigFault, FileConfig, PathText};
+use dns_configuration::{ConfigFault, FileConfig};
 use std::alloc::Global;
 use std::test::Fail;
 
-/// What a text says: the path, or what is wrong.
-fn said(alloc: Global, text: &str) -> Result<String, ConfigFault> {
-    Ok(FileConfig::read(alloc, text)?.zone_path.into_string())
+/// What a text says: the path behind a colon, or what is wrong.
+fn said(alloc: Global, text: &str) -> Result<String, Fail> {
+    match FileConfig::read(alloc, text) {
+        Ok(config) => path_in(alloc, &config),
+        Err(fault) => wrong(alloc, fault),
+    }
+}
+
+fn path_in(alloc: Global, config: &FileConfig) -> Result<String, Fail> {
+    let path = config.zone_path.as_str();
+    Ok(format!(in alloc; ":{path}")?)
+}
+
+fn wrong(alloc: Global, fault: ConfigFault) -> Result<String, Fail> {
+    Ok(format!(in alloc; "{fault}")?)
 }
 
 #[test]
 fn texts_of_configurations(rt: HostRuntime) -> Result<(), Fail> {
     let table = [
-        ("zone_path = \"z\"", Ok("z")),
-        ("zone_path = 1", Err(ConfigFault::NotText)),
-        ("x = 1", Err(ConfigFault::UnknownKey)),
-        ("", Err(ConfigFault::Missing)),
-        ("=", Err(ConfigFault::NotToml)),
-        ("# none\n\n", Err(ConfigFault::Missing)),
-        ("\"zone_path\" = '/zones/a \\ b'\r\n", Ok("/zones/a \\ b")),
-        ("zone_path = \"\"", Ok("")),
-        ("zone_path = \"\\u00e9\"", Ok("é")),
-        ("zone_path = [\"z\"]", Err(ConfigFault::NotText)),
-        ("zone_path.x = \"z\"", Err(ConfigFault::NotText)),
-        ("[zone_path]", Err(ConfigFault::NotText)),
-        ("[zone]\nzone_path = \"z\"", Err(ConfigFault::UnknownKey)),
-        // A key before it and one behind it, and whatever stands there.
-        ("a = 1\nzone_path = \"z\"", Err(ConfigFault::UnknownKey)),
-        (
-            "zone_path = 1\nzone_paths = 1",
-            Err(ConfigFault::UnknownKey),
-        ),
-        ("Zone_path = \"z\"", Err(ConfigFault::UnknownKey)),
-        (
-            "zone_path = \"a\"\nzone_path = \"b\"",
-            Err(ConfigFault::NotToml),
-        ),
-        ("x = 1\n=", Err(ConfigFault::NotToml)),
+        ("zone_path = \"z\"", ":z"),
+        ("zone_path = 1", "zone_path is no text"),
+        ("x = 1", "unknown key"),
+        ("", "no zone_path"),
+        ("=", "not TOML"),
+        ("# none\n\n", "no zone_path"),
+        ("\"zone_path\" = '/zones/a \\ b'\r\n", ":/zones/a \\ b"),
+        ("zone_path = \"\"", ":"),
+        ("zone_path = \"\\u00e9\"", ":é"),
+        ("zone_path = [\"z\"]", "zone_path is no text"),
+        ("zone_path.x = \"z\"", "zone_path is no text"),
+        ("[zone_path]", "zone_path is no text"),
+        ("[zone]\nzone_path = \"z\"", "unknown key"),
+        // Another key, before it or behind it, and whatever stands there.
+        ("a = 1\nzone_path = \"z\"", "unknown key"),
+        ("zone_path = 1\nzone_paths = 1", "unknown key"),
+        ("Zone_path = \"z\"", "unknown key"),
+        ("zone_path = \"a\"\nzone_path = \"b\"", "not TOML"),
+        ("x = 1\n=", "not TOML"),
     ];
     for (text, want) in table {
-        match (said(rt.alloc(), text), want) {
-            (Ok(path), Ok(meant)) => assert_eq!(rt; path.as_str(), meant, "{text}"),
-            (Err(fault), Err(meant)) => assert_eq!(rt; fault, meant, "{text}"),
-            _ => panic!(rt; "{text}"),
-        }
+        assert_eq!(rt; said(rt.alloc(), text)?.as_str(), want, "{text}");
     }
-    Ok(())
-}
-
-#[test]
-fn configurations_are_compared(rt: HostRuntime) -> Result<(), Fail> {
-    let one = FileConfig::read(rt.alloc(), "zone_path = 'a'")?;
-    let same = FileConfig {
-        zone_path: PathText::new(String::from_str(rt.alloc(), "a")?),
-    };
-    let other = FileConfig::read(rt.alloc(), "zone_path = 'A'")?;
-    assert!(rt; one == same);
-    assert!(rt; one != other);
-    assert_eq!(rt;
-        format!(in rt.alloc(); "{}", ConfigFault::NotToml)?.as_str(),
-        "not TOML"
-    );
     Ok(())
 }

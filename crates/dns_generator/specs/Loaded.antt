@@ -1,12 +1,13 @@
 -- The list of events that a seed and a count of messages stand for.
-use Rattle.std.specs.Prelude.{ℕ, zero, suc, ◌+◌, ◌*◌, ◌%◌, ◌^◌, ◌==◌, nat_lt, if◌then◌else◌, List, [], ◌∷◌, ◌++◌, take, drop, length}
+use Rattle.std.specs.Prelude.{ℕ, zero, suc, ◌+◌, ◌*◌, ◌%◌, ◌^◌, List, [], ◌∷◌, ◌++◌, take, drop, length}
 use Rattle.std.specs.Int.{w16, to_be_bytes}
-use Rattle.dns_io.specs.declared.peer.Ip.{Ip}
 use Rattle.dns_io.specs.declared.peer.Ip.TheVariants.{V4}
 use Rattle.dns_io.specs.declared.peer.Peer.{Peer}
 use Rattle.dns_wire.specs.MessageBytes.{message_bytes}
 use Rattle.dns_server_core.specs.declared.event.Event.{Event}
 use Rattle.dns_server_core.specs.declared.event.Event.TheVariants.{Accepted, Bytes, Datagram}
+use Rattle.dns_generator.specs.declared.draws.Kind.{Kind}
+use Rattle.dns_generator.specs.declared.draws.Kind.TheVariants.{Query, QueryInPieces, Addition, Deletion}
 use Rattle.dns_generator.specs.Draws.{state_after, drawn, kind_of, rest_of}
 use Rattle.dns_generator.specs.Requests.{query, update, addition, deletion}
 
@@ -36,14 +37,15 @@ piece number conn bytes = Bytes number conn bytes ∷ []
 abbrev pub in_two : ℕ → ℕ → List ℕ → List Event
 in_two number draw frame = piece number (1 + rest_of draw % 4) (take 5 frame) ++ piece number (1 + rest_of draw % 4) (drop 5 frame)
 
--- how the message with this number comes, by the number that is drawn for it: of eight, four are queries by datagram, two
--- are queries over a connection, one adds an address, and one deletes them
+-- how the message with this number comes that a drawn number asks for
+abbrev pub coming_as : Kind → ℕ → ℕ → List Event
+coming_as Query number draw = datagram number draw (message_bytes (query number draw))
+coming_as QueryInPieces number draw = in_two number draw (frame_of (message_bytes (query number draw)))
+coming_as Addition number draw = datagram number draw (message_bytes (update number (addition draw)))
+coming_as Deletion number draw = datagram number draw (message_bytes (update number (deletion draw)))
+
 abbrev pub coming : ℕ → ℕ → List Event
-coming number draw =
-    if nat_lt (kind_of draw) 4 then datagram number draw (message_bytes (query number draw))
-    else if nat_lt (kind_of draw) 6 then in_two number draw (frame_of (message_bytes (query number draw)))
-    else if kind_of draw == 6 then datagram number draw (message_bytes (update number (addition draw)))
-    else datagram number draw (message_bytes (update number (deletion draw)))
+coming number draw = coming_as (kind_of draw) number draw
 
 -- the events of so many messages, which are numbered from 0; each number is drawn from a state further on
 abbrev pub messages : ℕ → ℕ → List Event

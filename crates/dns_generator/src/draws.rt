@@ -17,6 +17,19 @@ pub(crate) fn next_state(state: u64) -> u64
     (wide % (1 << 64)) as u64
 }
 
+/// What a drawn number asks for.
+#[derive(Clone, Copy, Debug, PartialEq, Eq)]
+pub(crate) enum Kind {
+    /// A query by datagram.
+    Query,
+    /// A query over a connection, in two pieces.
+    QueryInPieces,
+    /// An update that adds an address.
+    Addition,
+    /// An update that deletes addresses.
+    Deletion,
+}
+
 /// A number that was drawn.
 #[derive(Clone, Copy)]
 pub(crate) struct Draw(u32);
@@ -29,11 +42,16 @@ impl Draw {
         Draw((state / (1 << 32)) as u32)
     }
 
-    /// What kind of message is drawn, below 8.
-    pub(crate) fn kind(self) -> u32
+    /// What it asks for.
+    pub(crate) fn kind(self) -> Kind
         ensures { result ≡ kind_of self.0 }
     {
-        self.0 % 8
+        match self.0 % 8 {
+            0..=3 => Kind::Query,
+            4..=5 => Kind::QueryInPieces,
+            6 => Kind::Addition,
+            _ => Kind::Deletion,
+        }
     }
 
     /// The number of the host, below 64.

@@ -2,11 +2,11 @@
 #![tactic(auto)]
 
 mod draws;
+mod events;
 pub mod laws;
-mod loaded;
 mod requests;
 mod summary;
 
-pub use loaded::{MAX_COUNT, loaded};
+pub use events::{MAX_COUNT, loaded};
 pub use requests::origin_name;
 pub use summary::Summary;

@@ -5,7 +5,7 @@ ghost use Rattle.dns_server_core.specs.Valid.{Valid};
 ghost use Rattle.dns_server_core.specs.Connections.{new_kept};
 ghost use Rattle.dns_generator.specs.Loaded as events;
 
-use crate::draws::{Draw, next_state};
+use crate::draws::{Draw, Kind, next_state};
 use crate::requests::{addition, deletion, query};
 use dns_io::{Ip, Octets, OutOfMemory, Peer};
 use dns_server_core::Event;
@@ -78,10 +78,10 @@ fn put_coming(
     ensures { OnOk result (list.new.items ≡ list.old.items ++ events.coming number draw.0) }
 {
     match draw.kind() {
-        0..=3 => put_datagram(number, draw, query(alloc, number, draw)?, list),
-        4..=5 => put_pieces(alloc, number, draw, query(alloc, number, draw)?, list),
-        6 => put_datagram(number, draw, addition(alloc, number, draw)?, list),
-        _ => put_datagram(number, draw, deletion(alloc, number, draw)?, list),
+        Kind::Query => put_datagram(number, draw, query(alloc, number, draw)?, list),
+        Kind::QueryInPieces => put_pieces(alloc, number, draw, query(alloc, number, draw)?, list),
+        Kind::Addition => put_datagram(number, draw, addition(alloc, number, draw)?, list),
+        Kind::Deletion => put_datagram(number, draw, deletion(alloc, number, draw)?, list),
     }
 }
 
