@@ -1,0 +1,4 @@
+pub mod Config
+pub mod Files
+pub mod Handlers
+pub mod Paths

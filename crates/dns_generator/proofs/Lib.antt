@@ -1,0 +1,3 @@
+pub mod Hosts
+pub mod Sizes
+pub mod Quiet

@@ -1,0 +1,4 @@
+pub mod Draws
+pub mod Loaded
+pub mod Requests
+pub mod Summary
