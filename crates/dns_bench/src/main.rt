@@ -5,8 +5,8 @@
 //!   replies have, together.
 //! - `dns_bench ORIGIN PATH` writes how many records the zone has.
 //!
-//! PATH is that of a file with a zone text (RFC 1035 5). With any other words, and where something cannot be read, it writes
-//! why to standard error and ends with status 1.
+//! PATH is that of a file with a zone text (RFC 1035 5). `--help` tells what the words are, `--version` which program it is. With
+//! any other words, and where something cannot be read, it writes why to standard error and ends with status 1.
 #![tactic(auto)]
 
 mod asks;
@@ -26,17 +26,37 @@ use dns_zone::{Zone, read_zone};
 use std::alloc::Global;
 use std::{env, fs, io};
 
+const USAGE: &str =
+    "dns_bench ORIGIN PATH [TURNS]: with TURNS, messages in hex are read from standard input";
+
+const VERSION: &str = "dns_bench 0.1.0";
+
 fn main(rt: HostRuntime) -> Result<()> {
     let mut words = Vec::new(rt.alloc());
     for word in env::args(&rt)?.skip(1) {
         words.push(word)?;
     }
-    let number = match words.as_slice() {
-        [origin, path] => zone_len(&rt, origin, path)?,
-        [origin, path, turns] => reply_bytes(&rt, origin, path, turns)?,
-        _ => bail!("the words are an origin, a path, and maybe a number of turns"),
-    };
+    match words.as_slice() {
+        [word] => tell(&rt, word)?,
+        [origin, path] => write_number(&rt, zone_len(&rt, origin, path)?)?,
+        [origin, path, turns] => write_number(&rt, reply_bytes(&rt, origin, path, turns)?)?,
+        _ => bail!("{USAGE}"),
+    }
+    Ok(())
+}
+
+fn write_number(rt: &HostRuntime, number: u64) -> Result<()> {
     println!(rt; "{number}")?;
+    Ok(())
+}
+
+/// Does what the only word says.
+fn tell(rt: &HostRuntime, word: &String) -> Result<()> {
+    match word.as_str() {
+        "--help" => println!(rt; "{USAGE}")?,
+        "--version" => println!(rt; "{VERSION}")?,
+        _ => bail!("{USAGE}"),
+    }
     Ok(())
 }
 
