@@ -3,3 +3,4 @@ mod Numerals
 mod Fetching
 mod Faultless
 mod LetIn
+mod Reading

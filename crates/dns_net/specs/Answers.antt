@@ -8,6 +8,7 @@ use Rattle.http.specs.declared.response.Parts.{Parts}
 use Rattle.http_header.specs.HeaderMap.{Entries, get}
 use Rattle.http_header.specs.FieldValue.{FieldValue}
 use Rattle.dns_io.specs.Edge.{Told, Rose, Grows}
+use Rattle.dns_io.specs.declared.edge.IoFault.{IoFault}
 use Rattle.dns_name.specs.declared.fault.ProtoError.{ProtoError}
 use Rattle.dns_wire.specs.declared.message.Message.{Message}
 use Rattle.dns_wire.specs.MessageBytes.{message_bytes, TellsTooLong}
@@ -18,7 +19,7 @@ use Rattle.dns_transport.specs.declared.error.NetError.TheVariants as net
 use Rattle.dns_transport.specs.declared.error.ResponseKind.TheVariants as bad
 use Rattle.dns_net.specs.declared.link.LinkCall.{LinkCall}
 use Rattle.dns_net.specs.declared.link.LinkCall.TheVariants.{Returned}
-use Rattle.dns_net.specs.Bodies.{Fetches, IsFetched}
+use Rattle.dns_net.specs.Bodies.{Fetches, IsFetched, IsReadOnce}
 use Rattle.dns_net.specs.Building.{IsRequest, CanBuild, TellsBuild}
 use Rattle.dns_net.specs.Checks.{said_length, is_dns_message}
 use Rattle.dns_transport.specs.Faults.{HasCause, of_proto, of_link}
@@ -59,23 +60,24 @@ ReadsResponse head bytes result =
 
 -- what a response says: how long its body is said to be, then the body, then the rest. Where its length is no number,
 -- nothing of the body is read.
-abbrev pub Answers : {B : Type 0} → (B → Option (List (List ℕ))) → Parts → B → B → Result Message NetError → Type 0
-Answers left head before after result =
+abbrev pub Answers : {B : Type 0} → (B → Option (List (List ℕ))) → (B → Result (Option (List ℕ)) IoFault → B → Type 0) → Parts → B → B → Result Message NetError → Type 0
+Answers left next head before after result =
     MatchResult (said_length (net.Response bad.LengthText) (get head.headers (codes "content-length")))
-    (λ said. (fetched : Result (List ℕ) NetError) × Told (Fetches said fetched) (left before) (left after) × IsFetched said fetched
+    (λ said. (fetched : Result (List ℕ) NetError) × Told (Fetches said fetched) (left before) (left after)
+    × IsReadOnce next said before fetched after × IsFetched said fetched
     × MatchResult fetched (λ bytes. ReadsResponse head bytes result) (λ fault. result ≡ Err fault))
     (λ fault. (result ≡ Err fault) × (after ≡ before))
 
 -- how an exchange over a link went: its answer, and where that is a response, what it says, and that its body came back,
 -- whose faults grew exactly where the answer is `Io`
-pub record WentOver {L B : Type 0} (left : B → Option (List (List ℕ))) (faults : B → ℕ) (calls : L → Option (List (LinkCall B))) (exchanges : L → Request (List ℕ) → Option ℕ → Result (Response B) LinkFault → L → Type 0)
+pub record WentOver {L B : Type 0} (left : B → Option (List (List ℕ))) (next : B → Result (Option (List ℕ)) IoFault → B → Type 0) (faults : B → ℕ) (calls : L → Option (List (LinkCall B))) (exchanges : L → Request (List ℕ) → Option ℕ → Result (Response B) LinkFault → L → Type 0)
     (before : L) (request : Request (List ℕ)) (limit : Option ℕ) (result : Result Message NetError) (after : L) : Type 0 where
   pub between : L
   pub answer : Result (Response B) LinkFault
   pub exchanged : exchanges before request limit answer between
   pub asked : TellsAsked (calls before) (calls between) request limit answer
   pub ended : MatchResult answer
-      (λ response. (body : B) × Answers left (head_of response) (body_of response) body result
+      (λ response. (body : B) × Answers left next (head_of response) (body_of response) body result
       × HasCause (faults (body_of response)) (faults body) result × Grows (calls between) (calls after) (Returned body ∷ []))
       (λ fault. (result ≡ Err (of_link fault)) × (after ≡ between))
 

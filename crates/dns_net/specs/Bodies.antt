@@ -1,6 +1,9 @@
 -- What comes of fetching the body of a request or a response.
-use Rattle.std.specs.Prelude.{◌≡◌, ℕ, ◌+◌, ◌<◌, ◌≤◌, ◌==◌, nat_lt, Bool, true, if◌then◌else◌, List, [], ◌∷◌, ◌++◌, length, Option, Some, None, IsSome, Result, Ok, Err}
-use Rattle.dns_transport.specs.Pieces.{joined}
+use Rattle.std.specs.Prelude.{◌≡◌, ◌⊎◌, ℕ, ◌+◌, ◌<◌, ◌≤◌, ◌==◌, nat_lt, Bool, true, false, if◌then◌else◌, List, [], ◌∷◌, ◌++◌, length, Option, Some, None, IsSome, Result, Ok, Err, IsErrOf}
+use Rattle.dns_io.specs.Edge.{Rose, Keeps}
+use Rattle.dns_io.specs.declared.edge.IoFault.{IoFault}
+use Rattle.dns_io.specs.declared.edge.IoFault.TheVariants.{Failed, OutOfMemory as NoMemory}
+use Rattle.dns_transport.specs.Pieces.{joined, HasBytes, GivesNext, GivesBytes}
 use Rattle.dns_transport.specs.declared.error.NetError.{NetError}
 use Rattle.dns_transport.specs.declared.error.NetError.TheVariants.{RequestTooLarge, BadRequest, Io, OutOfMemory}
 use Rattle.dns_transport.specs.declared.error.BadRequestKind.TheVariants.{Length}
@@ -69,3 +72,45 @@ IsFetched said (Err (BadRequest Length)) = IsSome said
 IsFetched said (Err Io) = Unit {0}
 IsFetched said (Err OutOfMemory) = Unit {0}
 IsFetched said (Err _) = ⊥
+
+-- one call for the next piece of a body, by what it tells of its pieces and its bytes, and by its count of faults, which
+-- rises where the call fails, and only there
+abbrev pub AsksNext : {B : Type 0} → (B → Option (List (List ℕ))) → (B → Option (List ℕ)) → (B → ℕ) → B → Result (Option (List ℕ)) IoFault → B → Type 0
+AsksNext left left_bytes faults before (Ok piece) after =
+    HasBytes piece × GivesNext (left before) (left after) piece × GivesBytes (left_bytes before) (left_bytes after) piece
+    × (faults after ≡ faults before)
+AsksNext left left_bytes faults before (Err Failed) after =
+    Keeps (left before) (left after) × Keeps (left_bytes before) (left_bytes after) × Rose (faults before) (faults after)
+AsksNext left left_bytes faults before (Err NoMemory) after =
+    Keeps (left before) (left after) × Keeps (left_bytes before) (left_bytes after) × (faults after ≡ faults before)
+
+-- how far a body was read: these calls, each of which gave a piece, gave these bytes
+pub data ReadsUpTo {B : Type 0} (next : B → Result (Option (List ℕ)) IoFault → B → Type 0) (before : B) : List ℕ → B → Type 0 where
+  begun : ReadsUpTo next before [] before
+  went_on : {between after : B} {bytes piece : List ℕ} → ReadsUpTo next before bytes between → next between (Ok (Some piece)) after → ReadsUpTo next before (bytes ++ piece) after
+
+-- how the reading of a body ends that gave these bytes so far: by the one call behind them, and nothing is read after it. At
+-- the end of the body they are as many as was said, or they are not; a piece came with which they are more than 65,535; or
+-- the call failed. Want of memory may come in that call, where room is made for its piece, or before the first call.
+abbrev pub EndsReading : {B : Type 0} → (B → Result (Option (List ℕ)) IoFault → B → Type 0) → Option ℕ → List ℕ → B → Result (List ℕ) NetError → B → Type 0
+EndsReading next said kept between (Ok bytes) after =
+    next between (Ok None) after × (bytes ≡ kept) × (is_said said (length kept) ≡ true)
+EndsReading next said kept between (Err (BadRequest Length)) after =
+    next between (Ok None) after × (is_said said (length kept) ≡ false)
+EndsReading next said kept between (Err RequestTooLarge) after =
+    (piece : List ℕ) × next between (Ok (Some piece)) after × (65535 < length kept + length piece)
+EndsReading next said kept between (Err Io) after = next between (Err Failed) after
+EndsReading next said kept between (Err OutOfMemory) after =
+    next between (Err NoMemory) after
+    ⊎ ((piece : List ℕ) × next between (Ok (Some piece)) after × (length kept + length piece ≤ 65535))
+    ⊎ ((after ≡ between) × (kept ≡ []))
+EndsReading next said kept between (Err _) after = ⊥
+
+-- what was asked of a body that is fetched, from the first call to the last: pieces of at most 65,535 bytes in all, and then
+-- the call that ends it
+pub record IsReadOnce {B : Type 0} (next : B → Result (Option (List ℕ)) IoFault → B → Type 0) (said : Option ℕ) (before : B) (result : Result (List ℕ) NetError) (after : B) : Type 0 where
+  pub kept : List ℕ
+  pub between : B
+  pub given : ReadsUpTo next before kept between
+  pub short : length kept ≤ 65535
+  pub ended : EndsReading next said kept between result after

@@ -3,6 +3,7 @@
 ghost use Rattle.std.specs.Prelude.{[], string_bytes};
 ghost use Rattle.std.specs.Option.{option_map_or, option_and_then};
 ghost use Rattle.dns_net.specs.Answers.{WentOver, HasSendCause};
+ghost use Rattle.dns_net.specs.Bodies.{AsksNext};
 ghost use Rattle.dns_net.specs.Clients.{Asks, SendsOver};
 ghost use Rattle.dns_transport.specs.Faults.{HasNetCause};
 
@@ -23,7 +24,7 @@ pub(crate) fn send_over<L: HttpLink>(
     limit: Option<u64>,
     message: &Message,
 ) -> Result<Message, NetError>
-    ensures sent { SendsOver L.Body.left L.Body.faults L.calls L.exchanges
+    ensures sent { SendsOver L.Body.left (AsksNext L.Body.left L.Body.left_bytes L.Body.faults) L.Body.faults L.calls L.exchanges
         (record {
           version = context.now.version;
           name = string_bytes context.now.server_name;
@@ -67,7 +68,7 @@ fn exchange_over<L: HttpLink>(
     request: Request<Octets>,
     limit: Option<u64>,
 ) -> Result<Message, NetError>
-    ensures went { WentOver L.Body.left L.Body.faults L.calls L.exchanges link.old request limit result link.new }
+    ensures went { WentOver L.Body.left (AsksNext L.Body.left L.Body.left_bytes L.Body.faults) L.Body.faults L.calls L.exchanges link.old request limit result link.new }
     ensures cause { HasNetCause (L.faults link.old) (L.faults link.new) result }
 {
     let response = link.exchange(request, limit)?;

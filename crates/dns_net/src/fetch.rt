@@ -2,7 +2,7 @@
 
 ghost use Rattle.std.specs.Prelude.{◌≡◌};
 ghost use Rattle.dns_io.specs.Edge.{Told};
-ghost use Rattle.dns_net.specs.Bodies.{Fetches, FetchesBytes, IsFetched, is_said};
+ghost use Rattle.dns_net.specs.Bodies.{AsksNext, Fetches, FetchesBytes, IsFetched, IsReadOnce, is_said};
 ghost use Rattle.dns_transport.specs.Faults.{HasCause};
 
 use dns_io::Octets;
@@ -19,6 +19,7 @@ pub fn fetch_body<P: BodyPieces>(
 ) -> Result<Octets, NetError>
     ensures told { Told (Fetches length result) (P.left stream.old) (P.left stream.new) }
     ensures told_bytes { Told (FetchesBytes length result) (P.left_bytes stream.old) (P.left_bytes stream.new) }
+    ensures read { IsReadOnce (AsksNext P.left P.left_bytes P.faults) length stream.old result stream.new }
     ensures kind { IsFetched length result }
     ensures cause { HasCause (P.faults stream.old) (P.faults stream.new) result }
 {

@@ -3,6 +3,7 @@
 ghost use Rattle.std.specs.Prelude.{◌≡◌, [], true, false, Some, None, Ok, IsNone, MatchOption, MatchBool, string_bytes};
 ghost use Rattle.std.specs.Option.{option_map_or, option_and_then};
 ghost use Rattle.dns_net.specs.Answers.{HasSendCause};
+ghost use Rattle.dns_net.specs.Bodies.{AsksNext};
 ghost use Rattle.dns_net.specs.Clients.{Sends};
 ghost use Rattle.dns_transport.specs.declared.poll.Poll.TheVariants.{Ready};
 ghost use Rattle.dns_net.specs.declared.version.Version.TheVariants.{Http3};
@@ -104,7 +105,7 @@ impl<L: HttpLink> H3ClientStream<L> {
     /// the response's length is no number; what comes of its body; its status; its type; its message cannot be read. The
     /// body of a response goes back to the link whatever it says.
     pub fn send_message(&mut self, alloc: Global, request: &Message) -> Result<Message, NetError>
-        ensures sends { Sends L.Body.left L.Body.faults L.calls L.exchanges self.old.is_shut
+        ensures sends { Sends L.Body.left (AsksNext L.Body.left L.Body.left_bytes L.Body.faults) L.Body.faults L.calls L.exchanges self.old.is_shut
             (record {
               version = self.old.context.version;
               name = string_bytes self.old.context.server_name;

@@ -3,7 +3,7 @@
 ghost use Rattle.std.specs.Prelude.{◌≡◌, Err, IfOk, IfErr, option_copied};
 ghost use Rattle.http.specs.Request.{head_of, body_of};
 ghost use Rattle.dns_io.specs.Edge.{Told};
-ghost use Rattle.dns_net.specs.Bodies.{Fetches, FetchesBytes, IsFetched};
+ghost use Rattle.dns_net.specs.Bodies.{AsksNext, Fetches, FetchesBytes, IsFetched, IsReadOnce};
 ghost use Rattle.dns_net.specs.Checks.{verdict, taken};
 ghost use Rattle.dns_transport.specs.Faults.{HasCause, IsBadRequest};
 
@@ -61,6 +61,8 @@ pub fn message_from<R: BodyPieces>(
         (λ fault. (result ≡ Err fault) × (request.new ≡ request.old)) }
     ensures told { IfOk (taken version (option_copied name.entry) endpoint.now (head_of request.old))
         (λ length. Told (Fetches length result) (R.left (body_of request.old)) (R.left (body_of request.new))) }
+    ensures read { IfOk (taken version (option_copied name.entry) endpoint.now (head_of request.old))
+        (λ length. IsReadOnce (AsksNext R.left R.left_bytes R.faults) length (body_of request.old) result (body_of request.new)) }
     ensures kind { IfOk (taken version (option_copied name.entry) endpoint.now (head_of request.old))
         (λ length. IsFetched length result) }
     ensures told_bytes { IfOk (taken version (option_copied name.entry) endpoint.now (head_of request.old))

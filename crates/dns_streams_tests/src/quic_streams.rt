@@ -8,240 +8,327 @@ use dns_quic::{
 };
 use dns_transport::{BodyPieces, NetError};
 use dns_wire::Message;
-use std::test::Fail;
+use std::alloc::Global;
+use std::process::Abort;
 
 /// The query for www.example.com A with the id 0x1234.
 const QUERY: &[u8] = b"\x12\x34\x01\x00\0\x01\0\0\0\0\0\0\x03www\x07example\x03com\0\0\x01\0\x01";
 
 /// A receiving half of these bytes, of which a read gives at most `step`, and of whose calls these fail.
-fn recv_of(rt: &HostRuntime, bytes: &[u8], step: usize, failing: &[u64]) -> Result<MemoryRecv, Fail>
+fn recv_of(rt: &impl Abort, alloc: Global, bytes: &[u8], step: usize, failing: &[u64]) -> MemoryRecv
     requires { 0 < step }
 {
-    let alloc = rt.alloc();
-    Ok(MemoryRecv::new(
+    MemoryRecv::new(
         alloc,
-        Octets::from_slice(alloc, bytes)?,
+        Octets::from_slice(alloc, bytes).expect(rt, "no fault"),
         step,
-        Vec::from_slice(alloc, failing)?,
-    ))
+        Vec::from_slice(alloc, failing).expect(rt, "no fault"),
+    )
 }
 
 /// A stream with these bytes to receive, at most `step` at once, of whose sending half these calls fail, and of whose receiving
 /// half those.
 fn stream_of(
-    rt: &HostRuntime,
+    rt: &impl Abort,
+    alloc: Global,
     bytes: &[u8],
     step: usize,
     failing_sends: &[u64],
     failing_reads: &[u64],
-) -> Result<QuicStream<MemorySend, MemoryRecv>, Fail>
+) -> QuicStream<MemorySend, MemoryRecv>
     requires { 0 < step }
 {
-    let send = MemorySend::new(rt.alloc(), 1, Vec::from_slice(rt.alloc(), failing_sends)?);
-    Ok(QuicStream::new(send, recv_of(rt, bytes, step, failing_reads)?))
+    let send = MemorySend::new(
+        alloc,
+        1,
+        Vec::from_slice(alloc, failing_sends).expect(rt, "no fault"),
+    );
+    QuicStream::new(send, recv_of(rt, alloc, bytes, step, failing_reads))
 }
 
 /// What comes of these bytes: how many bytes a message has, or why there is none.
-fn received(rt: &HostRuntime, bytes: &[u8], step: usize) -> Result<String, Fail>
+fn received(rt: &impl Abort, alloc: Global, bytes: &[u8], step: usize) -> String
     requires { 0 < step }
 {
-    let mut stream = stream_of(rt, bytes, step, &[], &[])?;
-    match stream.receive_bytes(rt.alloc()) {
-        Ok(message) => Ok(message.len().to_string(rt.alloc())?),
-        Err(error) => Ok(format!(in rt.alloc(); "{error}")?),
+    let mut stream = stream_of(rt, alloc, bytes, step, &[], &[]);
+    match stream.receive_bytes(alloc) {
+        Ok(message) => message.len().to_string(alloc).expect(rt, "no fault"),
+        Err(error) => format!(in alloc; "{error}").expect(rt, "no fault"),
+    }
+}
+
+/// However a stream of these bytes is cut, this is what comes of it.
+fn always(rt: &impl Abort, alloc: Global, bytes: &[u8], answer: &str) {
+    for step in [1usize, 2, 9] {
+        assert_eq!(rt; received(rt, alloc, bytes, step).as_str(), answer);
     }
 }
 
 /// However a stream is cut, its first message comes, or the place where it ended.
 #[test]
-fn messages_behind_their_lengths(rt: HostRuntime) -> Result<(), Fail> {
-    for step in [1usize, 2, 9] {
-        for (bytes, answer) in [
-            (b"\0\x03ab".as_slice(), "the stream ended after 2 bytes"),
-            (b"\0".as_slice(), "the stream ended after 1 bytes"),
-            (b"".as_slice(), "the stream ended after 0 bytes"),
-            (b"\x01\x02ab".as_slice(), "the stream ended after 2 bytes"),
-            (b"\0\0".as_slice(), "0"),
-            (b"\0\x02ab\0\x01c".as_slice(), "2"),
-        ] {
-            assert_eq!(rt; received(&rt, bytes, step)?.as_str(), answer);
-        }
+fn messages_behind_their_lengths(rt: HostRuntime) {
+    always(
+        &rt,
+        rt.alloc(),
+        b"\0\x03ab",
+        "the stream ended after 2 bytes",
+    );
+    always(&rt, rt.alloc(), b"\0", "the stream ended after 1 bytes");
+    always(&rt, rt.alloc(), b"", "the stream ended after 0 bytes");
+    always(
+        &rt,
+        rt.alloc(),
+        b"\x01\x02ab",
+        "the stream ended after 2 bytes",
+    );
+    always(&rt, rt.alloc(), b"\0\0", "0");
+    always(&rt, rt.alloc(), b"\0\x02ab\0\x01c", "2");
+}
+
+/// A stream over halves in memory.
+type Stream = QuicStream<MemorySend, MemoryRecv>;
+
+/// What is received is this message, or there is none for this reason.
+fn receives(rt: &impl Abort, alloc: Global, stream: &mut Stream, bytes: Result<&[u8], NetError>) {
+    match stream.receive_bytes(alloc) {
+        Ok(message) => assert_eq!(rt; Ok(message.as_slice()), bytes),
+        Err(fault) => assert_eq!(rt; Err(fault), bytes),
     }
-    Ok(())
 }
 
 /// Two messages, of which the second begins where the first ends; then the end.
 #[test]
-fn messages_one_after_another(rt: HostRuntime) -> Result<(), Fail> {
-    let alloc = rt.alloc();
-    let mut stream = stream_of(&rt, b"\0\x02ab\0\x01c", 2, &[], &[])?;
-    assert_eq!(rt; stream.receive_bytes(alloc)?.as_slice(), b"ab".as_slice());
-    assert_eq!(rt; stream.receive_bytes(alloc)?.as_slice(), b"c".as_slice());
-    let end = stream.receive_bytes(alloc).err();
-    assert_eq!(rt; end, Some(NetError::FinishedEarly(0)));
-    Ok(())
+fn messages_one_after_another(rt: HostRuntime) {
+    let mut stream = stream_of(&rt, rt.alloc(), b"\0\x02ab\0\x01c", 2, &[], &[]);
+    receives(&rt, rt.alloc(), &mut stream, Ok(b"ab".as_slice()));
+    receives(&rt, rt.alloc(), &mut stream, Ok(b"c".as_slice()));
+    let end = Err(NetError::FinishedEarly(0));
+    receives(&rt, rt.alloc(), &mut stream, end);
 }
 
-/// The bytes of a message stand behind their length, and too many are refused before anything is sent.
-#[test]
-fn bytes_that_are_sent(rt: HostRuntime) -> Result<(), Fail> {
-    let alloc = rt.alloc();
-    let mut stream = stream_of(&rt, b"", 1, &[], &[])?;
-    let long = vec![in alloc; 7u8; 65_536]?;
-    assert_eq!(rt;
-        stream.send_bytes(long.as_slice()),
-        Err(NetError::MaxBufferSizeExceeded(65_536))
-    );
-    stream.send_bytes(b"ab")?;
-    stream.send_bytes(b"")?;
-    let taken = stream.sending_half().taken();
-    assert_eq!(rt; taken.as_slice(), b"\0\x02ab\0\0".as_slice());
-    let (front, _) = long.as_slice().split_at(65_535);
-    stream.send_bytes(front)?;
-    assert_eq!(rt; stream.sending_half().taken().len(), 65_543);
-    Ok(())
+/// Sending these bytes is answered so.
+fn sends(rt: &impl Abort, stream: &mut Stream, bytes: &[u8], answer: Result<(), NetError>) {
+    assert_eq!(rt; stream.send_bytes(bytes), answer);
 }
 
-/// A half that was ended is ended no more, and one that was stopped gives nothing.
+/// What the sending half took, and how it was ended.
+fn took(rt: &impl Abort, stream: &Stream, bytes: &[u8], ends: &[StreamEnd]) {
+    assert_eq!(rt; stream.sending_half().taken().as_slice(), bytes);
+    assert_eq!(rt; stream.sending_half().ends(), ends);
+}
+
+/// The bytes of a message stand behind their length.
 #[test]
-fn halves_that_were_ended(rt: HostRuntime) -> Result<(), Fail> {
-    let mut stream = stream_of(&rt, b"\0\0", 1, &[], &[])?;
-    stream.finish()?;
-    assert_eq!(rt; stream.finish(), Err(NetError::UnknownStream));
-    assert_eq!(rt; stream.send_bytes(b"ab"), Err(NetError::UnknownStream));
-    let reset = stream.reset(DoqErrorCode::InternalError);
-    assert_eq!(rt; reset, Err(NetError::UnknownStream));
-    assert_eq!(rt;
-        stream.sending_half().ends(),
-        [StreamEnd::Finished].as_slice()
-    );
-    stream.stop(DoqErrorCode::RequestCancelled)?;
-    let stop = stream.stop(DoqErrorCode::NoError);
-    assert_eq!(rt; stop, Err(NetError::UnknownStream));
-    let message = stream.receive_bytes(rt.alloc()).err();
-    assert_eq!(rt; message, Some(NetError::UnknownStream));
+fn bytes_that_are_sent(rt: HostRuntime) {
+    let mut stream = stream_of(&rt, rt.alloc(), b"", 1, &[], &[]);
+    sends(&rt, &mut stream, b"ab", Ok(()));
+    sends(&rt, &mut stream, b"", Ok(()));
+    took(&rt, &stream, b"\0\x02ab\0\0", &[]);
+}
+
+/// Sends so many bytes.
+fn sends_many(
+    rt: &impl Abort,
+    alloc: Global,
+    stream: &mut Stream,
+    count: usize,
+    answer: Result<(), NetError>,
+) {
+    let long = vec![in alloc; 7u8; count].expect(rt, "ample memory");
+    sends(rt, stream, long.as_slice(), answer);
+}
+
+/// Too many bytes are refused before anything is sent.
+#[test]
+fn as_many_bytes_as_there_may_be(rt: HostRuntime) {
+    let mut stream = stream_of(&rt, rt.alloc(), b"", 1, &[], &[]);
+    let long = Err(NetError::MaxBufferSizeExceeded(65_536));
+    sends_many(&rt, rt.alloc(), &mut stream, 65_536, long);
+    took(&rt, &stream, b"", &[]);
+    sends_many(&rt, rt.alloc(), &mut stream, 65_535, Ok(()));
+    assert_eq!(rt; stream.sending_half().taken().len(), 65_537);
+}
+
+/// Finishing, resetting with this code, or stopping with it, is answered so.
+fn finishes(rt: &impl Abort, stream: &mut Stream, answer: Result<(), NetError>) {
+    assert_eq!(rt; stream.finish(), answer);
+}
+
+fn resets(rt: &impl Abort, stream: &mut Stream, code: DoqErrorCode, answer: Result<(), NetError>) {
+    assert_eq!(rt; stream.reset(code), answer);
+}
+
+fn stops(rt: &impl Abort, stream: &mut Stream, code: DoqErrorCode, answer: Result<(), NetError>) {
+    assert_eq!(rt; stream.stop(code), answer);
+}
+
+/// A half that was ended is ended no more.
+#[test]
+fn half_that_was_ended(rt: HostRuntime) {
+    let mut stream = stream_of(&rt, rt.alloc(), b"", 1, &[], &[]);
+    finishes(&rt, &mut stream, Ok(()));
+    finishes(&rt, &mut stream, Err(NetError::UnknownStream));
+    sends(&rt, &mut stream, b"ab", Err(NetError::UnknownStream));
+    let unknown = Err(NetError::UnknownStream);
+    resets(&rt, &mut stream, DoqErrorCode::InternalError, unknown);
+    took(&rt, &stream, b"", &[StreamEnd::Finished]);
+}
+
+/// One that was stopped gives nothing.
+#[test]
+fn half_that_was_stopped(rt: HostRuntime) {
+    let mut stream = stream_of(&rt, rt.alloc(), b"\0\0", 1, &[], &[]);
+    stops(&rt, &mut stream, DoqErrorCode::RequestCancelled, Ok(()));
+    let unknown = Err(NetError::UnknownStream);
+    stops(&rt, &mut stream, DoqErrorCode::NoError, unknown);
+    let unknown = Err(NetError::UnknownStream);
+    receives(&rt, rt.alloc(), &mut stream, unknown);
     assert_eq!(rt; stream.receiving_half().stops(), [3u64].as_slice());
-    Ok(())
 }
 
 /// A half is ended by a call that succeeds, and only then.
 #[test]
-fn halves_that_fail_to_end(rt: HostRuntime) -> Result<(), Fail> {
-    let mut stream = stream_of(&rt, b"", 1, &[1, 2], &[1])?;
-    assert_eq!(rt; stream.finish(), Err(NetError::Io));
-    let reset = stream.reset(DoqErrorCode::ExcessiveLoad);
-    assert_eq!(rt; reset, Err(NetError::Io));
-    assert_eq!(rt; stream.stop(DoqErrorCode::NoError), Err(NetError::Io));
-    stream.reset(DoqErrorCode::ExcessiveLoad)?;
-    stream.stop(DoqErrorCode::Unknown(7))?;
+fn halves_that_fail_to_end(rt: HostRuntime) {
+    let mut stream = stream_of(&rt, rt.alloc(), b"", 1, &[1, 2], &[1]);
+    finishes(&rt, &mut stream, Err(NetError::Io));
+    let failed = Err(NetError::Io);
+    resets(&rt, &mut stream, DoqErrorCode::ExcessiveLoad, failed);
+    stops(&rt, &mut stream, DoqErrorCode::NoError, Err(NetError::Io));
+    resets(&rt, &mut stream, DoqErrorCode::ExcessiveLoad, Ok(()));
+    stops(&rt, &mut stream, DoqErrorCode::Unknown(7), Ok(()));
+    took(&rt, &stream, b"", &[StreamEnd::Reset(4)]);
+    have_faults(&rt, stream);
+}
+
+/// The faults of the halves, and the code with which the receiving one was stopped.
+fn have_faults(rt: &impl Abort, stream: Stream) {
     let (send, recv) = stream.into_halves();
-    assert_eq!(rt; send.ends(), [StreamEnd::Reset(4)].as_slice());
     assert_eq!(rt; recv.stops(), [7u64].as_slice());
     assert_eq!(rt; send.faults(), 2);
     assert_eq!(rt; recv.faults(), 1);
-    Ok(())
 }
 
 /// A write that fails leaves a front of the message, and a read that fails takes nothing.
 #[test]
-fn faults_in_mid_message(rt: HostRuntime) -> Result<(), Fail> {
-    let alloc = rt.alloc();
-    let mut stream = stream_of(&rt, b"\0\x02ab", 1, &[2], &[3])?;
-    assert_eq!(rt; stream.send_bytes(b"ab"), Err(NetError::Io));
-    let taken = stream.sending_half().taken();
-    assert_eq!(rt; taken.as_slice(), b"\0\x02a".as_slice());
-    assert_eq!(rt; stream.receive_bytes(alloc).err(), Some(NetError::Io));
+fn faults_in_mid_message(rt: HostRuntime) {
+    let mut stream = stream_of(&rt, rt.alloc(), b"\0\x02ab", 1, &[2], &[3]);
+    sends(&rt, &mut stream, b"ab", Err(NetError::Io));
+    took(&rt, &stream, b"\0\x02a", &[]);
+    receives(&rt, rt.alloc(), &mut stream, Err(NetError::Io));
     let (_, mut recv) = stream.into_halves();
-    match recv.read(9)? {
-        Some(piece) => assert_eq!(rt; piece.as_slice(), b"a".as_slice()),
-        None => return Err(Fail::from("no bytes")),
-    }
-    Ok(())
+    reads(&rt, &mut recv, b"a");
 }
 
-/// A message that is sent on one side is received on the other, with the id 0.
+/// A read of at most 9 bytes gives these.
+fn reads(rt: &impl Abort, recv: &mut MemoryRecv, bytes: &[u8]) {
+    let piece = recv.read(9).expect(rt, "no fault");
+    assert_eq!(rt; piece.expect(rt, "bytes").as_slice(), bytes);
+}
+
+/// The query for www.example.test AAAA with the id 0x1234.
+const OTHER_QUERY: &[u8] =
+    b"\x12\x34\x01\x00\0\x01\0\0\0\0\0\0\x03www\x07example\x04test\0\0\x1c\0\x01";
+
+/// What a message is as it is sent.
+fn sent(rt: &impl Abort, alloc: Global, message: &Message) -> QuicStream<MemorySend, MemoryRecv> {
+    let mut stream = stream_of(rt, alloc, b"", 1, &[], &[]);
+    stream.send(alloc, message).expect(rt, "no fault");
+    stream
+}
+
+/// What is received of a message that is sent.
+fn passed_on(rt: &impl Abort, alloc: Global, message: &Message) -> Message {
+    let here = sent(rt, alloc, message);
+    let bytes = here.sending_half().taken();
+    let mut there = stream_of(rt, alloc, bytes.as_slice(), 5, &[], &[]);
+    there.receive(alloc).expect(rt, "a message")
+}
+
+/// A message has these first four bytes, and behind them those of the query.
+fn is_query(rt: &impl Abort, alloc: Global, message: &Message, front: &[u8]) {
+    let bytes = message.to_vec(alloc).expect(rt, "no fault");
+    assert_eq!(rt; bytes.as_slice().get(..4), Some(front));
+    assert_eq!(rt; bytes.as_slice().get(4..), OTHER_QUERY.get(4..));
+}
+
+/// A query is received with the id 0, and comes back as a reply.
 #[test]
-fn message_from_side_to_side(rt: HostRuntime) -> Result<(), Fail> {
+fn message_from_side_to_side(rt: HostRuntime) {
     let alloc = rt.alloc();
-    let query = Message::from_vec(alloc, QUERY)?;
-    let mut here = stream_of(&rt, b"", 1, &[], &[])?;
-    here.send(alloc, &query)?;
-    let sent = here.sending_half().taken();
-    let mut there = stream_of(&rt, sent.as_slice(), 5, &[], &[])?;
-    let message = there.receive(alloc)?;
-    assert_eq!(rt; message.header.id, 0);
-    let (_, behind_id) = QUERY.split_at(2);
-    let bytes = message.to_vec(alloc)?;
-    assert_eq!(rt; bytes.as_slice().get(2..), Some(behind_id));
-    Ok(())
+    let query = Message::from_vec(alloc, OTHER_QUERY).expect(&rt, "a message");
+    let mut message = passed_on(&rt, alloc, &query);
+    is_query(&rt, alloc, &message, b"\0\0\x01\0");
+    message.header.qr = true;
+    let reply = passed_on(&rt, alloc, &message);
+    is_query(&rt, alloc, &reply, b"\0\0\x81\0");
 }
 
-/// What is received of this query, and how the sending half is ended; `failing` is the number of its call that fails, 0 for none.
-fn refused(rt: &HostRuntime, bytes: &[u8], failing: u64) -> Result<String, Fail> {
-    let mut stream = stream_of(rt, bytes, 50, &[failing], &[])?;
-    let error = match stream.receive(rt.alloc()) {
-        Ok(_) => return Err(Fail::from("a message")),
-        Err(error) => error,
-    };
-    let ends = stream.sending_half().ends().len();
-    let faults = stream.sending_half().faults();
-    Ok(format!(in rt.alloc(); "{error}, {ends} ends, {faults} faults")?)
+/// The query behind its length is refused by its id, where this call of the sending half fails, 0 for none.
+fn is_refused(rt: &impl Abort, alloc: Global, failing: u64, ends: &[StreamEnd], faults: u64) {
+    let mut frame = Octets::from_slice(alloc, b"\0\x21").expect(rt, "ample memory");
+    frame.append(QUERY).expect(rt, "ample memory");
+    let mut stream = stream_of(rt, alloc, frame.as_slice(), 50, &[failing], &[]);
+    let error = stream.receive(alloc).err();
+    assert_eq!(rt; error, Some(NetError::QuicMessageIdNot0(0x1234)));
+    took(rt, &stream, b"", ends);
+    assert_eq!(rt; stream.sending_half().faults(), faults);
 }
 
-/// A message with another id is refused whatever the reset answers; what is no message is refused too.
+/// A message with another id is refused whatever the reset answers.
 #[test]
-fn messages_that_are_refused(rt: HostRuntime) -> Result<(), Fail> {
-    let mut frame = Octets::from_slice(rt.alloc(), b"\0\x21")?;
-    frame.append(QUERY)?;
-    assert_eq!(rt;
-        refused(&rt, frame.as_slice(), 0)?.as_str(),
-        "the message id is 4660 in place of 0, 1 ends, 0 faults"
-    );
-    assert_eq!(rt;
-        refused(&rt, frame.as_slice(), 1)?.as_str(),
-        "the message id is 4660 in place of 0, 0 ends, 1 faults"
-    );
-    let mut stream = stream_of(&rt, b"\0\x01a", 3, &[], &[])?;
-    match stream.receive(rt.alloc()).err() {
-        Some(NetError::Proto(_)) => {}
-        _ => return Err(Fail::from("another answer")),
-    }
-    Ok(())
+fn messages_with_an_id(rt: HostRuntime) {
+    is_refused(&rt, rt.alloc(), 0, &[StreamEnd::Reset(2)], 0);
+    is_refused(&rt, rt.alloc(), 1, &[], 1);
+}
+
+/// What is no message is refused too.
+#[test]
+fn bytes_that_are_no_message(rt: HostRuntime) {
+    let mut stream = stream_of(&rt, rt.alloc(), b"\0\x01a", 3, &[], &[]);
+    let error = stream.receive(rt.alloc()).err();
+    assert!(rt; matches!(error, Some(NetError::Proto(_))));
 }
 
 /// The codes of numbers, by their numbers.
+fn is_code(rt: &impl Abort, alloc: Global, number: u64, name: &str, back: u64) {
+    let code = DoqErrorCode::from(number);
+    let text = format!(in alloc; "{code:?}").expect(rt, "ample memory");
+    assert_eq!(rt; text.as_str(), name);
+    assert_eq!(rt; u64::from(code), back);
+}
+
 #[test]
-fn codes_of_numbers(rt: HostRuntime) -> Result<(), Fail> {
-    for number in [0u64, 1, 2, 3, 4, 5, 0xd098_ea5e, 0xffff_ffff] {
-        assert_eq!(rt; u64::from(DoqErrorCode::from(number)), number);
-    }
-    assert_eq!(rt; u64::from(DoqErrorCode::from(0x1_0000_0000)), 2);
-    let reserved = matches!(DoqErrorCode::from(0xd098_ea5e), DoqErrorCode::ErrorReserved);
-    assert!(rt; reserved);
-    let unknown = matches!(DoqErrorCode::from(5), DoqErrorCode::Unknown(5));
-    assert!(rt; unknown);
-    let protocol = matches!(
-        DoqErrorCode::from(0x1_0000_0000),
-        DoqErrorCode::ProtocolError
+fn codes_of_numbers(rt: HostRuntime) {
+    is_code(&rt, rt.alloc(), 0, "NoError", 0);
+    is_code(&rt, rt.alloc(), 1, "InternalError", 1);
+    is_code(&rt, rt.alloc(), 2, "ProtocolError", 2);
+    is_code(&rt, rt.alloc(), 3, "RequestCancelled", 3);
+    is_code(&rt, rt.alloc(), 4, "ExcessiveLoad", 4);
+    is_code(&rt, rt.alloc(), 5, "Unknown(5)", 5);
+    is_code(&rt, rt.alloc(), 0xd098_ea5e, "ErrorReserved", 0xd098_ea5e);
+    is_code(
+        &rt,
+        rt.alloc(),
+        0xffff_ffff,
+        "Unknown(4294967295)",
+        0xffff_ffff,
     );
-    assert!(rt; protocol);
-    Ok(())
+    is_code(&rt, rt.alloc(), 0x1_0000_0000, "ProtocolError", 2);
+}
+
+/// The next piece of a body is this one.
+fn next_is(rt: &impl Abort, body: &mut BodyStream<MemoryRecv>, bytes: &[u8]) {
+    let piece = body.next().expect(rt, "no fault");
+    assert_eq!(rt; piece.expect(rt, "a piece").as_slice(), bytes);
 }
 
 /// A half as a body: what its reads give, a fault, and the end.
 #[test]
-fn half_as_a_body(rt: HostRuntime) -> Result<(), Fail> {
-    let mut body = BodyStream::from(recv_of(&rt, b"abc", 2, &[2])?);
-    match body.next()? {
-        Some(piece) => assert_eq!(rt; piece.as_slice(), b"ab".as_slice()),
-        None => return Err(Fail::from("no piece")),
-    }
+fn half_as_a_body(rt: HostRuntime) {
+    let mut body = BodyStream::from(recv_of(&rt, rt.alloc(), b"abc", 2, &[2]));
+    next_is(&rt, &mut body, b"ab");
     assert!(rt; body.next().is_err());
-    match body.next()? {
-        Some(piece) => assert_eq!(rt; piece.as_slice(), b"c".as_slice()),
-        None => return Err(Fail::from("no piece")),
-    }
-    assert!(rt; body.next()?.is_none());
+    next_is(&rt, &mut body, b"c");
+    assert!(rt; body.next().expect(&rt, "no fault").is_none());
     assert_eq!(rt; body.half().faults(), 1);
-    Ok(())
 }

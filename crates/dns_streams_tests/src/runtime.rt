@@ -6,20 +6,35 @@ use dns_runtime::{
 };
 use std::alloc::Global;
 use std::collections::LinkedList;
-use std::test::Fail;
+use std::process::Abort;
+
+/// Who sends here.
+const HERE: Peer = Peer {
+    ip: Ip::V4(0xc000_0201),
+    port: 53,
+};
+
+/// Another datagram that is to come.
+fn comes(rt: &impl Abort, alloc: Global, coming: &mut LinkedList<(Octets, Peer)>, bytes: &[u8]) {
+    let bytes = Octets::from_slice(alloc, bytes).expect(rt, "ample memory");
+    coming.push_back((bytes, HERE)).expect(rt, "ample memory");
+}
 
 /// A socket: a datagram that fits, one that is cut, the end, and what it sends.
 #[test]
-fn datagrams_of_a_socket(rt: HostRuntime) -> Result<(), Fail> {
-    let alloc = rt.alloc();
-    let here = Peer {
-        ip: Ip::V4(0xc000_0201),
-        port: 53,
-    };
-    let mut coming = LinkedList::new(alloc);
-    coming.push_back((Octets::from_slice(alloc, b"ab")?, here))?;
-    coming.push_back((Octets::from_slice(alloc, b"cdef")?, here))?;
-    let mut socket = MemorySocket::new(alloc, coming, Vec::from_slice(alloc, &[2, 5])?);
+fn datagrams_of_a_socket(rt: HostRuntime) {
+    let mut coming = LinkedList::new(rt.alloc());
+    comes(&rt, rt.alloc(), &mut coming, b"ab");
+    comes(&rt, rt.alloc(), &mut coming, b"cdef");
+    let failing = Vec::from_slice(rt.alloc(), &[2, 5]).expect(&rt, "ample memory");
+    let mut socket = MemorySocket::new(rt.alloc(), coming, failing);
+    use_socket(&rt, &mut socket);
+    was_sent(&rt, socket.sent());
+}
+
+/// What comes of the calls of a socket whose second and fifth call fail.
+fn use_socket(rt: &impl Abort, socket: &mut MemorySocket) {
+    let here = HERE;
     let mut room = [0u8; 3];
     assert_eq!(rt; socket.recv_from(&mut room), Ok((2, here)));
     assert_eq!(rt; socket.recv_from(&mut room), Err(IoFault::Failed));
@@ -28,14 +43,14 @@ fn datagrams_of_a_socket(rt: HostRuntime) -> Result<(), Fail> {
     assert_eq!(rt; socket.send_to(b"xyz", here), Ok(3));
     assert_eq!(rt; socket.send_to(b"xyz", here), Err(IoFault::Failed));
     assert_eq!(rt; socket.recv_from(&mut room), Err(IoFault::Failed));
-    match socket.sent() {
-        [(bytes, to)] => {
-            assert_eq!(rt; bytes.as_slice(), b"xyz".as_slice());
-            assert_eq!(rt; *to, here);
-        }
-        _ => return Err(Fail::from("other datagrams")),
-    }
-    Ok(())
+}
+
+/// One datagram was sent.
+fn was_sent(rt: &impl Abort, sent: &[(Octets, Peer)]) {
+    assert_eq!(rt; sent.len(), 1);
+    let (bytes, to) = &sent[0];
+    assert_eq!(rt; bytes.as_slice(), b"xyz".as_slice());
+    assert_eq!(rt; *to, HERE);
 }
 
 /// A connection over memory.
@@ -142,7 +157,7 @@ where
 }
 
 #[test]
-fn runtime_in_memory(rt: HostRuntime) -> Result<(), Fail> {
+fn runtime_in_memory(rt: HostRuntime) {
     let mut provider = MemoryRuntime { alloc: rt.alloc() };
     let server = Peer {
         ip: Ip::V4(0xc000_0201),
@@ -157,5 +172,4 @@ fn runtime_in_memory(rt: HostRuntime) -> Result<(), Fail> {
         seconds: 1_700_000_000,
     };
     assert_eq!(rt; timer.current_time(), 1_700_000_000);
-    Ok(())
 }

@@ -1,5 +1,6 @@
 use Rattle.std.proofs.Common.{◌≡◌, ◌≤◌, ◌-◌, length}
 use Rattle.dns_io.specs.Edge.{Told, Takes}
+use Rattle.dns_net.specs.Bodies.{AsksNext, ReadsUpTo}
 use Rattle.dns_net.proofs.Fetching.{TakesBytes}
 use Rattle.dns_net.proofs.fetch.fetch_body.Given as goal
 
@@ -9,6 +10,7 @@ invariant-loop-body g l =
     × (length l.body ≤ 65535)
     × Takes (g.P.BodyPieces.left_bytes l.fn.stream) (g.P.BodyPieces.left_bytes l.stream) l.body
     × (g.P.BodyPieces.faults l.stream ≡ g.P.BodyPieces.faults l.fn.stream)
+    × ReadsUpTo (AsksNext g.P.BodyPieces.left g.P.BodyPieces.left_bytes g.P.BodyPieces.faults) l.fn.stream l.body l.stream
 
 abbrev pub decreases-loop-body : goal.decreases-loop-body
 decreases-loop-body g l = 65535 - length l.body
