@@ -6,9 +6,9 @@ use dns_configuration::{
 use dns_io::Octets;
 use dns_name::Name;
 use dns_wire::{Data, Question};
-use dns_zone::{Zone, read_zone};
+use dns_zone::{Zone, ZoneTextKind, read_zone};
 use std::alloc::Global;
-use std::test::Fail;
+use std::process::Abort;
 
 /// The text of a small zone, whose name is example.com.
 const ZONE: &str = "\
@@ -24,83 +24,82 @@ const FAULTY: &str = "@ 60 IN SOA ns h 1 1 1 1 1\n\nwww 60 IN A 192.0.2.256\n";
 /// The text of another zone.
 const OTHER: &str = "@ IN SOA ns h 9 1 1 1 1";
 
-fn path(alloc: Global, text: &str) -> Result<PathText, Fail> {
-    Ok(PathText::new(String::from_str(alloc, text)?))
+fn path(rt: &impl Abort, alloc: Global, text: &str) -> PathText {
+    PathText::new(String::from_str(alloc, text).expect(rt, "ample memory"))
 }
 
-/// Two files with these paths and texts.
-fn two(
-    alloc: Global,
-    first: (&str, &str),
-    second: (&str, &str),
-) -> Result<Vec<(PathText, Octets)>, Fail> {
+fn name(rt: &impl Abort, alloc: Global, text: &str) -> Name {
+    Name::parse(alloc, text).expect(rt, "a name")
+}
+
+fn file(rt: &impl Abort, alloc: Global, place: &str, text: &str) -> (PathText, Octets) {
+    let text = Octets::from_slice(alloc, text.as_bytes()).expect(rt, "ample memory");
+    (path(rt, alloc, place), text)
+}
+
+/// The zone's text at one path, and a faulty text at another; the second read fails.
+fn files(rt: &impl Abort, alloc: Global, place: &str, other: &str) -> MemoryFiles {
     let mut files = Vec::new(alloc);
-    put(alloc, first, &mut files)?;
-    put(alloc, second, &mut files)?;
-    Ok(files)
+    files
+        .push(file(rt, alloc, place, ZONE))
+        .expect(rt, "ample memory");
+    files
+        .push(file(rt, alloc, other, FAULTY))
+        .expect(rt, "ample memory");
+    let failing = Vec::from_slice(alloc, &[2]).expect(rt, "ample memory");
+    MemoryFiles::new(alloc, files, failing)
 }
 
-fn put(alloc: Global, file: (&str, &str), files: &mut Vec<(PathText, Octets)>) -> Result<(), Fail> {
-    let text = Octets::from_slice(alloc, file.1.as_bytes())?;
-    files.push((path(alloc, file.0)?, text))?;
-    Ok(())
-}
-
-/// The zone example.com from files.
+/// What comes of a configuration with this path, below a folder.
 fn load(
+    rt: &impl Abort,
     alloc: Global,
     folder: Option<&str>,
-    config: &FileConfig,
-    origin: Name,
+    place: &str,
     files: &mut MemoryFiles,
 ) -> Result<FileZoneHandler, LoadFault> {
-    let (kind, policy) = (ZoneType::Secondary, AxfrPolicy::AllowSigned);
-    FileZoneHandler::try_from_config(alloc, origin, kind, policy, folder, config, files)
-}
-
-/// What comes of a configuration with this path, below a folder: the address of www, or what is wrong.
-fn outcome(
-    alloc: Global,
-    folder: Option<&str>,
-    text: &str,
-    files: &mut MemoryFiles,
-) -> Result<String, Fail> {
     let config = FileConfig {
-        zone_path: path(alloc, text)?,
+        zone_path: path(rt, alloc, place),
     };
-    let origin = Name::parse(alloc, "Example.com.")?;
-    match load(alloc, folder, &config, origin, files) {
-        Ok(handler) => address(alloc, handler.in_memory()),
-        Err(fault) => Ok(format!(in alloc; "{fault}")?),
-    }
+    FileZoneHandler::try_from_config(
+        alloc,
+        name(rt, alloc, "Example.com."),
+        ZoneType::Secondary,
+        AxfrPolicy::AllowSigned,
+        folder,
+        &config,
+        files,
+    )
 }
 
-/// The address of www.example.com in a zone, in decimal.
-fn address(alloc: Global, zone: &Zone) -> Result<String, Fail> {
+/// The zone answers the question for the address of www.example.com.
+fn answers(rt: &impl Abort, alloc: Global, zone: &Zone) {
     let question = Question {
-        name: Name::parse(alloc, "www.example.com.")?,
+        name: name(rt, alloc, "www.example.com."),
         qtype: 1,
         qclass: 1,
     };
-    if !question.name.at_or_below(zone.origin()) {
-        return Err(Fail::from("out of zone"));
-    }
-    match zone.lookup(alloc, &question)?.answers.as_slice() {
-        [one] => data(alloc, &one.rdata),
-        _ => Err(Fail::from("no answer")),
+    assert!(rt; question.name.at_or_below(zone.origin()));
+    let looked = zone.lookup(alloc, &question).expect(rt, "ample memory");
+    match looked.answers.as_slice() {
+        [one] => assert!(rt; matches!(one.rdata, Data::A(0xc000_0201))),
+        _ => panic!(rt; "another answer"),
     }
 }
 
-fn data(alloc: Global, data: &Data) -> Result<String, Fail> {
-    match data {
-        Data::A(address) => Ok(format!(in alloc; "{address:08x}")?),
-        _ => Err(Fail::from("no address")),
-    }
+/// The zone's text at this place is found by this path below this folder.
+fn is_found(rt: &impl Abort, alloc: Global, folder: Option<&str>, named: &str, place: &str) {
+    // Of two files with one path the first counts.
+    let mut files = files(rt, alloc, place, place);
+    let handler = load(rt, alloc, folder, named, &mut files).expect(rt, "a zone");
+    answers(rt, alloc, handler.in_memory());
+    assert_eq!(rt; handler.zone_type(), ZoneType::Secondary);
+    assert_eq!(rt; handler.axfr_policy(), AxfrPolicy::AllowSigned);
 }
 
 #[test]
-fn zones_are_read_from_their_paths(rt: HostRuntime) -> Result<(), Fail> {
-    let table = [
+fn zones_are_read_from_their_paths(rt: HostRuntime) {
+    for (folder, named, place) in [
         (Some("r"), "z", "r/z"),
         (Some("r/"), "z", "r/z"),
         (Some("/"), "z", "/z"),
@@ -109,49 +108,54 @@ fn zones_are_read_from_their_paths(rt: HostRuntime) -> Result<(), Fail> {
         (None, "z", "z"),
         (None, "/z", "/z"),
         (Some("r"), "a/z", "r/a/z"),
-    ];
-    for (folder, named, place) in table {
-        let files = two(rt.alloc(), (place, ZONE), (place, FAULTY))?;
-        let mut files = MemoryFiles::new(rt.alloc(), files, Vec::new(rt.alloc()));
-        let found = outcome(rt.alloc(), folder, named, &mut files)?;
-        assert_eq!(rt; found.as_str(), "c0000201", "{place}");
+    ] {
+        is_found(&rt, rt.alloc(), folder, named, place);
     }
-    Ok(())
+}
+
+/// No zone comes of this path below the folder r, and this is why.
+fn is_refused(
+    rt: &impl Abort,
+    alloc: Global,
+    named: &str,
+    files: &mut MemoryFiles,
+    fault: LoadFault,
+) {
+    match load(rt, alloc, Some("r"), named, files) {
+        Ok(_) => panic!(rt; "{named}"),
+        Err(found) => assert_eq!(rt; found, fault, "{named}"),
+    }
+}
+
+/// The faults of four reads, of which the second fails.
+fn refuse_all(rt: &impl Abort, alloc: Global, files: &mut MemoryFiles) {
+    let (line, kind) = (3, ZoneTextKind::Data);
+    is_refused(rt, alloc, "z", files, LoadFault::Text { line, kind });
+    is_refused(rt, alloc, "z", files, LoadFault::Read);
+    is_refused(rt, alloc, "r/z", files, LoadFault::NoFile);
+    is_refused(rt, alloc, "z", files, LoadFault::Text { line, kind });
 }
 
 #[test]
-fn each_fault_has_its_cause(rt: HostRuntime) -> Result<(), Fail> {
-    let files = two(rt.alloc(), ("r/z", FAULTY), ("z", ZONE))?;
-    let failing = Vec::from_slice(rt.alloc(), &[2])?;
-    let mut files = MemoryFiles::new(rt.alloc(), files, failing);
-    for (named, want) in [
-        ("z", "zone text line 3: Data"),
-        ("z", "the zone text could not be read"),
-        ("r/z", "no zone text"),
-        ("z", "zone text line 3: Data"),
-    ] {
-        let found = outcome(rt.alloc(), Some("r"), named, &mut files)?;
-        assert_eq!(rt; found.as_str(), want);
-    }
-    Ok(())
+fn each_fault_has_its_cause(rt: HostRuntime) {
+    let mut files = files(&rt, rt.alloc(), "z", "r/z");
+    refuse_all(&rt, rt.alloc(), &mut files);
 }
 
 /// A zone takes the place of another, and the rest stays.
-fn replace(alloc: Global, handler: &mut FileZoneHandler) -> Result<(), Fail> {
-    let origin = Name::parse(alloc, "org")?;
-    *handler.in_memory_mut() = read_zone(alloc, OTHER.as_bytes(), &origin)?;
-    Ok(())
-}
-
-#[test]
-fn a_new_one_is_primary_and_denies(rt: HostRuntime) -> Result<(), Fail> {
-    let origin = Name::parse(rt.alloc(), "example.com")?;
-    let zone = read_zone(rt.alloc(), ZONE.as_bytes(), &origin)?;
-    let mut handler = FileZoneHandler::new(zone);
-    replace(rt.alloc(), &mut handler)?;
+fn replace(rt: &impl Abort, alloc: Global, handler: &mut FileZoneHandler) {
+    let origin = name(rt, alloc, "org");
+    *handler.in_memory_mut() = read_zone(alloc, OTHER.as_bytes(), &origin).expect(rt, "a zone");
     assert_eq!(rt; handler.in_memory().serial(), 9);
     assert_eq!(rt; handler.origin().label_count(), 1);
     assert_eq!(rt; handler.zone_type(), ZoneType::Primary);
     assert_eq!(rt; handler.axfr_policy(), AxfrPolicy::Deny);
-    Ok(())
+}
+
+#[test]
+fn a_new_one_is_primary_and_denies(rt: HostRuntime) {
+    let origin = name(&rt, rt.alloc(), "example.com");
+    let zone = read_zone(rt.alloc(), ZONE.as_bytes(), &origin).expect(&rt, "a zone");
+    let mut handler = FileZoneHandler::new(zone);
+    replace(&rt, rt.alloc(), &mut handler);
 }

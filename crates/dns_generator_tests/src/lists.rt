@@ -1,18 +1,21 @@
 //! The lists of events that seeds stand for.
 
+ghost use Rattle.std.specs.Prelude.{◌≤◌};
+
 use dns_generator::loaded;
 use dns_io::{Ip, Peer};
 use dns_server_core::Event;
 use std::alloc::Global;
-use std::test::Fail;
+use std::process::Abort;
 
 /// Bytes in small hex digits.
-fn hex(alloc: Global, bytes: &[u8]) -> Result<String, Fail> {
+fn hex(rt: &impl Abort, alloc: Global, bytes: &[u8]) -> String {
     let mut text = String::new(alloc);
     for byte in bytes {
-        text.push_str(format!(in alloc; "{byte:02x}")?.as_str())?;
+        let digits = format!(in alloc; "{byte:02x}").expect(rt, "ample memory");
+        text.push_str(digits.as_str()).expect(rt, "ample memory");
     }
-    Ok(text)
+    text
 }
 
 /// The port of 127.0.0.1, where it is one.
@@ -23,47 +26,43 @@ fn port_of(peer: &Peer) -> u32 {
     }
 }
 
-/// An event in words: a letter, its moment, the connection or the port, and what else it has.
-fn spelled(alloc: Global, event: &Event) -> Result<String, Fail> {
-    match event {
+/// The event is this one in words: its moment, the connection or the port, and what else it has.
+fn is_event(rt: &impl Abort, alloc: Global, event: &Event, want: &str) {
+    let text = match event {
         Event::Accepted {
             at,
             conn,
             peer,
             limit,
-        } => {
-            let port = port_of(peer);
-            Ok(format!(in alloc; "A {at} {conn} {port} {limit}")?)
-        }
+        } => format!(in alloc; "A {at} {conn} {} {limit}", port_of(peer)),
         Event::Bytes { at, conn, piece } => {
-            let bytes = hex(alloc, piece.as_slice())?;
-            Ok(format!(in alloc; "B {at} {conn} {bytes}")?)
+            format!(in alloc; "B {at} {conn} {}", hex(rt, alloc, piece.as_slice()))
         }
         Event::Datagram { at, peer, bytes } => {
-            let port = port_of(peer);
-            let bytes = hex(alloc, bytes.as_slice())?;
-            Ok(format!(in alloc; "D {at} {port} {bytes}")?)
+            format!(in alloc;
+                "D {at} {} {}",
+                port_of(peer),
+                hex(rt, alloc, bytes.as_slice())
+            )
         }
-        _ => Ok(String::new(alloc)),
-    }
+        _ => panic!(rt; "another event"),
+    };
+    assert_eq!(rt; text.expect(rt, "ample memory").as_str(), want);
 }
 
-/// Each event of the list stands in the table, in order, and nothing else does.
-fn compare(alloc: Global, list: &[Event], table: &[&str]) -> Result<(), Fail> {
-    if list.len() != table.len() {
-        return Err(Fail::from("another number of events"));
-    }
+/// The list of a seed and a count is this one.
+fn is_list(rt: &impl Abort, alloc: Global, seed: u64, count: u32, table: &[&str])
+    requires { count ≤ 100000 }
+{
+    let list = loaded(alloc, seed, count).expect(rt, "ample memory");
+    assert_eq!(rt; list.len(), table.len());
     for (event, want) in list.iter().zip(table) {
-        if spelled(alloc, event)?.as_str() != *want {
-            return Err(Fail::from("another event"));
-        }
+        is_event(rt, alloc, event, want);
     }
-    Ok(())
 }
 
 #[test]
-fn one_message_of_seed_0(rt: HostRuntime) -> Result<(), Fail> {
-    let list = loaded(rt.alloc(), 0, 1)?;
+fn one_message_of_seed_0(rt: HostRuntime) {
     let table = [
         "A 0 1 5001 0",
         "A 0 2 5002 0",
@@ -71,12 +70,11 @@ fn one_message_of_seed_0(rt: HostRuntime) -> Result<(), Fail> {
         "A 0 4 5004 0",
         "D 0 1085 000028000001000000010000076578616d706c6503636f6d000006000103683437076578616d706c6503636f6d00000100010000003c00040a0000bd",
     ];
-    compare(rt.alloc(), list.as_slice(), &table)
+    is_list(&rt, rt.alloc(), 0, 1, &table);
 }
 
 #[test]
-fn ten_messages_of_seed_7(rt: HostRuntime) -> Result<(), Fail> {
-    let list = loaded(rt.alloc(), 7, 10)?;
+fn ten_messages_of_seed_7(rt: HostRuntime) {
     let table = [
         "A 0 1 5001 0",
         "A 0 2 5002 0",
@@ -95,12 +93,11 @@ fn ten_messages_of_seed_7(rt: HostRuntime) -> Result<(), Fail> {
         "B 9 3 0021000901",
         "B 9 3 00000100000000000003683239076578616d706c6503636f6d0000010001",
     ];
-    compare(rt.alloc(), list.as_slice(), &table)
+    is_list(&rt, rt.alloc(), 7, 10, &table);
 }
 
 #[test]
-fn the_greatest_seed(rt: HostRuntime) -> Result<(), Fail> {
-    let list = loaded(rt.alloc(), u64::MAX, 1)?;
+fn the_greatest_seed(rt: HostRuntime) {
     let table = [
         "A 0 1 5001 0",
         "A 0 2 5002 0",
@@ -108,5 +105,5 @@ fn the_greatest_seed(rt: HostRuntime) -> Result<(), Fail> {
         "A 0 4 5004 0",
         "D 0 1619 00000100000100000000000003683432076578616d706c6503636f6d0000010001",
     ];
-    compare(rt.alloc(), list.as_slice(), &table)
+    is_list(&rt, rt.alloc(), u64::MAX, 1, &table);
 }
