@@ -2,4 +2,10 @@
 #![tactic(auto)]
 
 #[cfg(test)]
-mod http_messages;
+mod bodies;
+#[cfg(test)]
+mod clients;
+#[cfg(test)]
+mod header_objects;
+#[cfg(test)]
+mod requests;

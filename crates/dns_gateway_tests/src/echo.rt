@@ -1,0 +1,52 @@
+//! A handler that gives each message back, and leaves empty messages without a reply.
+
+use dns_io::OutOfMemory;
+use dns_server_core::{AccessControl, Ask, ReplyBytes, RequestHandler, Settled};
+use dns_wire::Protocol;
+
+/// How many messages came, and by which protocol and for which client the last one.
+#[derive(Drop)]
+pub(crate) struct Echo {
+    pub(crate) messages: u64,
+    pub(crate) protocol: Option<Protocol>,
+    pub(crate) client: u32,
+}
+
+impl Echo {
+    pub(crate) fn new() -> Echo {
+        Echo {
+            messages: 0,
+            protocol: None,
+            client: 9,
+        }
+    }
+}
+
+impl RequestHandler for Echo {
+    ghost serves = { λ access before ask settled after. Unit {0} };
+
+    ghost skips = { λ before after. Unit {0} };
+
+    fn handle_request(
+        &mut self,
+        _access: &AccessControl,
+        ask: &Ask,
+    ) -> Result<Settled, OutOfMemory> {
+        self.messages = self.messages.saturating_add(1);
+        self.protocol = Some(ask.protocol);
+        self.client = ask.client;
+        Ok(Settled {
+            reply: reply_to(ask)?,
+            length: 0,
+            receipt: None,
+        })
+    }
+}
+
+/// The message itself.
+fn reply_to(ask: &Ask) -> Result<Option<ReplyBytes>, OutOfMemory> {
+    if ask.bytes.len() == 0 {
+        return Ok(None);
+    }
+    Ok(Some(ReplyBytes::new(ask.bytes.copy()?)?))
+}
