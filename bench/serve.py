@@ -57,7 +57,7 @@ def zone_of(count, folder):
     """A zone of so many names, and a file of names in it."""
     zone, names = Path(folder, f"zone{count}"), Path(folder, f"names{count}")
     hosts = ["www"] if count == 7 else [f"h{place}" for place in range(count)]
-    text = clients.ZONE if count == 7 else clients.ZONE + "".join(f"{host}.example.com. 60 IN A 10.0.0.1\n" for host in hosts)
+    text = clients.ZONE if count == 7 else clients.ZONE + "$ORIGIN example.com.\n" + "".join(f"{host} 60 IN A 10.0.0.1\n" for host in hosts)
     zone.write_text(text)
     names.write_text("".join(f"{hosts[place * 7919 % len(hosts)]}.example.com\n" for place in range(len(hosts))))
     return zone, names
