@@ -1,5 +1,7 @@
 //! A handler that gives each message back, and leaves empty messages without a reply.
 
+ghost use Rattle.std.specs.Prelude.{◌≤◌, length};
+
 use dns_io::OutOfMemory;
 use dns_server_core::{AccessControl, Ask, ReplyBytes, RequestHandler, Settled};
 use dns_wire::Protocol;
@@ -27,11 +29,9 @@ impl RequestHandler for Echo {
 
     ghost skips = { λ before after. Unit {0} };
 
-    fn handle_request(
-        &mut self,
-        _access: &AccessControl,
-        ask: &Ask,
-    ) -> Result<Settled, OutOfMemory> {
+    fn handle_request(&mut self, _access: &AccessControl, ask: &Ask) -> Result<Settled, OutOfMemory>
+        requires bytes { length ask.now.bytes ≤ 65535 }
+    {
         self.messages = self.messages.saturating_add(1);
         self.protocol = Some(ask.protocol);
         self.client = ask.client;
@@ -44,7 +44,9 @@ impl RequestHandler for Echo {
 }
 
 /// The message itself.
-fn reply_to(ask: &Ask) -> Result<Option<ReplyBytes>, OutOfMemory> {
+fn reply_to(ask: &Ask) -> Result<Option<ReplyBytes>, OutOfMemory>
+    requires { length ask.now.bytes ≤ 65535 }
+{
     if ask.bytes.len() == 0 {
         return Ok(None);
     }
