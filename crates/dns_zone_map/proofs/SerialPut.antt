@@ -228,7 +228,6 @@ module _ (origin : List (List ℕ)) (k : ℕ) where
               whole = subst (AreEntries origin) (sym t.is)
                   (all_append (λ e. AreSets origin e.0.items e.1) t.front ((t.stored, t.changed) ∷ t.back) each_front (
                     record {
-                      filled = omega (arith, ap length s.is, length-append s.front (serial_set k s.set ∷ s.back));
                       each = subst (AllByRecursion (IsSet origin t.stored.items)) (sym s.is) (all_append (IsSet origin t.stored.items) s.front (serial_set k s.set ∷ s.back) lower (still_set t.stored.items s.set upper.0, upper.1));
                       rise = subst TypesRise (sym s.is) (rise_same s.front s.back s.set (serial_set k s.set) refl rise);
                     },
