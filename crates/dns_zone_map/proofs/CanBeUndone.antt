@@ -1,5 +1,5 @@
 -- A change of a name whose sets were kept can be undone.
-use Rattle.std.proofs.Common.{◌≡◌, ℕ, Bool, true, false, List, [], ◌∷◌, ◌++◌, length, map, refl, sym, ap, ◌∙◌, subst, arith, if◌then◌else◌, Some, None, Vec, Global, inl, inr}
+use Rattle.std.proofs.Common.{◌≡◌, ℕ, Bool, true, false, List, [], ◌∷◌, ◌++◌, map, refl, sym, ap, ◌∙◌, subst, if◌then◌else◌, Some, None, Vec, Global, inl, inr, Result, Ok, Err, OnErr}
 use Rattle.std.specs.Prelude.{Option, cond, IfSome, ◌||◌}
 use Rattle.std.specs.List.{AllByRecursion, list_any}
 use Rattle.std.specs.Str.{bytes_eq}
@@ -19,7 +19,7 @@ use Rattle.dns_zone_map.specs.declared.former.FormerSets.{FormerSets}
 use Rattle.dns_zone_map.specs.declared.former.Undoing.{Undoing}
 use Rattle.dns_zone_map.specs.Order.{list_of}
 use Rattle.dns_zone_map.specs.Sets.{in_sets, sets_or_none}
-use Rattle.dns_zone_map.specs.Tree.{in_entries, AreSets, AreEntries, IsTree, KeysApart, OwnsSame}
+use Rattle.dns_zone_map.specs.Tree.{in_entries, AreSets, IsTree, KeysApart, OwnsSame}
 use Rattle.dns_zone_map.specs.Insertion.{IsAdded}
 use Rattle.dns_zone_map.specs.Removal.{is_key}
 use Rattle.dns_zone_map.specs.Former.{former, restored, before_of, covers, ArePresent, CanUndo, IsMap, blanked, HasName, IsKeptIn, IsKept, IsSameUndoing}
@@ -383,6 +383,10 @@ map_swept origin after swept next count (Some u) same rest m = record {
 pub before_swept : (after swept : Entries) (is : Option Undoing) → IfSome is (λ (u : Undoing). swept ≡ after) → before_of is swept ≡ before_of is after
 before_swept after swept None rest = refl
 before_swept after swept (Some u) rest = ap (before_of (Some u)) rest
+
+pub on_err : {T E : Type 0} {P : Type 0} (r : Result T E) → P → OnErr r P
+on_err (Ok t) h = tt
+on_err (Err e) h = h
 
 -- where a name could not be kept, nothing was changed
 module _ (origin : List (List ℕ)) (es fs : Entries) (same : fs ≡ es) where

@@ -1,13 +1,12 @@
 -- Names get back what they owned before a change.
-use Rattle.std.proofs.Common.{◌≡◌, ℕ, zero, suc, ◌+◌, ◌<◌, ◌≤◌, Bool, true, false, List, [], ◌∷◌, ◌++◌, length, get_or, map, take, refl, sym, ap, ◌∙◌, subst, arith, if◌then◌else◌, Some, None, Vec, Global}
-use Rattle.std.specs.Prelude.{Option, cond}
+use Rattle.std.proofs.Common.{◌≡◌, ℕ, zero, suc, ◌<◌, ◌≤◌, Bool, true, false, List, [], ◌∷◌, ◌++◌, length, get_or, map, take, refl, sym, ap, ◌∙◌, arith, if◌then◌else◌, Some, None, Vec, Global}
+use Rattle.std.specs.Prelude.{cond}
 use Rattle.std.specs.List.{AllByRecursion}
 use Rattle.std.specs.Str.{bytes_eq}
 use Rattle.std.specs.Map.{lookup, set_value}
 use Rattle.std.proofs.lemmas.Map.Text.{is_eq-slice_cmp}
 use Rattle.dns_zone_map.specs.declared.sets.RecordSet.{RecordSet}
 use Rattle.dns_zone_map.specs.declared.former.FormerSets.{FormerSets}
-use Rattle.dns_zone_map.specs.Sets.{sets_or_none}
 use Rattle.dns_zone_map.specs.Tree.{KeysApart}
 use Rattle.dns_zone_map.specs.Removal.{is_key}
 use Rattle.dns_zone_map.specs.Former.{former, restored}

@@ -1,5 +1,5 @@
 -- What a look at the map of a zone says of its list.
-use Rattle.std.proofs.Common.{◌≡◌, ℕ, suc, ◌<◌, Bool, true, false, List, [], ◌∷◌, length, refl, sym, ap, ◌∙◌, subst, Vec, Global, Bor, eqb, None, Some, Result, Ok, Err, IfOk}
+use Rattle.std.proofs.Common.{◌≡◌, ℕ, suc, Bool, true, false, List, [], ◌∷◌, length, refl, sym, ap, ◌∙◌, subst, Vec, Global, Bor, eqb, Result, Ok, Err, IfOk}
 use Rattle.std.specs.Prelude.{Option, ◌&&◌, nat_lt, if◌then◌else◌}
 use Rattle.std.specs.Option.{option_copied}
 use Rattle.std.specs.List.{list_any, starts_with, AllByRecursion}

@@ -1,9 +1,7 @@
 -- From where changes of a map can be undone, and what it is when they are kept or undone.
-use Rattle.std.proofs.Common.{◌≡◌, ℕ, List, [], refl, sym, ap, ◌∙◌, subst, Some, None, Vec, Global, Result, Ok, Err, IfOk}
+use Rattle.std.proofs.Common.{◌≡◌, ℕ, List, [], sym, ap, ◌∙◌, subst, Some, None, Result, Ok, Err, IfOk}
 use Rattle.std.specs.Prelude.{Option, IfSome}
-use Rattle.std.specs.List.{AllByRecursion}
 use Rattle.dns_wire.specs.declared.record.Record.{Record}
-use Rattle.dns_zone_map.specs.declared.sets.RecordSet.{RecordSet}
 use Rattle.dns_zone_map.specs.declared.former.FormerSets.{FormerSets}
 use Rattle.dns_zone_map.specs.declared.former.Undoing.{Undoing}
 use Rattle.dns_zone_map.specs.Mapped.{Mapped, begun, kept, undone}

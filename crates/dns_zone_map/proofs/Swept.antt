@@ -1,11 +1,9 @@
 -- A name without sets is taken from the map.
-use Rattle.std.proofs.Common.{◌≡◌, ℕ, ◌<◌, Bool, true, false, List, [], ◌∷◌, ◌++◌, length, refl, sym, ap, ◌∙◌, subst, arith, Some, Vec, Global}
-use Rattle.std.specs.List.{AllByRecursion}
+use Rattle.std.proofs.Common.{◌≡◌, ℕ, ◌<◌, true, false, List, [], ◌∷◌, ◌++◌, length, refl, sym, ap, ◌∙◌, subst, arith, Some, Vec, Global}
 use Rattle.std.specs.Map.{lookup, remove_entry}
 use Rattle.std.proofs.lemmas.List.Concat.{flat_map-append}
-use Rattle.dns_wire.specs.declared.record.Record.{Record}
 use Rattle.dns_zone_map.specs.declared.sets.RecordSet.{RecordSet}
-use Rattle.dns_zone_map.specs.Order.{Numbered, list_of, AreBelow}
+use Rattle.dns_zone_map.specs.Order.{list_of, AreBelow}
 use Rattle.dns_zone_map.specs.Sets.{in_sets, are_some}
 use Rattle.dns_zone_map.specs.Tree.{in_entries, AreSets, AreEntries, IsTree, OwnsSame}
 use Rattle.dns_zone_map.specs.Removal.{is_key}

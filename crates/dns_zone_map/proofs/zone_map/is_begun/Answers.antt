@@ -1,8 +1,6 @@
-use Rattle.std.proofs.Common.{◌≡◌, ◌∙◌, sym, true, false}
-use Rattle.std.proofs.Common.{nat_eq as eqb}
-use Rattle.std.specs.List.{starts_with}
+use Rattle.std.proofs.Common.{◌∙◌, sym}
 use Rattle.dns_zone_map.specs.Sets.{are_some}
-use Rattle.dns_zone_map.proofs.Firsts.{begins_is, next_start, next_step, next_found, next_other, next_end}
+use Rattle.dns_zone_map.proofs.Firsts.{begins_is, next_start, next_step, next_other}
 use Rattle.dns_zone_map.proofs.zone_map.is_begun.Goals as goal
 
 pub loop-next-init : goal.loop-next-init

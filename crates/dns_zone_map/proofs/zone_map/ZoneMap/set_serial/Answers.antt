@@ -3,11 +3,11 @@ use Rattle.dns_zone_map.specs.Zone.{IsSoFar}
 use Rattle.dns_zone_map.specs.Mapped.{Mapped, contents}
 use Rattle.dns_zone_map.proofs.Reading.{rising_entries}
 use Rattle.dns_zone_map.proofs.SerialPut.{serial_list, serial_tree, serial_so_far}
-use Rattle.dns_zone_map.proofs.CanBeUndone.{tree_kept, seen_kept, seen_failed, map_changed, map_failed, before_changed}
+use Rattle.dns_zone_map.proofs.CanBeUndone.{on_err, tree_kept, seen_kept, seen_failed, map_changed, map_failed, before_changed}
 use Rattle.dns_zone_map.proofs.zone_map.ZoneMap.set_serial.Goals as goal
 
-pub invariant_of-self-in_err-keep_former : goal.invariant_of-self-in_err-keep_former
-invariant_of-self-in_err-keep_former c = map_failed c.self.inside.origin c.self.inside.names.entries c.keep_former.new.names.entries c.in_err-keep_former.ensures.err_names c.self.inside.undoing c.keep_former.new.undoing c.in_err-keep_former.ensures.err_undoing c.self.inside.next c.self.inside.count c.self.invariant
+pub invariant_of-self : goal.invariant_of-self
+invariant_of-self c = map_failed c.self.inside.origin c.self.inside.names.entries c.keep_former.new.names.entries c.in_err-keep_former.ensures.err_names c.self.inside.undoing c.keep_former.new.undoing c.in_err-keep_former.ensures.err_undoing c.self.inside.next c.self.inside.count c.self.invariant
 
 pub returns-in_err-keep_former-clause-before : goal.returns-in_err-keep_former-clause-before
 returns-in_err-keep_former-clause-before c = ap (λ z. z.before) (seen_failed c.self.inside.origin c.self.inside.names.entries c.keep_former.new.names.entries c.in_err-keep_former.ensures.err_names c.self.inside.undoing c.keep_former.new.undoing c.in_err-keep_former.ensures.err_undoing c.args.self.now c.self.view_is)
@@ -16,7 +16,7 @@ pub returns-in_err-keep_former-clause-so_far : goal.returns-in_err-keep_former-c
 returns-in_err-keep_former-clause-so_far c = subst (λ (m : Mapped). IsSoFar m.origin m.records) (sym (seen_failed c.self.inside.origin c.self.inside.names.entries c.keep_former.new.names.entries c.in_err-keep_former.ensures.err_names c.self.inside.undoing c.keep_former.new.undoing c.in_err-keep_former.ensures.err_undoing c.args.self.now c.self.view_is)) c.requires
 
 pub returns-in_err-keep_former-clause-err : goal.returns-in_err-keep_former-clause-err
-returns-in_err-keep_former-clause-err c = seen_failed c.self.inside.origin c.self.inside.names.entries c.keep_former.new.names.entries c.in_err-keep_former.ensures.err_names c.self.inside.undoing c.keep_former.new.undoing c.in_err-keep_former.ensures.err_undoing c.args.self.now c.self.view_is
+returns-in_err-keep_former-clause-err c = on_err _ (seen_failed c.self.inside.origin c.self.inside.names.entries c.keep_former.new.names.entries c.in_err-keep_former.ensures.err_names c.self.inside.undoing c.keep_former.new.undoing c.in_err-keep_former.ensures.err_undoing c.args.self.now c.self.view_is)
 
 pub set_serial_at-requires : goal.set_serial_at-requires
 set_serial_at-requires c = rising_entries c.self.inside.origin c.keep_former.new.names.entries (tree_kept c.self.inside.origin [] c.self.inside.names.entries c.keep_former.new.names.entries c.self.inside.next c.self.inside.count c.self.inside.undoing c.keep_former.new.undoing c.len-ordered.ensures.ordered c.self.invariant c.in_ok-keep_former.ensures.ok).each

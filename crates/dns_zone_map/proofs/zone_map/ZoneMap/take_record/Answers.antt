@@ -8,7 +8,7 @@ use Rattle.dns_zone_map.proofs.Reading.{paired_all, rising_entries}
 use Rattle.dns_zone_map.proofs.Swept.{swept_list}
 use Rattle.dns_zone_map.proofs.Deleted.{so_far_left}
 use Rattle.dns_zone_map.proofs.RecordTaken.{none_goes, outside_one, absent_one, absent_stays, record_left, record_few, record_tree, record_taken}
-use Rattle.dns_zone_map.proofs.CanBeUndone.{tree_kept, seen_kept, seen_failed, map_changed, map_same, map_failed, before_changed, map_swept, before_swept}
+use Rattle.dns_zone_map.proofs.CanBeUndone.{on_err, tree_kept, seen_kept, seen_failed, map_changed, map_same, map_failed, before_changed, map_swept, before_swept}
 use Rattle.dns_zone_map.proofs.zone_map.ZoneMap.take_record.Goals as goal
 
 pub returns-then-not-at_or_below-clause-records : goal.returns-then-not-at_or_below-clause-records
@@ -17,8 +17,8 @@ returns-then-not-at_or_below-clause-records c = none_goes c.args.one.now c.args.
 pub returns-then-not-at_or_below-clause-taken : goal.returns-then-not-at_or_below-clause-taken
 returns-then-not-at_or_below-clause-taken c = outside_one c.self.inside.origin c.args.one.now c.self.inside.names.entries c.self.inside.next c.self.inside.count (contents c.args.self.now) (ap contents c.self.view_is) c.self.invariant.tree (sym c.at_or_below.ensures.test ∙ c.if-not-at_or_below.true)
 
-pub invariant_of-self-in_err-keep_former : goal.invariant_of-self-in_err-keep_former
-invariant_of-self-in_err-keep_former c = map_failed c.self.inside.origin c.self.inside.names.entries c.keep_former.new.names.entries c.in_err-keep_former.ensures.err_names c.self.inside.undoing c.keep_former.new.undoing c.in_err-keep_former.ensures.err_undoing c.self.inside.next c.self.inside.count c.self.invariant
+pub invariant_of-self : goal.invariant_of-self
+invariant_of-self c = map_failed c.self.inside.origin c.self.inside.names.entries c.keep_former.new.names.entries c.in_err-keep_former.ensures.err_names c.self.inside.undoing c.keep_former.new.undoing c.in_err-keep_former.ensures.err_undoing c.self.inside.next c.self.inside.count c.self.invariant
 
 pub returns-in_err-keep_former-clause-before : goal.returns-in_err-keep_former-clause-before
 returns-in_err-keep_former-clause-before c = ap (λ z. z.before) (seen_failed c.self.inside.origin c.self.inside.names.entries c.keep_former.new.names.entries c.in_err-keep_former.ensures.err_names c.self.inside.undoing c.keep_former.new.undoing c.in_err-keep_former.ensures.err_undoing c.args.self.now c.self.view_is)
@@ -27,7 +27,7 @@ pub returns-in_err-keep_former-clause-so_far : goal.returns-in_err-keep_former-c
 returns-in_err-keep_former-clause-so_far c = subst (λ (m : Mapped). IsSoFar m.origin m.records) (sym (seen_failed c.self.inside.origin c.self.inside.names.entries c.keep_former.new.names.entries c.in_err-keep_former.ensures.err_names c.self.inside.undoing c.keep_former.new.undoing c.in_err-keep_former.ensures.err_undoing c.args.self.now c.self.view_is)) c.requires
 
 pub returns-in_err-keep_former-clause-err : goal.returns-in_err-keep_former-clause-err
-returns-in_err-keep_former-clause-err c = seen_failed c.self.inside.origin c.self.inside.names.entries c.keep_former.new.names.entries c.in_err-keep_former.ensures.err_names c.self.inside.undoing c.keep_former.new.undoing c.in_err-keep_former.ensures.err_undoing c.args.self.now c.self.view_is
+returns-in_err-keep_former-clause-err c = on_err _ (seen_failed c.self.inside.origin c.self.inside.names.entries c.keep_former.new.names.entries c.in_err-keep_former.ensures.err_names c.self.inside.undoing c.keep_former.new.undoing c.in_err-keep_former.ensures.err_undoing c.args.self.now c.self.view_is)
 
 pub one_from-requires-clause-rise : goal.one_from-requires-clause-rise
 one_from-requires-clause-rise c = rising_entries c.self.inside.origin c.keep_former.new.names.entries (tree_kept c.self.inside.origin c.behind-key.result.now c.self.inside.names.entries c.keep_former.new.names.entries c.self.inside.next c.self.inside.count c.self.inside.undoing c.keep_former.new.undoing c.len-ordered.ensures.ordered c.self.invariant c.in_ok-keep_former.ensures.ok).each

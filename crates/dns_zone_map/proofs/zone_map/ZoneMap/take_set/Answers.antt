@@ -1,23 +1,23 @@
-use Rattle.std.proofs.Common.{◌≡◌, ◌∙◌, ◌-◌, ◌≤◌, ap, subst, sym}
+use Rattle.std.proofs.Common.{◌∙◌, ◌-◌, ◌≤◌, ap, subst, sym}
 use Rattle.dns_zone_map.specs.Mapped.{contents}
 use Rattle.dns_zone_map.specs.Tree.{IsTree}
 use Rattle.dns_zone_map.proofs.Swept.{swept_list}
 use Rattle.dns_zone_map.proofs.Outside.{outside_at}
 use Rattle.dns_zone_map.proofs.Taken.{none_stays, rising_all, none_taken, list_after, fewer, tree_after}
-use Rattle.dns_zone_map.proofs.CanBeUndone.{tree_kept, seen_kept, seen_failed, map_changed, map_same, map_failed, before_changed, map_swept, before_swept}
+use Rattle.dns_zone_map.proofs.CanBeUndone.{on_err, tree_kept, seen_kept, seen_failed, map_changed, map_same, map_failed, before_changed, map_swept, before_swept}
 use Rattle.dns_zone_map.proofs.zone_map.ZoneMap.take_set.Goals as goal
 
 pub returns-then-not-at_or_below-clause-records : goal.returns-then-not-at_or_below-clause-records
 returns-then-not-at_or_below-clause-records c = none_stays (contents c.args.self.now) c.args.name.now c.args.rtype (outside_at c.self.inside.origin c.args.name.now c.args.rtype c.self.inside.names.entries (contents c.args.self.now) (ap contents c.self.view_is) (sym c.at_or_below.ensures.test ∙ c.if-not-at_or_below.true) c.self.invariant.tree.each)
 
-pub invariant_of-self-in_err-keep_former : goal.invariant_of-self-in_err-keep_former
-invariant_of-self-in_err-keep_former c = map_failed c.self.inside.origin c.self.inside.names.entries c.keep_former.new.names.entries c.in_err-keep_former.ensures.err_names c.self.inside.undoing c.keep_former.new.undoing c.in_err-keep_former.ensures.err_undoing c.self.inside.next c.self.inside.count c.self.invariant
+pub invariant_of-self : goal.invariant_of-self
+invariant_of-self c = map_failed c.self.inside.origin c.self.inside.names.entries c.keep_former.new.names.entries c.in_err-keep_former.ensures.err_names c.self.inside.undoing c.keep_former.new.undoing c.in_err-keep_former.ensures.err_undoing c.self.inside.next c.self.inside.count c.self.invariant
 
 pub returns-in_err-keep_former-clause-before : goal.returns-in_err-keep_former-clause-before
 returns-in_err-keep_former-clause-before c = ap (λ z. z.before) (seen_failed c.self.inside.origin c.self.inside.names.entries c.keep_former.new.names.entries c.in_err-keep_former.ensures.err_names c.self.inside.undoing c.keep_former.new.undoing c.in_err-keep_former.ensures.err_undoing c.args.self.now c.self.view_is)
 
 pub returns-in_err-keep_former-clause-err : goal.returns-in_err-keep_former-clause-err
-returns-in_err-keep_former-clause-err c = seen_failed c.self.inside.origin c.self.inside.names.entries c.keep_former.new.names.entries c.in_err-keep_former.ensures.err_names c.self.inside.undoing c.keep_former.new.undoing c.in_err-keep_former.ensures.err_undoing c.args.self.now c.self.view_is
+returns-in_err-keep_former-clause-err c = on_err _ (seen_failed c.self.inside.origin c.self.inside.names.entries c.keep_former.new.names.entries c.in_err-keep_former.ensures.err_names c.self.inside.undoing c.keep_former.new.undoing c.in_err-keep_former.ensures.err_undoing c.args.self.now c.self.view_is)
 
 pub take_from-requires : goal.take_from-requires
 take_from-requires c = rising_all c.self.inside.origin c.args.name.now c.args.rtype c.keep_former.new.names.entries c.self.inside.next c.self.inside.count (contents c.args.self.now) (seen_kept c.self.inside.origin c.behind-key.result.now c.self.inside.names.entries c.keep_former.new.names.entries c.self.inside.next c.self.inside.count c.self.inside.undoing c.keep_former.new.undoing c.len-ordered.ensures.ordered c.self.invariant c.in_ok-keep_former.ensures.ok c.args.self.now c.self.view_is) (tree_kept c.self.inside.origin c.behind-key.result.now c.self.inside.names.entries c.keep_former.new.names.entries c.self.inside.next c.self.inside.count c.self.inside.undoing c.keep_former.new.undoing c.len-ordered.ensures.ordered c.self.invariant c.in_ok-keep_former.ensures.ok) (sym c.at_or_below.ensures.test ∙ c.if-not-at_or_below.false) c.len-still_ordered.ensures.ordered
