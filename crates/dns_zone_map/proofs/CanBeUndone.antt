@@ -22,7 +22,7 @@ use Rattle.dns_zone_map.specs.Sets.{in_sets, sets_or_none}
 use Rattle.dns_zone_map.specs.Tree.{in_entries, AreSets, IsTree, KeysApart, OwnsSame}
 use Rattle.dns_zone_map.specs.Insertion.{IsAdded}
 use Rattle.dns_zone_map.specs.Removal.{is_key}
-use Rattle.dns_zone_map.specs.Former.{former, restored, before_of, covers, ArePresent, CanUndo, IsMap, blanked, HasName, IsKeptIn, IsKept, IsSameUndoing}
+use Rattle.dns_zone_map.specs.Former.{former, restored, before_of, covers, ArePresent, CanUndo, IsMap, blanked, HasName, KeptLast, IsKeptIn, IsKept, IsSameUndoing}
 use Rattle.dns_zone_map.specs.Zone.{Contents}
 use Rattle.dns_zone_map.specs.Mapped.{Mapped, contents}
 use Rattle.dns_zone_map.proofs.Lent.{all_to, apart_sorted}
@@ -217,7 +217,15 @@ any_here t (g ∷ front) back x h = or_second (t g) (list_any t (front ++ x ∷ 
 all_more : (P : FormerSets → Type 0) (fs : List FormerSets) (f : FormerSets) → AllByRecursion P fs → P f → AllByRecursion P (fs ++ f ∷ [])
 all_more P fs f h p = all_append P fs (f ∷ []) h (p, tt)
 
-module _ (es after : Entries) (was is : List FormerSets) (key : List ℕ) (apart : KeysApart es) (here : ArePresent was es) (k : IsKeptIn key es was after is) where
+-- a name whose sets may be changed
+record Opened (es after : Entries) (was is : List FormerSets) (key : List ℕ) : Type 0 where
+  covered : covers is key ≡ true
+  stands : list_any (λ (e : Entry). is_key key e.0) after ≡ true
+  owns : OwnsSame es after
+  before : OwnsSame (restored was es) (restored is after)
+  present : ArePresent is after
+
+module _ (es after : Entries) (was is : List FormerSets) (key : List ℕ) (apart : KeysApart es) (here : ArePresent was es) (k : KeptLast key es was after is) where
   in_after : HasName key es after → AllByRecursion (λ f. list_any (λ (e : Entry). is_key f.key.items e.0) after ≡ true) was × (list_any (λ (e : Entry). is_key k.last.key.items e.0) after ≡ true)
   in_after (inl h) = (
     subst (ArePresent was) (sym h.2) here,
@@ -245,26 +253,36 @@ module _ (es after : Entries) (was is : List FormerSets) (key : List ℕ) (apart
       let none : k.last.sets ≡ [] = k.sets ∙ ap sets_or_none h.0 in
       subst (λ (fs : List FormerSets). OwnsSame (restored was es) (restored fs after)) (sym k.more) (added_restored was k.last es after key k.keyed h.0 h.1 here none)
 
-  pub covered : covers is key ≡ true
-  covered = ap (λ (fs : List FormerSets). covers fs key) k.more ∙ covers_last was k.last key k.keyed
-
-  there_after : HasName key es after → list_any (λ (e : Entry). is_key key e.0) after ≡ true
-  there_after h = ap (λ (z : List ℕ). list_any (λ (e : Entry). is_key z e.0) after) (sym k.keyed) ∙ (in_after h).1
-
-  -- the name is there
-  pub kept_there : list_any (λ (e : Entry). is_key key e.0) after ≡ true
-  kept_there = there_after k.here
-
-  pub kept_owns : OwnsSame es after
-  kept_owns = owns k.here
-
-  pub kept_former : OwnsSame (restored was es) (restored is after)
-  kept_former = former_owns k.here
-
-  pub kept_present : ArePresent is after
-  kept_present =
+  opened_last : Opened es after was is key
+  opened_last =
       let p = in_after k.here in
-      subst (λ (fs : List FormerSets). ArePresent fs after) (sym k.more) (all_more (λ f. list_any (λ (e : Entry). is_key f.key.items e.0) after ≡ true) was k.last p.0 p.1)
+      record {
+        covered = ap (λ (fs : List FormerSets). covers fs key) k.more ∙ covers_last was k.last key k.keyed;
+        stands = ap (λ (z : List ℕ). list_any (λ (e : Entry). is_key z e.0) after) (sym k.keyed) ∙ p.1;
+        owns = owns k.here;
+        before = former_owns k.here;
+        present = subst (λ (fs : List FormerSets). ArePresent fs after) (sym k.more) (all_more (λ f. list_any (λ (e : Entry). is_key f.key.items e.0) after ≡ true) was k.last p.0 p.1);
+      }
+
+covers_if : (b : Bool) (f : FormerSets) (fs : List FormerSets) (key : List ℕ) (es : Entries) → bytes_eq f.key.items key ≡ b → (b || covers fs key) ≡ true → list_any (λ (e : Entry). is_key f.key.items e.0) es ≡ true → (covers fs key ≡ true → list_any (λ (e : Entry). is_key key e.0) es ≡ true)
+    → list_any (λ (e : Entry). is_key key e.0) es ≡ true
+covers_if true f fs key es t h p ih = subst (λ (z : List ℕ). list_any (λ (e : Entry). is_key z e.0) es ≡ true) ((bytes_eq-Decides f.key.items key).0 t) p
+covers_if false f fs key es t h p ih = ih h
+
+-- a name of which sets were kept is there
+covers_present : (fs : List FormerSets) (key : List ℕ) (es : Entries) → covers fs key ≡ true → ArePresent fs es → list_any (λ (e : Entry). is_key key e.0) es ≡ true
+covers_present [] key es h p = absurd cc
+covers_present (f ∷ fs) key es h p = covers_if (bytes_eq f.key.items key) f fs key es refl h p.0 (λ t. covers_present fs key es t p.1)
+
+opened : (es after : Entries) (was is : List FormerSets) (key : List ℕ) → KeysApart es → ArePresent was es → IsKeptIn key es was after is → Opened es after was is key
+opened es after was is key apart here (inl k) = opened_last es after was is key apart here k
+opened es after was is key apart here (inr k) = record {
+  covered = ap (λ (fs : List FormerSets). covers fs key) k.log ∙ k.covered;
+  stands = ap (list_any (λ (e : Entry). is_key key e.0)) k.same ∙ covers_present was key es k.covered here;
+  owns = swept_none es after k.same;
+  before = swept_none (restored was es) (restored is after) (ap (λ (fs : List FormerSets). restored fs after) k.log ∙ ap (restored was) k.same);
+  present = subst (λ (fs : List FormerSets). ArePresent fs after) (sym k.log) (subst (ArePresent was) (sym k.same) here);
+}
 
 -- what a change of that name leaves can be undone, back to what stood before
 module _ (origin : List (List ℕ)) (key : List ℕ) (es between after : Entries) (apart : KeysApart es) where
@@ -272,21 +290,21 @@ module _ (origin : List (List ℕ)) (key : List ℕ) (es between after : Entries
   still_before None is h k same = ap (λ (u : Option Undoing). before_of u after) k.1
   still_before (Some was) None h k same = absurd k
   still_before (Some was) (Some is) h k same =
-      let covers_it : covers is.formers.items key ≡ true = covered es between was.formers.items is.formers.items key apart h.present k.0 in
+      let covers_it : covers is.formers.items key ≡ true = (opened es between was.formers.items is.formers.items key apart h.present k.0).covered in
       let stays : restored is.formers.items after ≡ restored is.formers.items between =
       sym (restored_blanked is.formers.items key after covers_it) ∙ ap (restored is.formers.items) same ∙ restored_blanked is.formers.items key between covers_it in
-      ap (λ (gs : Entries). Some (list_of (in_entries gs))) stays ∙ ap (λ xs. Some (list_of xs)) (kept_former es between was.formers.items is.formers.items key apart h.present k.0).same
+      ap (λ (gs : Entries). Some (list_of (in_entries gs))) stays ∙ ap (λ xs. Some (list_of xs)) (opened es between was.formers.items is.formers.items key apart h.present k.0).before.same
 
   pub still_undo : (was is : Option Undoing) → IfSome was (CanUndo origin es) → IsKept key es was between is → IfSome is (λ (u : Undoing). blanked key after ≡ blanked key between) → IfSome is (CanUndo origin after)
   still_undo None is h k same = subst (λ (u : Option Undoing). IfSome u (CanUndo origin after)) (sym k.1) tt
   still_undo (Some was) None h k same = absurd k
   still_undo (Some was) (Some is) h k same =
-      let covers_it : covers is.formers.items key ≡ true = covered es between was.formers.items is.formers.items key apart h.present k.0 in
+      let covers_it : covers is.formers.items key ≡ true = (opened es between was.formers.items is.formers.items key apart h.present k.0).covered in
       let stays : restored is.formers.items after ≡ restored is.formers.items between =
       sym (restored_blanked is.formers.items key after covers_it) ∙ ap (restored is.formers.items) same ∙ restored_blanked is.formers.items key between covers_it in
-      let tree : IsTree origin (restored is.formers.items between) was.next was.count = swept_tree origin (restored was.formers.items es) (restored is.formers.items between) was.next was.count (kept_former es between was.formers.items is.formers.items key apart h.present k.0) h.tree in
+      let tree : IsTree origin (restored is.formers.items between) was.next was.count = swept_tree origin (restored was.formers.items es) (restored is.formers.items between) was.next was.count (opened es between was.formers.items is.formers.items key apart h.present k.0).before h.tree in
       record {
-        present = present_blanked is.formers.items key between after same (kept_present es between was.formers.items is.formers.items key apart h.present k.0);
+        present = present_blanked is.formers.items key between after same (opened es between was.formers.items is.formers.items key apart h.present k.0).present;
         tree = subst (λ (n : ℕ). IsTree origin (restored is.formers.items after) is.next n) (sym k.2) (subst (λ (n : ℕ). IsTree origin (restored is.formers.items after) n was.count) (sym k.1) (subst (λ (gs : Entries). IsTree origin gs was.next was.count) (sym stays) tree));
       }
 
@@ -294,7 +312,7 @@ module _ (origin : List (List ℕ)) (key : List ℕ) (es between after : Entries
   pub still_owns : (was is : Option Undoing) → IfSome was (CanUndo origin es) → IsKept key es was between is → OwnsSame es between
   still_owns None is h k = swept_none es between k.0
   still_owns (Some was) None h k = absurd k
-  still_owns (Some was) (Some is) h k = kept_owns es between was.formers.items is.formers.items key apart h.present k.0
+  still_owns (Some was) (Some is) h k = (opened es between was.formers.items is.formers.items key apart h.present k.0).owns
 
 abbrev pub mapped_of : List (List ℕ) → List Record → Option (List Record) → Mapped
 mapped_of origin records before = record { origin = origin; records = records; before = before }
@@ -346,7 +364,7 @@ module _ (origin : List (List ℕ)) (key : List ℕ) (es between : Entries) (nex
     where
       none_some : Some v ≡ None → ⊥
       none_some h = absurd cc
-  put_others after (Some u) (Some v) kept can others = others (is_found key between (kept_there es between u.formers.items v.formers.items key apart can.present kept.0))
+  put_others after (Some u) (Some v) kept can others = others (is_found key between (opened es between u.formers.items v.formers.items key apart can.present kept.0).stands)
 
   -- or changed where it is there, and otherwise added
   pub map_put : (after : Entries) (n m : ℕ) → (IsSome (lookup (is_key key) between) → blanked key after ≡ blanked key between) → IsTree origin after n m → IsMap origin after n m is

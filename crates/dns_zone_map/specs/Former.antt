@@ -55,12 +55,22 @@ abbrev pub HasName : List ℕ → List (Vec ℕ Global × List RecordSet) → Li
 HasName key before after = ((sets : List RecordSet) × (lookup (is_key key) before ≡ Some sets) × (after ≡ before)) ⊎ ((lookup (is_key key) before ≡ None) × IsAdded key [] before after)
 
 -- what the name with this key owns was kept last, and the map has the name
-pub record IsKeptIn (key : List ℕ) (before : List (Vec ℕ Global × List RecordSet)) (was : List FormerSets) (after : List (Vec ℕ Global × List RecordSet)) (is : List FormerSets) : Type 0 where
+pub record KeptLast (key : List ℕ) (before : List (Vec ℕ Global × List RecordSet)) (was : List FormerSets) (after : List (Vec ℕ Global × List RecordSet)) (is : List FormerSets) : Type 0 where
   pub last : FormerSets
   pub more : is ≡ was ++ last ∷ []
   pub keyed : last.key.items ≡ key
   pub sets : last.sets ≡ sets_or_none (lookup (is_key key) before)
   pub here : HasName key before after
+
+-- sets were kept of the name before, and nothing changes
+pub record KeptBefore (key : List ℕ) (before : List (Vec ℕ Global × List RecordSet)) (was : List FormerSets) (after : List (Vec ℕ Global × List RecordSet)) (is : List FormerSets) : Type 0 where
+  pub covered : covers was key ≡ true
+  pub same : after ≡ before
+  pub log : is ≡ was
+
+-- either of the two
+abbrev pub IsKeptIn : List ℕ → List (Vec ℕ Global × List RecordSet) → List FormerSets → List (Vec ℕ Global × List RecordSet) → List FormerSets → Type 0
+IsKeptIn key before was after is = KeptLast key before was after is ⊎ KeptBefore key before was after is
 
 -- what the name with this key owns was kept, where changes can be undone
 abbrev pub IsKept : List ℕ → List (Vec ℕ Global × List RecordSet) → Option Undoing → List (Vec ℕ Global × List RecordSet) → Option Undoing → Type 0

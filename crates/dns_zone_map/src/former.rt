@@ -1,12 +1,13 @@
 //! What names owned before a change of the map that may be undone.
 
 ghost use Rattle.std.specs.Prelude.{◌≡◌, ◌<◌, length, take, slice_index_or, IfOk, IfSome, OnOk, OnErr};
+ghost use Rattle.std.specs.Str.{bytes_eq};
 ghost use Rattle.std.specs.Map.{lookup, set_value};
 ghost use Rattle.dns_zone_map.specs.Sets.{sets_or_none};
 ghost use Rattle.dns_zone_map.specs.Removal.{is_key};
 ghost use Rattle.dns_zone_map.specs.declared.former.FormerSets.{FormerSets};
 ghost use Rattle.dns_zone_map.specs.Tree.{OwnsSame};
-ghost use Rattle.dns_zone_map.specs.Former.{restored, IsKept, IsKeptIn, IsSameUndoing, HasName};
+ghost use Rattle.dns_zone_map.specs.Former.{restored, covers, KeptLast, IsKept, IsKeptIn, IsSameUndoing, HasName};
 
 use crate::sets::OwnerSets;
 use crate::sweeping::{add_name, sweep_name};
@@ -31,8 +32,8 @@ pub(crate) struct Undoing {
     pub(crate) count: usize,
 }
 
-/// Keeps what the name with this key owns, where changes can be undone, so that its sets may be changed. Where memory runs out
-/// nothing was kept.
+/// Keeps what the name with this key owns, where changes can be undone and nothing was kept of it since then, so that its sets
+/// may be changed. Where memory runs out nothing was kept.
 pub(crate) fn keep_former(
     alloc: Global,
     names: &mut BTreeMap<Vec<u8>, OwnerSets>,
@@ -49,7 +50,7 @@ pub(crate) fn keep_former(
     }
 }
 
-/// Keeps what the name with this key owns, which the map then has, with no sets where it was not there.
+/// Keeps what the name with this key owns, unless something was kept of it before.
 fn keep_in(
     alloc: Global,
     names: &mut BTreeMap<Vec<u8>, OwnerSets>,
@@ -57,6 +58,42 @@ fn keep_in(
     key: &[u8],
 ) -> Result<(), OutOfMemory>
     ensures ok { OnOk result (IsKeptIn key.now names.old.entries formers.old.items names.new.entries formers.new.items) }
+    ensures err_names { OnErr result (names.new.entries ≡ names.old.entries) }
+    ensures err_formers { OnErr result (formers.new.items ≡ formers.old.items) }
+{
+    if is_kept(formers.as_slice(), key) {
+        return Ok(());
+    }
+    keep_last(alloc, names, formers, key)
+}
+
+/// Whether sets were kept of the name with this key.
+fn is_kept(formers: &[FormerSets], key: &[u8]) -> bool
+    ensures { result ≡ covers formers.now key.now }
+{
+    for former in formers {
+        if is_of(former, key) {
+            return true;
+        }
+    }
+    false
+}
+
+/// Whether these are the sets of the name with this key.
+fn is_of(former: &FormerSets, key: &[u8]) -> bool
+    ensures { result ≡ bytes_eq former.now.key.items key.now }
+{
+    former.key.as_slice() == key
+}
+
+/// Keeps what the name with this key owns, which the map then has, with no sets where it was not there.
+fn keep_last(
+    alloc: Global,
+    names: &mut BTreeMap<Vec<u8>, OwnerSets>,
+    formers: &mut Vec<FormerSets>,
+    key: &[u8],
+) -> Result<(), OutOfMemory>
+    ensures ok { OnOk result (KeptLast key.now names.old.entries formers.old.items names.new.entries formers.new.items) }
     ensures err_names { OnErr result (names.new.entries ≡ names.old.entries) }
     ensures err_formers { OnErr result (formers.new.items ≡ formers.old.items) }
 {
