@@ -177,13 +177,6 @@ module _ {X : Type 0} (key : List ℕ) (has : X → Bool) where
       and_none true b h = h
       and_none false b h = refl
 
-  -- one is found
-  pub next_found : (es next rest : List (Vec ℕ Global × X)) (e : Vec ℕ Global × X) → AreNext es next → next ≡ e ∷ rest → starts_with eqb e.0.items key ≡ true → has e.1 ≡ true → true ≡ list_any is_owner es
-  next_found es next rest e n is begun some =
-      let m : AreNext es (e ∷ rest) = subst (AreNext es) is n in
-      let here : is_owner e ≡ true = rw (begun, some) refl in
-      sym (ap (λ b. b || list_any is_owner rest) here) ∙ m.same
-
   none_owner : (es : List (Vec ℕ Global × X)) → list_any (λ e. starts_with eqb e.0.items key) es ≡ false → list_any is_owner es ≡ false
   none_owner [] h = refl
   none_owner (e ∷ es) h =

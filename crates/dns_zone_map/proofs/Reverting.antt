@@ -1,15 +1,14 @@
 -- From where changes of a map can be undone, and what it is when they are kept or undone.
-use Rattle.std.proofs.Common.{◌≡◌, ℕ, List, [], sym, ap, ◌∙◌, subst, Some, None, Result, Ok, Err, IfOk}
+use Rattle.std.proofs.Common.{◌≡◌, ℕ, List, [], sym, ap, ◌∙◌, subst, Some, None}
 use Rattle.std.specs.Prelude.{Option, IfSome}
-use Rattle.dns_wire.specs.declared.record.Record.{Record}
 use Rattle.dns_zone_map.specs.declared.former.FormerSets.{FormerSets}
 use Rattle.dns_zone_map.specs.declared.former.Undoing.{Undoing}
-use Rattle.dns_zone_map.specs.Mapped.{Mapped, begun, kept, undone}
+use Rattle.dns_zone_map.specs.Mapped.{Mapped, begun}
 use Rattle.dns_zone_map.specs.Order.{list_of}
 use Rattle.dns_zone_map.specs.Tree.{in_entries, IsTree, OwnsSame}
 use Rattle.dns_zone_map.specs.Former.{restored, before_of, ArePresent, CanUndo, IsMap}
 use Rattle.dns_zone_map.proofs.Rest.{Entries}
-use Rattle.dns_zone_map.proofs.Swept.{swept_list, swept_tree}
+use Rattle.dns_zone_map.proofs.Swept.{swept_tree}
 use Rattle.dns_zone_map.proofs.Formers.{all_given}
 use Rattle.dns_zone_map.proofs.CanBeUndone.{mapped_of}
 
@@ -36,26 +35,5 @@ module _ (origin : List (List ℕ)) (es : Entries) (next count : ℕ) (was : Opt
       let can : IfSome (Some u) (CanUndo origin es) = subst (λ (w : Option Undoing). IfSome w (CanUndo origin es)) at m.undo in
       record { tree = swept_tree origin back swept u.next u.count same (subst (λ (gs : Entries). IsTree origin gs u.next u.count) (sym is) can.tree); undo = tt }
 
-  module _ (zone : Mapped) (view : mapped_of origin (list_of (in_entries es)) (before_of was es) ≡ zone) where
-    pub begun_seen : (u : Undoing) → u.formers.items ≡ [] → mapped_of origin (list_of (in_entries es)) (before_of (Some u) es) ≡ begun zone
-    begun_seen u none = ap (λ (gs : Entries). mapped_of origin (list_of (in_entries es)) (Some (list_of (in_entries gs)))) (given_first u.formers.items none) ∙ ap begun view
-
-    pub kept_seen : (swept : Entries) → OwnsSame es swept → mapped_of origin (list_of (in_entries swept)) None ≡ kept zone
-    kept_seen swept same = ap (λ (rs : List Record). mapped_of origin rs None) (swept_list es swept same) ∙ ap kept view
-
-    pub undone_none : was ≡ None → mapped_of origin (list_of (in_entries es)) None ≡ undone zone
-    undone_none at = ap (λ (w : Option Undoing). undone (mapped_of origin (list_of (in_entries es)) (before_of w es))) (sym at) ∙ ap undone view
-
-    pub undone_seen : (u : Undoing) (back swept : Entries) → was ≡ Some u → back ≡ restored u.formers.items es → OwnsSame back swept → mapped_of origin (list_of (in_entries swept)) None ≡ undone zone
-    undone_seen u back swept at is same =
-        ap (λ (rs : List Record). mapped_of origin rs None) (swept_list back swept same) ∙ ap (λ (gs : Entries). mapped_of origin (list_of (in_entries gs)) None) is
-        ∙ ap (λ (w : Option Undoing). undone (mapped_of origin (list_of (in_entries es)) (before_of w es))) (sym at) ∙ ap undone view
-
--- a map of the same name and records whose changes cannot be undone
-pub is_kept : {E : Type 0} (zone : Mapped) (origin : List (List ℕ)) (records : List Record) (result : Result Mapped E) → origin ≡ zone.origin → records ≡ zone.records → IfOk result (λ m. m.origin ≡ origin) → IfOk result (λ m. m.records ≡ records) → IfOk result (λ m. m.before ≡ None)
-    → IfOk result (λ m. m ≡ kept zone)
-is_kept zone origin records (Err e) o r top all alone = tt
-is_kept zone origin records (Ok m) o r top all alone = same_mapped m (kept zone) (top ∙ o) (all ∙ r) alone
-  where
-    same_mapped : (a b : Mapped) → a.origin ≡ b.origin → a.records ≡ b.records → a.before ≡ b.before → a ≡ b
-    same_mapped a b o r e = ap (λ (x : List (List ℕ)). mapped_of x a.records a.before) o ∙ ap (λ (x : List Record). mapped_of b.origin x a.before) r ∙ ap (mapped_of b.origin b.records) e
+  pub begun_seen : (zone : Mapped) → mapped_of origin (list_of (in_entries es)) (before_of was es) ≡ zone → (u : Undoing) → u.formers.items ≡ [] → mapped_of origin (list_of (in_entries es)) (before_of (Some u) es) ≡ begun zone
+  begun_seen zone view u none = ap (λ (gs : Entries). mapped_of origin (list_of (in_entries es)) (Some (list_of (in_entries gs)))) (given_first u.formers.items none) ∙ ap begun view

@@ -20,7 +20,7 @@ use Rattle.dns_zone_map.specs.Sets.{TypesRise, in_set, in_sets, records_in, some
 use Rattle.dns_zone_map.specs.Tree.{in_entries, Belongs, IsSet, AreSets, AreEntries, IsTree, KeysApart}
 use Rattle.dns_zone_map.specs.Removal.{TakenFrom, HasNone, IsTakenFrom}
 use Rattle.dns_zone_map.proofs.Keyed.{same_keys}
-use Rattle.dns_zone_map.proofs.Lent.{plain_again, set_list, bytes_turned, all_to, numbered_all, filter_none, filter_all, some_filled, apart_sorted, lent_set}
+use Rattle.dns_zone_map.proofs.Lent.{plain_again, set_list, bytes_turned, all_to, numbered_all, filter_none, filter_all, apart_sorted, lent_set}
 use Rattle.dns_zone_map.proofs.Exists.{all_append}
 use Rattle.dns_zone_map.proofs.Rest.{Entries, Fails, FailsAt, all_front, all_back, sets_fail, entries_fail}
 use Rattle.dns_zone_map.proofs.Middle.{Middle, filtered_mid, list_taken}
@@ -244,9 +244,6 @@ module _ (origin name : List (List ℕ)) (rtype : ℕ) (es : Entries) (next coun
 
       pub list_after : list_of (in_entries fs) ≡ filter (λ r. not (is_in_set name rtype r)) zone.records
       list_after = out.list ∙ ap (filter (λ r. not (is_in_set name rtype r))) same_records
-
-      pub was_there : Some set.records ≡ some_of (set_of zone.records name rtype)
-      was_there = sym (ap (λ (rs : List Record). some_of (set_of rs name rtype)) (sym same_records) ∙ ap some_of out.records ∙ some_filled set.records out.some)
 
       pub fewer : length set.records ≤ count
       fewer = omega (arith, out.counted, tree.counted)
