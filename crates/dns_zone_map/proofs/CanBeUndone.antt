@@ -317,12 +317,8 @@ module _ (origin : List (List ℕ)) (key : List ℕ) (es between after : Entries
 abbrev pub mapped_of : List (List ℕ) → List Record → Option (List Record) → Mapped
 mapped_of origin records before = record { origin = origin; records = records; before = before }
 
-abbrev contents_of : List (List ℕ) → List Record → Contents
+abbrev pub contents_of : List (List ℕ) → List Record → Contents
 contents_of origin records = record { origin = origin; records = records }
-
-always : (P : Type 0) (undoing : Option Undoing) → P → IfSome undoing (λ u. P)
-always P None h = tt
-always P (Some u) h = h
 
 looked_if : (b : Bool) (e : Entry) (found : Option (List RecordSet)) (any : Bool) → (any ≡ true → IsSome found) → (b || any) ≡ true → IsSome (cond b (Some e.1) found)
 looked_if true e found any ih h = refl
@@ -333,7 +329,17 @@ is_found : (key : List ℕ) (es : Entries) → list_any (λ (g : Entry). is_key 
 is_found key [] h = absurd cc
 is_found key (e ∷ es) h = looked_if (is_key key e.0) e (lookup (is_key key) es) (list_any (λ (g : Entry). is_key key g.0) es) (is_found key es) h
 
--- a map of which a name was kept, before the name is changed, and after
+-- a map of which the name with this key was kept, and may be changed
+pub record MayChange (origin : List (List ℕ)) (key : List ℕ) (between : Entries) (next count : ℕ) (is : Option Undoing) (zone : Mapped) : Type 0 where
+  pub tree : IsTree origin between next count
+  pub seen : contents_of origin (list_of (in_entries between)) ≡ contents zone
+  -- the name was changed, or added where it was not there
+  pub changed : (after : Entries) (n m : ℕ) → (IsSome (lookup (is_key key) between) → blanked key after ≡ blanked key between) → IsTree origin after n m → IsMap origin after n m is
+  pub before : (after : Entries) → (IsSome (lookup (is_key key) between) → blanked key after ≡ blanked key between) → before_of is after ≡ zone.before
+  -- or nothing was
+  pub same : (after : Entries) → after ≡ between → IsMap origin after next count is
+  pub alike : (after : Entries) → after ≡ between → mapped_of origin (list_of (in_entries after)) (before_of is after) ≡ zone
+
 module _ (origin : List (List ℕ)) (key : List ℕ) (es between : Entries) (next count : ℕ) (was is : Option Undoing) (sorted : IsStrictlySortedBy (λ x y. slice_cmp nat_cmp x.items y.items) (keys_of es)) (tree : IsMap origin es next count was) (k : IsKept key es was between is) where
   apart : KeysApart es
   apart = apart_sorted es sorted
@@ -341,54 +347,36 @@ module _ (origin : List (List ℕ)) (key : List ℕ) (es between : Entries) (nex
   owns_kept : OwnsSame es between
   owns_kept = still_owns origin key es between es apart was is tree.undo k
 
-  pub tree_kept : IsTree origin between next count
-  tree_kept = swept_tree origin es between next count owns_kept tree.tree
-
-  abbrev AreOthers : Entries → Type 0
-  AreOthers after = IfSome is (λ (u : Undoing). blanked key after ≡ blanked key between)
-
-  map_after : (after : Entries) (n m : ℕ) → AreOthers after → IsTree origin after n m → IsMap origin after n m is
-  map_after after n m same t = record { tree = t; undo = still_undo origin key es between after apart was is tree.undo k same }
-
-  -- the name was changed
-  pub map_changed : (after : Entries) (n m : ℕ) → blanked key after ≡ blanked key between → IsTree origin after n m → IsMap origin after n m is
-  map_changed after n m same t = map_after after n m (always (blanked key after ≡ blanked key between) is same) t
-
-  -- or nothing was
-  pub map_same : (after : Entries) → after ≡ between → IsMap origin after next count is
-  map_same after same = map_changed after next count (ap (blanked key) same) (subst (λ (gs : Entries). IsTree origin gs next count) (sym same) tree_kept)
-
-  put_others : (after : Entries) (u v : Option Undoing) → IsKept key es u between v → IfSome u (CanUndo origin es) → (IsSome (lookup (is_key key) between) → blanked key after ≡ blanked key between) → IfSome v (λ (w : Undoing). blanked key after ≡ blanked key between)
-  put_others after u None kept can others = tt
-  put_others after None (Some v) kept can others = absurd (none_some kept.1)
+  others_if : (after : Entries) (u v : Option Undoing) → IsKept key es u between v → IfSome u (CanUndo origin es) → (IsSome (lookup (is_key key) between) → blanked key after ≡ blanked key between) → IfSome v (λ (w : Undoing). blanked key after ≡ blanked key between)
+  others_if after u None kept can others = tt
+  others_if after None (Some v) kept can others = absurd (none_some kept.1)
     where
       none_some : Some v ≡ None → ⊥
       none_some h = absurd cc
-  put_others after (Some u) (Some v) kept can others = others (is_found key between (opened es between u.formers.items v.formers.items key apart can.present kept.0).stands)
+  others_if after (Some u) (Some v) kept can others = others (is_found key between (opened es between u.formers.items v.formers.items key apart can.present kept.0).stands)
 
-  -- or changed where it is there, and otherwise added
-  pub map_put : (after : Entries) (n m : ℕ) → (IsSome (lookup (is_key key) between) → blanked key after ≡ blanked key between) → IsTree origin after n m → IsMap origin after n m is
-  map_put after n m others t = map_after after n m (put_others after was is k tree.undo others) t
+  undo_changed : (after : Entries) → (IsSome (lookup (is_key key) between) → blanked key after ≡ blanked key between) → IfSome is (CanUndo origin after)
+  undo_changed after others = still_undo origin key es between after apart was is tree.undo k (others_if after was is k tree.undo others)
 
-  module _ (zone : Mapped) (view : mapped_of origin (list_of (in_entries es)) (before_of was es) ≡ zone) where
-    pub seen_kept : contents_of origin (list_of (in_entries between)) ≡ contents zone
-    seen_kept = ap (contents_of origin) (swept_list es between owns_kept) ∙ ap contents view
+  before_changed : (after : Entries) → (IsSome (lookup (is_key key) between) → blanked key after ≡ blanked key between) → before_of is after ≡ before_of was es
+  before_changed after others = still_before origin key es between after apart was is tree.undo k (others_if after was is k tree.undo others)
 
-    before_after : (after : Entries) → AreOthers after → before_of is after ≡ zone.before
-    before_after after same = still_before origin key es between after apart was is tree.undo k same ∙ ap (λ z. z.before) view
+  tree_kept : IsTree origin between next count
+  tree_kept = swept_tree origin es between next count owns_kept tree.tree
 
-    pub before_changed : (after : Entries) → blanked key after ≡ blanked key between → before_of is after ≡ zone.before
-    before_changed after same = before_after after (always (blanked key after ≡ blanked key between) is same)
-
-    pub before_put : (after : Entries) → (IsSome (lookup (is_key key) between) → blanked key after ≡ blanked key between) → before_of is after ≡ zone.before
-    before_put after others = before_after after (put_others after was is k tree.undo others)
-
-    pub seen_same : (after : Entries) → after ≡ between → mapped_of origin (list_of (in_entries after)) (before_of is after) ≡ zone
-    seen_same after same =
+  pub may_change : (zone : Mapped) → mapped_of origin (list_of (in_entries es)) (before_of was es) ≡ zone → MayChange origin key between next count is zone
+  may_change zone view = record {
+    tree = tree_kept;
+    seen = ap (contents_of origin) (swept_list es between owns_kept) ∙ ap contents view;
+    changed = λ after n m others t. record { tree = t; undo = undo_changed after others };
+    before = λ after others. before_changed after others ∙ ap (λ z. z.before) view;
+    same = λ after same. record { tree = subst (λ (gs : Entries). IsTree origin gs next count) (sym same) tree_kept; undo = undo_changed after (λ there. ap (blanked key) same) };
+    alike = λ after same.
         ap (λ (gs : Entries). mapped_of origin (list_of (in_entries gs)) (before_of is after)) same
         ∙ ap (λ (rs : List Record). mapped_of origin rs (before_of is after)) (swept_list es between owns_kept)
-        ∙ ap (mapped_of origin (list_of (in_entries es))) (still_before origin key es between after apart was is tree.undo k (always (blanked key after ≡ blanked key between) is (ap (blanked key) same)))
-        ∙ view
+        ∙ ap (mapped_of origin (list_of (in_entries es))) (before_changed after (λ there. ap (blanked key) same))
+        ∙ view;
+  }
 
 -- names without sets were taken away, unless changes can be undone
 pub map_swept : (origin : List (List ℕ)) (after swept : Entries) (next count : ℕ) (is : Option Undoing) → OwnsSame after swept → IfSome is (λ (u : Undoing). swept ≡ after) → IsMap origin after next count is → IsMap origin swept next count is
