@@ -4,7 +4,6 @@ use Rattle.std.specs.Prelude.{cond, ◌||◌}
 use Rattle.std.specs.List.{AllByRecursion}
 use Rattle.std.specs.Str.{bytes_eq}
 use Rattle.std.specs.Map.{lookup, set_value}
-use Rattle.std.proofs.lemmas.List.{drop_more}
 use Rattle.std.proofs.lemmas.Map.Text.{is_eq-slice_cmp}
 use Rattle.dns_zone_map.specs.declared.sets.RecordSet.{RecordSet}
 use Rattle.dns_zone_map.specs.declared.former.FormerSets.{FormerSets}
@@ -92,13 +91,3 @@ absent_if false key e es sets h ih = ap (λ (xs : Entries). e ∷ xs) (ih h)
 pub not_written : (key : List ℕ) (es : Entries) (sets : List RecordSet) → lookup (is_key key) es ≡ None → set_value (is_key key) es sets ≡ es
 not_written key [] sets h = refl
 not_written key (e ∷ es) sets h = absent_if (is_key key e.0) key e es sets h (not_written key es sets)
-
--- the next of what was kept
-covers_next : (fs : List FormerSets) (i : ℕ) (f : FormerSets) (key : List ℕ) → i < length fs → f ≡ get_or fs i f → covers (drop i fs) key ≡ (bytes_eq f.key.items key || covers (drop (i + 1) fs) key)
-covers_next fs i f key within at = ap (λ (gs : List FormerSets). covers gs key) (drop_more fs i f within ∙ ap (λ (g : FormerSets). g ∷ drop (i + 1) fs) (sym at))
-
-pub kept_here : (fs : List FormerSets) (i : ℕ) (f : FormerSets) (key : List ℕ) → i < length fs → f ≡ get_or fs i f → bytes_eq f.key.items key ≡ true → covers (drop i fs) key ≡ true
-kept_here fs i f key within at t = covers_next fs i f key within at ∙ ap (λ b. b || covers (drop (i + 1) fs) key) t
-
-pub kept_further : (fs : List FormerSets) (i : ℕ) (f : FormerSets) (key : List ℕ) → i < length fs → f ≡ get_or fs i f → bytes_eq f.key.items key ≡ false → covers (drop (i + 1) fs) key ≡ covers (drop i fs) key
-kept_further fs i f key within at t = sym (covers_next fs i f key within at ∙ ap (λ b. b || covers (drop (i + 1) fs) key) t)

@@ -1,6 +1,6 @@
 //! What names owned before a change of the map that may be undone.
 
-ghost use Rattle.std.specs.Prelude.{◌≡◌, ◌<◌, length, take, slice_index_or, IfOk, IfSome, OnOk, OnErr};
+ghost use Rattle.std.specs.Prelude.{◌≡◌, true, ◌<◌, length, take, slice_index_or, IfOk, IfSome, OnOk, OnErr};
 ghost use Rattle.std.specs.Str.{bytes_eq};
 ghost use Rattle.std.specs.Map.{lookup, set_value};
 ghost use Rattle.dns_zone_map.specs.Sets.{sets_or_none};
@@ -61,22 +61,22 @@ fn keep_in(
     ensures err_names { OnErr result (names.new.entries ≡ names.old.entries) }
     ensures err_formers { OnErr result (formers.new.items ≡ formers.old.items) }
 {
-    if is_kept(formers.as_slice(), key) {
+    if is_kept_last(formers.as_slice(), key) {
         return Ok(());
     }
     keep_last(alloc, names, formers, key)
 }
 
-/// Whether sets were kept of the name with this key.
-fn is_kept(formers: &[FormerSets], key: &[u8]) -> bool
-    ensures { result ≡ covers formers.now key.now }
+/// Whether sets were kept last of the name with this key. So a name that is changed again and again is kept once, and none is
+/// sought among all.
+fn is_kept_last(formers: &[FormerSets], key: &[u8]) -> bool
+    ensures { result ≡ true → covers formers.now key.now ≡ true }
 {
-    for former in formers {
-        if is_of(former, key) {
-            return true;
-        }
+    let count = formers.len();
+    if count == 0 {
+        return false;
     }
-    false
+    is_of(&formers[count - 1], key)
 }
 
 /// Whether these are the sets of the name with this key.
