@@ -1,6 +1,6 @@
 -- What a crash may leave of a keeper's rows: lists of rows, each of which may be what is read back afterwards. A keeper that does
 -- not tell it lets none be left, and then nothing is said of them.
-use Rattle.std.specs.Prelude.{◌≡◌, ◌⊎◌, ℕ, List, Option, Some, None}
+use Rattle.std.specs.Prelude.{◌≡◌, ◌⊎◌, ◌<◌, ℕ, List, length, Option, Some, None}
 use Rattle.dns_wire.specs.declared.record.Record.{Record}
 use Rattle.dns_keeper.specs.declared.row.Row.{Row}
 use Rattle.dns_keeper.specs.Keeping.{HasBatch}
@@ -18,7 +18,7 @@ LeavesTold told left = (rows : List Row) → left rows → told ≡ Some rows
 abbrev pub LeavesNoOther : (List Row → Type 0) → (List Row → Type 0) → Type 0
 LeavesNoOther before now = (rows : List Row) → now rows → before rows
 
--- nothing may be left but what might be left before, or the told rows of before with a whole batch
+-- nothing may be left but what might be left before or, where there are records, the told rows of before with the whole batch
 abbrev pub LeavesWhole : Option (List Row) → ℕ → ℕ → ℕ → List Record → (List Row → Type 0) → (List Row → Type 0) → Type 0
 LeavesWhole told client serial moment records before now =
-    (rows : List Row) → now rows → before rows ⊎ IsGrownFrom told client serial moment records rows
+    (rows : List Row) → now rows → before rows ⊎ ((0 < length records) × IsGrownFrom told client serial moment records rows)

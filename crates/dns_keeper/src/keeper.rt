@@ -1,6 +1,6 @@
 //! What keeps the rows of a journal.
 
-ghost use Rattle.std.specs.Prelude.{◌≡◌, ◌<◌, ◌^◌, neg_ℤ, pos, ℕ, List, [], length, Option, OnOk, OnErr, IfOk, IsErrOf};
+ghost use Rattle.std.specs.Prelude.{◌≡◌, ◌<◌, ◌^◌, neg_ℤ, pos, ℕ, List, length, Option, OnOk, OnErr, IfOk, IsErrOf};
 ghost use Rattle.dns_wire.specs.WireFormat.{AreShort};
 ghost use Rattle.dns_keeper.specs.declared.keeper.KeepFault.TheVariants.{OutOfMemory as NoMemory};
 
@@ -79,7 +79,6 @@ pub trait Keeper {
         ensures ascending { TellsAscending (rows self.new) }
         ensures alone { 0 < length records.now → OnOk result (LeavesTold (rows self.new) (may_leave self.new)) }
         ensures left { LeavesWhole (rows self.old) client serial moment records.now (may_leave self.old) (may_leave self.new) }
-        ensures same { records.now ≡ [] → LeavesNoOther (may_leave self.old) (may_leave self.new) }
         ensures cause { HasCause (faults self.old) (faults self.new) result }
         ensures uncounted { IsErrOf result KeepFault.OutOfMemory → faults self.new ≡ faults self.old };
 
