@@ -1,4 +1,4 @@
--- An update of a zone that is made ready, and what it makes of the zone (RFC 2136 3.4.2, 3.6).
+-- The batch of an update, and what it makes of the zone and of the rows of its journal (RFC 2136 3.4.2, 3.6).
 use Rattle.std.specs.Prelude.{◌≡◌, ◌⊎◌, ℕ, ◌<◌, List, length, Option}
 use Rattle.dns_wire.specs.declared.record.Record.{Record}
 use Rattle.dns_keeper.specs.declared.row.Row.{Row}
