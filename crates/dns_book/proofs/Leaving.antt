@@ -1,13 +1,8 @@
 -- What a crash may leave of the rows of a book whose message was settled.
-use Rattle.std.proofs.Common.{◌≡◌, ℕ, ◌<◌, List, length, Option, Some, None, Bool, true, false, Result, Ok, Err, inl, inr, refl, sym, ap, ◌∙◌, subst, arith}
+use Rattle.std.proofs.Common.{◌≡◌, ℕ, List, Option, Some, None, Bool, true, false, Result, Ok, Err, inl, inr, sym, ap, ◌∙◌, subst, arith}
 use Rattle.std.specs.Prelude.{IfOk, OnErr}
-use Rattle.dns_io.specs.Edge.{Keeps}
 use Rattle.dns_wire.specs.declared.record.Record.{Record}
 use Rattle.dns_keeper.specs.declared.row.Row.{Row}
-use Rattle.dns_keeper.specs.Keeping.{HasBatch}
-use Rattle.dns_keeper.specs.Crash.{IsGrownFrom, LeavesNoOther}
-use Rattle.dns_zone_map.specs.Zone.{Contents, serial_of}
-use Rattle.dns_update.specs.Replay.{opening_of}
 use Rattle.dns_book.specs.declared.ask.Ask.{Ask}
 use Rattle.dns_book.specs.declared.ask.Receipt.{Receipt}
 use Rattle.dns_book.specs.declared.ask.Settled.{Settled}
@@ -18,8 +13,8 @@ use Rattle.dns_book.specs.Cases.{Decides}
 use Rattle.dns_book.specs.Owed.{batch_by}
 use Rattle.dns_book.specs.Book.{SeenOf, IsKept, Ends, idle, journalled, failed, Settles}
 use Rattle.dns_book.specs.Outcome.{batch_in, updates_in, IsOutcome, CarriesOut}
-use Rattle.dns_book.specs.Crash.{LeavesBatch, LeavesBy, LeavesSettled, SettlesLeaving, LeavesUnsettled, refused, LeavesUnopened}
-use Rattle.dns_book.proofs.Carried.{Settles-carried, Settles-silent}
+use Rattle.dns_book.specs.Crash.{LeavesBatch, LeavesBy, LeavesSettled, SettlesLeaving, LeavesUnsettled, refused}
+use Rattle.dns_book.proofs.Carried.{Settles-carried, carried_by, Settles-silent}
 
 -- nothing was done, and nothing more may be left
 left_silent : {K : Type 0} (rows : K → Option (List Row)) (left : K → List Row → Type 0) (book : SeenOf K) (ask : Ask) (batch : List Record) (fails : Bool) (receipt : Option Receipt)
@@ -48,18 +43,14 @@ leaving rows faults left access before ask settled after batch is e by = record 
       (subst (λ (b : List Record). LeavesBy rows left before ask b settled.receipt after) e by);
 }
 
--- the decision by which a message was settled
+-- the outcome of a message was carried out
 module _ {K : Type 0} (rows : K → Option (List Row)) (faults : K → ℕ) (left : K → List Row → Type 0) (access : Access) (before : SeenOf K) (ask : Ask) (found : Option Decision) (d : Decision) (outcome : Outcome) (settled : Settled) (after : SeenOf K)
     (stood : IsKept rows before) (kept : IsKept rows after) (decided : Decides before.zone access ask found) (is : found ≡ Some d) (come : IsOutcome before.zone before.allow_update ask.protocol d outcome)
     (done : CarriesOut rows faults before ask outcome settled after) where
-  decision_is : (Settles-carried rows faults access before ask found d outcome settled after stood kept decided is come done).reply.decision ≡ Some d
-  unfolding Settles-carried
-  decision_is = refl
-
   pub SettlesLeaving-carried : LeavesBy rows left before ask (batch_in before.zone (updates_in outcome.change)) settled.receipt after → SettlesLeaving rows faults left access before ask settled after
   SettlesLeaving-carried by =
       leaving rows faults left access before ask settled after (batch_in before.zone (updates_in outcome.change)) (Settles-carried rows faults access before ask found d outcome settled after stood kept decided is come done)
-      (come.batch ∙ ap (batch_by before.zone before.allow_update) (sym decision_is)) by
+      (come.batch ∙ ap (batch_by before.zone before.allow_update) (sym (carried_by rows faults access before ask found d outcome settled after stood kept decided is come done))) by
 
 pub SettlesLeaving-silent : {K : Type 0} (rows : K → Option (List Row)) (faults : K → ℕ) (left : K → List Row → Type 0) (access : Access) (book : SeenOf K) (ask : Ask) (found : Option Decision) (settled : Settled)
     → IsKept rows book → Decides book.zone access ask found → found ≡ None → settled ≡ record { reply = None; length = book.row_count; receipt = None } → SettlesLeaving rows faults left access book ask settled book
@@ -83,25 +74,3 @@ both_ok (Err e) P Q R step p q = tt
 pub on_err : {T E : Type 0} (result : Result T E) (P Q : Type 0) → (P → Q) → OnErr result P → OnErr result Q
 on_err (Ok t) P Q step p = tt
 on_err (Err e) P Q step p = step p
-
--- ---- of a journal that is opened
-
--- rows that grew from those of a keeper which was only looked at grew from those before
-grown_since : (told between : Option (List Row)) (client serial moment : ℕ) (records : List Record) (some : List Row) → Keeps told between → IsGrownFrom between client serial moment records some
-    → IsGrownFrom told client serial moment records some
-grown_since told None client serial moment records some kept grown = absurd grown
-grown_since None (Some middle) client serial moment records some kept grown = absurd kept
-grown_since (Some old) (Some middle) client serial moment records some kept grown = subst (λ (l : List Row). HasBatch l client serial moment records some) kept grown
-
-pub unopened_since : (told between : Option (List Row)) (given : Option Contents) (moment : ℕ) (first before now : List Row → Type 0) → Keeps told between → LeavesNoOther first before
-    → LeavesUnopened between given moment before now → LeavesUnopened told given moment first now
-unopened_since told between None moment first before now kept no more = λ some left. no some (more some left)
-unopened_since told between (Some zone) moment first before now kept no more = λ some left. elim (more some left) [
-  | inl was ↦ inl (no some was)
-  | inr grown ↦ inr (grown.0, grown_since told between 0 (serial_of zone.records) moment (opening_of zone) some kept grown.1)
-]
-
--- a keeper that was only looked at
-pub unopened_same : (told : Option (List Row)) (given : Option Contents) (moment : ℕ) (before now : List Row → Type 0) → LeavesNoOther before now → LeavesUnopened told given moment before now
-unopened_same told None moment before now no = no
-unopened_same told (Some zone) moment before now no = λ some left. inl (no some left)
