@@ -1,6 +1,7 @@
 pub mod Opened
 pub mod Growing
 pub mod Leaving
+pub mod LeavingOn
 pub mod Codes
 pub mod Carried
 pub mod Failing

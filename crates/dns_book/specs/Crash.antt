@@ -1,13 +1,14 @@
 -- What a crash may leave of the rows of a book, where its keeper tells it. In what follows `left` says which rows a crash may leave
 -- of a keeper.
-use Rattle.std.specs.Prelude.{◌⊎◌, ℕ, List, Option, Some, None, Bool, true, false, Result, Ok, Err}
+use Rattle.std.specs.Prelude.{◌≡◌, ◌⊎◌, ◌++◌, ℕ, ℤ, List, Option, Some, None, Bool, true, false, Result, Ok, Err}
+use Rattle.std.specs.List.{AllByRecursion}
 use Rattle.dns_wire.specs.declared.record.Record.{Record}
 use Rattle.dns_keeper.specs.declared.row.Row.{Row}
 use Rattle.dns_keeper.specs.declared.keeper.KeepFault.{KeepFault}
 use Rattle.dns_keeper.specs.Crash.{LeavesTold, LeavesNoOther, LeavesWhole}
 use Rattle.dns_zone_map.specs.Zone.{Contents, serial_of}
 use Rattle.dns_update.specs.Change.{serial_after_batch}
-use Rattle.dns_update.specs.Replay.{opening_of}
+use Rattle.dns_update.specs.Replay.{opening_of, Replays}
 use Rattle.dns_book.specs.declared.ask.Ask.{Ask}
 use Rattle.dns_book.specs.declared.ask.Receipt.{Receipt}
 use Rattle.dns_book.specs.declared.ask.Settled.{Settled}
@@ -62,3 +63,18 @@ LeavesOpening told zone moment before now = LeavesWhole told 0 (serial_of zone.r
 abbrev pub LeavesUnopened : Option (List Row) → Option Contents → ℕ → (List Row → Type 0) → (List Row → Type 0) → Type 0
 LeavesUnopened told None moment before now = LeavesNoOther before now
 LeavesUnopened told (Some zone) moment before now = LeavesOpening told zone moment before now
+
+-- rows that may be left begin with those of the journal, stand for a zone of this origin, and go on past them by nothing or by rows
+-- of one client and one serial
+pub record GoesOn (origin : List (List ℕ)) (told some : List Row) : Type 0 where
+  pub rest : List Row
+  pub begins : some ≡ told ++ rest
+  pub client : ℤ
+  pub serial : ℤ
+  pub one : AllByRecursion (λ row. (row.client ≡ client) × (row.serial ≡ serial)) rest
+  pub records : List Record
+  pub replays : Replays origin some (Ok records)
+
+-- so do all rows that a crash may leave of a book, where its keeper tells the rows that it has
+abbrev pub LeavesOn : {K : Type 0} → (K → Option (List Row)) → (K → List Row → Type 0) → SeenOf K → Type 0
+LeavesOn rows left book = (told some : List Row) → rows book.keeper ≡ Some told → left book.keeper some → GoesOn book.zone.origin told some

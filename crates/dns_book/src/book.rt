@@ -3,7 +3,7 @@
 ghost use Rattle.std.specs.Prelude.{◌≡◌, ◌≤◌, ◌<◌, ◌^◌, length, IfOk, OnOk, OnErr, None};
 ghost use Rattle.dns_zone_map.specs.Zone.{serial_of};
 ghost use Rattle.dns_book.specs.Book.{IsKept, Settles, IsLeft};
-ghost use Rattle.dns_book.specs.Crash.{SettlesLeaving, LeavesUnsettled};
+ghost use Rattle.dns_book.specs.Crash.{SettlesLeaving, LeavesUnsettled, LeavesOn};
 
 use crate::access::AccessControl;
 use crate::ask::{Ask, Settled};
@@ -52,6 +52,7 @@ impl<K: Keeper> Book<K> {
         ensures err { OnErr result (IsLeft K.rows K.faults self.old self.new) }
         ensures left { IfOk result (λ settled. SettlesLeaving K.rows K.faults K.may_leave access.now self.old ask.now settled self.new) }
         ensures left_unsettled { OnErr result (LeavesUnsettled K.rows K.may_leave access.now self.old ask.now self.new) }
+        ensures left_on { LeavesOn K.rows K.may_leave self.old → LeavesOn K.rows K.may_leave self.new }
     {
         let Some(decision) = decide(self.alloc, &self.zone, access, ask)? else {
             return Ok(self.unanswered());

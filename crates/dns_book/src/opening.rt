@@ -4,7 +4,7 @@ ghost use Rattle.std.specs.Prelude.{◌≡◌, ◌≤◌, ◌<◌, ◌^◌, IfOk
 ghost use Rattle.dns_io.specs.Edge.{Keeps};
 ghost use Rattle.dns_name.specs.Name.{fold_of};
 ghost use Rattle.dns_keeper.specs.Crash.{LeavesTold, LeavesNoOther};
-ghost use Rattle.dns_book.specs.Crash.{LeavesOpened, LeavesOpening, LeavesUnopened};
+ghost use Rattle.dns_book.specs.Crash.{LeavesOpened, LeavesOpening, LeavesUnopened, LeavesOn};
 ghost use Rattle.dns_book.specs.Opening.{HadNoRow, Begins, BeginsNot, BeginsNotWith, Recovers, RecoversNot, Opens, OpensNot, faults_of, faults_begun};
 
 use crate::book::Book;
@@ -55,7 +55,8 @@ pub struct BeginFault<K> {
 impl<K: Keeper> Book<K> {
     /// Opens a journal. One with rows is read back (`Book::recover`), and the zone is not used; one without rows is begun
     /// with the zone at this moment (`Book::begin`; milliseconds, below 2^47). `allow_update` says whether updates are let
-    /// in (RFC 2136 3.3). A refusal leaves the rows as before.
+    /// in (RFC 2136 3.3). A refusal leaves the rows as before. Where a crash might leave just the rows before, what it may leave
+    /// from now on goes on past the rows by one batch at most.
     pub fn open(
         alloc: Global,
         mut keeper: K,
@@ -71,6 +72,7 @@ impl<K: Keeper> Book<K> {
         ensures kept { IfErr result (λ f. Keeps (K.rows keeper) (K.rows f.keeper)) }
         ensures left { IfOk result (λ book. LeavesOpened (K.may_leave keeper) (K.rows book.keeper) (K.may_leave book.keeper)) }
         ensures left_unopened { IfErr result (λ f. LeavesUnopened (K.rows keeper) zone moment (K.may_leave keeper) (K.may_leave f.keeper)) }
+        ensures left_on { LeavesTold (K.rows keeper) (K.may_leave keeper) → IfOk result (LeavesOn K.rows K.may_leave) }
         ensures later { K.faults keeper ≤ faults_of K.faults result }
     {
         match keeper.row_from(i64::MIN) {

@@ -3,7 +3,7 @@
 ghost use Rattle.std.specs.Prelude.{◌≡◌, ◌<◌, ◌^◌, IfOk, OnErr, None, Some};
 ghost use Rattle.dns_counts.specs.Counters.{recorded, changed};
 ghost use Rattle.dns_book.specs.Book.{IsKept, IsLeft};
-ghost use Rattle.dns_book.specs.Crash.{LeavesBatch, LeavesBy, receipt_in};
+ghost use Rattle.dns_book.specs.Crash.{LeavesBatch, LeavesBy, LeavesOn, receipt_in};
 ghost use Rattle.dns_book.specs.Outcome.{IsPassing, ArePassing, batch_in, updates_in, Journals, CarriesOut};
 ghost use Rattle.dns_update.specs.Change.{batch_of};
 
@@ -28,6 +28,7 @@ impl<K: Keeper> Book<K> {
         ensures err { OnErr result (IsLeft K.rows K.faults self.old self.new) }
         ensures left { IfOk result (λ settled. LeavesBy K.rows K.may_leave self.old ask.now (batch_in self.old.zone (updates_in outcome.change)) settled.receipt self.new) }
         ensures left_unsettled { OnErr result (LeavesBatch K.rows K.may_leave self.old ask.now (batch_in self.old.zone (updates_in outcome.change)) self.new) }
+        ensures left_on { LeavesOn K.rows K.may_leave self.old → LeavesOn K.rows K.may_leave self.new }
     {
         let Outcome {
             asked,
@@ -53,6 +54,7 @@ impl<K: Keeper> Book<K> {
         ensures is { Journals K.rows K.faults self.old ask.now (batch_of self.old.zone.origin self.old.zone.records updates.now) result self.new }
         ensures kept { IsKept K.rows self.new }
         ensures left { LeavesBy K.rows K.may_leave self.old ask.now (batch_of self.old.zone.origin self.old.zone.records updates.now) (receipt_in result) self.new }
+        ensures left_on { LeavesOn K.rows K.may_leave self.old → LeavesOn K.rows K.may_leave self.new }
     {
         replays();
         batches();

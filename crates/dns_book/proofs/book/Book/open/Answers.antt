@@ -2,8 +2,11 @@ use Rattle.std.proofs.Common.{refl, inl, inr}
 use Rattle.std.specs.Prelude.{IsSomeAnd}
 use Rattle.dns_keeper.specs.Crash.{LeavesTold, LeavesNoOther}
 use Rattle.dns_book.specs.Opening.{Begins, Recovers, Opens}
-use Rattle.dns_book.specs.Crash.{LeavesOpened}
+use Rattle.dns_book.specs.Crash.{LeavesOpened, LeavesOn}
 use Rattle.dns_book.proofs.Opened.{on_ok, opens_begun, opens_recovered}
+use Rattle.dns_book.proofs.ReadRows.{kept_on}
+use Rattle.dns_book.proofs.Leaving.{both_ok}
+use Rattle.dns_book.proofs.LeavingOn.{on_begun, on_recovered}
 use Rattle.dns_book.proofs.book.Book.open.Goals as goal
 
 pub returns-in-Ok-None-clause-ok : goal.returns-in-Ok-None-clause-ok
@@ -31,3 +34,19 @@ returns-in-Ok-Some-clause-left g c =
     on_ok (λ book. LeavesNoOther (g.K.Keeper.may_leave c.row_from.new.self) (g.K.Keeper.may_leave book.keeper))
     (λ book. LeavesOpened (g.K.Keeper.may_leave c.args.keeper) (g.K.Keeper.rows book.keeper) (g.K.Keeper.may_leave book.keeper)) c.recover.result
     (λ book no. inr (λ some left. c.row_from.ensures.left some (no some left))) c.recover.ensures.left
+
+pub returns-in-Ok-None-clause-left_on : goal.returns-in-Ok-None-clause-left_on
+returns-in-Ok-None-clause-left_on g c alone =
+    both_ok c.begin_with.result (λ book. IsSomeAnd c.args.zone (λ z. Begins (g.K.Keeper.rows c.row_from.new.self) g.K.Keeper.rows z c.args.allow_update c.args.moment book))
+    (λ book. LeavesTold (g.K.Keeper.rows book.keeper) (g.K.Keeper.may_leave book.keeper)) (LeavesOn g.K.Keeper.rows g.K.Keeper.may_leave)
+    (λ book done told. on_begun g.K.Keeper.rows g.K.Keeper.may_leave (g.K.Keeper.rows c.row_from.new.self) c.args.zone c.args.allow_update c.args.moment book done told)
+    c.begin_with.ensures.ok c.begin_with.ensures.left
+
+pub returns-in-Ok-Some-clause-left_on : goal.returns-in-Ok-Some-clause-left_on
+returns-in-Ok-Some-clause-left_on g c alone =
+    both_ok c.recover.result (Recovers (g.K.Keeper.rows c.row_from.new.self) g.K.Keeper.rows c.args.origin c.args.allow_update)
+    (λ book. LeavesNoOther (g.K.Keeper.may_leave c.row_from.new.self) (g.K.Keeper.may_leave book.keeper)) (LeavesOn g.K.Keeper.rows g.K.Keeper.may_leave)
+    (λ book done more. on_recovered g.K.Keeper.rows g.K.Keeper.may_leave (g.K.Keeper.rows c.args.keeper) book done.stands
+    (kept_on (g.K.Keeper.rows c.args.keeper) (g.K.Keeper.rows c.row_from.new.self) (g.K.Keeper.rows book.keeper) c.in-Ok-Some.ensures.kept done.kept)
+    (λ some left. alone some (c.row_from.ensures.left some (more some left))))
+    c.recover.ensures.ok c.recover.ensures.left
