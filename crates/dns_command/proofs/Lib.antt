@@ -1,0 +1,14 @@
+mod Decimals
+mod EventWords
+mod Keys
+mod TextsRead
+mod TextsWritten
+mod Told
+mod Settled
+mod Endings
+mod Completing
+mod Loops
+mod Crews
+mod Served
+mod ServeEndings
+mod RunEndings

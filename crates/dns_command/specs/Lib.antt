@@ -1,0 +1,17 @@
+pub mod Lines
+pub mod World
+pub mod Status
+pub mod NetworkText
+pub mod CommandLine
+pub mod EventText
+pub mod ListeningWords
+pub mod EventReading
+pub mod Steps
+pub mod Ends
+pub mod Hubs
+pub mod Serving
+pub mod ServeEnds
+pub mod ServingParts
+pub mod Completeness
+pub mod Writing
+pub mod Parts
