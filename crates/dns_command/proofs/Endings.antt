@@ -1,5 +1,5 @@
 -- How the program ends, by what its parts did.
-use Rattle.std.proofs.Common.{◌≡◌, ℕ, ◌≤◌, List, Option, Result, Ok, Err, refl, sym, ap, subst, arith, take, length}
+use Rattle.std.proofs.Common.{◌≡◌, ℕ, ◌≤◌, List, Option, Some, None, IfSome, MatchOption, Result, Ok, Err, refl, sym, ap, subst, arith, take, length}
 use Rattle.dns_io.specs.Around.{Around, SinkAround}
 use Rattle.std.specs.Result.{IsErrOf}
 use Rattle.dns_io.specs.Edge.{NeverBegins, Keeps, Rose}
@@ -11,6 +11,7 @@ use Rattle.dns_keeper.specs.declared.keeper.KeepFault.{KeepFault}
 use Rattle.dns_keeper.specs.declared.keeper.KeepFault.TheVariants as keep
 use Rattle.dns_zone_map.specs.Zone.{Contents, serial_of}
 use Rattle.dns_update.specs.Replay.{opening_of}
+use Rattle.dns_server_core.specs.declared.event.Event.{Event}
 use Rattle.dns_server_core.specs.declared.event.Out.{Out}
 use Rattle.dns_book.specs.Book.{SeenOf, IsKept, Settles}
 use Rattle.dns_book.specs.Opening as book
@@ -21,17 +22,20 @@ use Rattle.dns_server_core.specs.Valid.{Valid}
 use Rattle.dns_server_core.specs.Connections.{Kept, new_kept, done, after}
 use Rattle.dns_server_core.specs.Runs.{Completed, Run}
 use Rattle.dns_server_core.specs.Books.{failures, RoseBy}
+use Rattle.dns_generator.specs.Loaded.{loaded}
+use Rattle.dns_generator.proofs.Quiet.{valid}
 use Rattle.dns_command.specs.declared.status.Status.{Status}
 use Rattle.dns_command.specs.declared.status.Status.TheVariants as status
 use Rattle.dns_command.specs.declared.run_list.Inputs.{Inputs}
 use Rattle.dns_command.specs.declared.opening.Opening.{Opening}
 use Rattle.dns_command.specs.declared.opening.Opening.TheVariants.{Begin, Recover}
 use Rattle.dns_command.specs.declared.command_line.Options.{Options}
+use Rattle.dns_command.specs.declared.command_line.Drawn.{Drawn}
 use Rattle.dns_command.specs.CommandLine.{access_of}
-use Rattle.dns_command.specs.Lines.{output_lines}
+use Rattle.dns_command.specs.Lines.{lines_by}
 use Rattle.dns_command.specs.Status.{refusal_line}
-use Rattle.dns_command.specs.World.{World, IsWritten}
-use Rattle.dns_command.specs.Steps.{Finds, SeesNoRow, journal_unread, journal_without_memory, OpensNot, rows_refused, journal_failed, opening_without_memory, at_opening}
+use Rattle.dns_command.specs.World.{World, IsUntouched, IsWritten}
+use Rattle.dns_command.specs.Steps.{Finds, FindsExample, FindsBy, LoadsEvents, SeesNoRow, journal_unread, journal_without_memory, OpensNot, rows_refused, journal_failed, opening_without_memory, at_opening}
 use Rattle.dns_command.specs.Ends.{IsOpened, Begins, Serves, Rejects, Answers, Breaks, all, TookFront, Refuses, IsCut, in_refusal, in_rejection, in_answers}
 use Rattle.dns_command.specs.Ends.{Ends, with_answers, with_refusal, with_rejection, with_write_fault, cut_for_memory, refused_for_memory, broken_for_memory}
 use Rattle.dns_command.specs.Writing.{WritesWhole, after_writing, EndsWriting, EndsRefusing, silent, by_line}
@@ -76,6 +80,26 @@ journal_of before after n m = record { before = before; after = after; faults_be
 pub Finds-on : (b m a : Option (List Row)) (fb fm fa : ℕ) (source : Around (List ℕ)) (origin : List (List ℕ)) (opening : Opening) → Finds (journal_of b m fb fm) source origin opening → NeverBegins m a → Finds (journal_of b a fb fa) source origin opening
 Finds-on b m a fb fm fa source origin (Begin zone) f told = (HadNoRow-on b m a f.0 told, f.1)
 Finds-on b m a fb fm fa source origin Recover f told = (HadRows-on b m a f.0 told, f.1)
+
+FindsExample-on : (b m a : Option (List Row)) (fb fm fa : ℕ) (opening : Opening) → FindsExample (journal_of b m fb fm) opening → NeverBegins m a → FindsExample (journal_of b a fb fa) opening
+FindsExample-on b m a fb fm fa (Begin zone) f told = (HadNoRow-on b m a f.0 told, f.1)
+FindsExample-on b m a fb fm fa Recover f told = HadRows-on b m a f told
+
+-- by what is drawn
+Finds-by : (drawn : Option Drawn) (b m a : Option (List Row)) (fb fm fa : ℕ) (source : Around (List ℕ)) (origin : List (List ℕ)) (opening : Opening)
+    → MatchOption drawn (Finds (journal_of b m fb fm) source origin opening) (λ d. FindsExample (journal_of b m fb fm) opening × IsUntouched source) → NeverBegins m a
+    → MatchOption drawn (Finds (journal_of b a fb fa) source origin opening) (λ d. FindsExample (journal_of b a fb fa) opening × IsUntouched source)
+Finds-by None b m a fb fm fa source origin opening f told = Finds-on b m a fb fm fa source origin opening f told
+Finds-by (Some d) b m a fb fm fa source origin opening f told = (FindsExample-on b m a fb fm fa opening f.0 told, f.1)
+
+FindsBy-on : (b m a : Option (List Row)) (fb fm fa : ℕ) (source : Around (List ℕ)) (options : Options) (opening : Opening) → FindsBy (journal_of b m fb fm) source options opening → NeverBegins m a → FindsBy (journal_of b a fb fa) source options opening
+FindsBy-on b m a fb fm fa source options opening f told = Finds-by options.drawn b m a fb fm fa source options.origin opening f told
+
+-- a list that is not valid was not drawn
+is_undrawn : (drawn : Option Drawn) (source : Around (List ℕ)) (events : List Event) → IfSome drawn (λ d. d.count ≤ 100000)
+    → MatchOption drawn (LoadsEvents source events) (λ d. (events ≡ loaded d.seed d.count) × IsUntouched source) → (Valid new_kept events → ⊥) → drawn ≡ None
+is_undrawn None source events few heard invalid = refl
+is_undrawn (Some d) source events few heard invalid = absurd (invalid (subst (λ (l : List Event). Valid new_kept l) (sym heard.0) (valid d.seed d.count few)))
 
 pub OpensNot-earlier : (b m a : Option (List Row)) (fb fm fa : ℕ) (origin : List (List ℕ)) (opening : Opening) (s : Status) → OpensNot (journal_of m a fm fa) origin opening s → Keeps b m → fb ≤ fm → OpensNot (journal_of b a fb fa) origin opening s
 OpensNot-earlier b m a fb fm fa origin opening s (rows_refused row why refused) k later = rows_refused row why (AreRefused-earlier b m a origin row why k refused)
@@ -134,7 +158,7 @@ module _ {K : Type 0} (rows : K → Option (List Row)) (faults : K → ℕ) (wor
   begins first o told = record {
     opening = inputs.opening;
     legal = p.legal;
-    found = Finds-on b (rows keeper) (rows left) fb (faults keeper) (faults left) z inputs.options.origin inputs.opening p.found
+    found = FindsBy-on b (rows keeper) (rows left) fb (faults keeper) (faults left) z inputs.options inputs.opening p.found
         (NeverBegins-more (rows keeper) (rows first.keeper) (rows left) (IsOpened-told (rows keeper) rows inputs.options moment inputs.opening first o.opened) told);
     heard = p.heard;
     opened = IsOpened-earlier b (rows keeper) rows inputs.options moment inputs.opening first k o.opened;
@@ -155,7 +179,7 @@ module _ {K : Type 0} (rows : K → Option (List Row)) (faults : K → ℕ) (wor
   }
 
   pub answers : (outs : List Out) (server : ServerOf (SeenOf K)) → SettlesAll rows faults keeper inputs moment outs server → left ≡ server.handler.keeper → IsKept rows server.handler
-      → Answers rows faults world (output_lines outs (serial_of server.handler.zone.records) server.handler.row_count (length server.kept.connections))
+      → Answers rows faults world (lines_by inputs.options.drawn outs (serial_of server.handler.zone.records) server.handler.row_count (length server.kept.connections))
   answers outs server s is kept = record {
     events = inputs.events.items;
     outs = outs;
@@ -165,7 +189,7 @@ module _ {K : Type 0} (rows : K → Option (List Row)) (faults : K → ℕ) (wor
         (subst (λ (x : K). NeverBegins (rows x) (rows left)) is (NeverBegins-same (rows left)));
     left = ap rows (sym is);
     kept = kept;
-    text = ap (λ (x : Kept). output_lines outs (serial_of server.handler.zone.records) server.handler.row_count (length x.connections)) s.settled.kept;
+    text = ap (λ (x : Kept). lines_by inputs.options.drawn outs (serial_of server.handler.zone.records) server.handler.row_count (length x.connections)) s.settled.kept;
   }
 
   -- not every message was settled on it
@@ -176,6 +200,7 @@ module _ {K : Type 0} (rows : K → Option (List Row)) (faults : K → ℕ) (wor
         events = inputs.events.items;
         first = first;
         begun = begins first o (subst (λ (x : K). NeverBegins (rows first.keeper) (rows x)) same (NeverBegins-same (rows first.keeper)));
+        undrawn = is_undrawn inputs.options.drawn e inputs.events.items p.few p.heard invalid;
         invalid = invalid;
         left = ap rows same;
       }) r
@@ -193,7 +218,7 @@ module _ {K : Type 0} (rows : K → Option (List Row)) (faults : K → ℕ) (wor
   unopened_refused : (s t : Status) → OpensNot (journal_of (rows keeper) (rows left) (faults keeper) (faults left)) inputs.options.origin inputs.opening s → Keeps (rows keeper) (rows left) → EndsRefusing out s t → Ends rows faults world t
   unopened_refused s t n keeps r = refused rows faults world s t (record {
     cause = at_opening inputs.options inputs.opening inputs.events.items p.legal
-        (Finds-on b (rows keeper) (rows left) fb (faults keeper) (faults left) z inputs.options.origin inputs.opening p.found (NeverBegins-told _ (rows keeper) (rows left) keeps)) p.heard
+        (FindsBy-on b (rows keeper) (rows left) fb (faults keeper) (faults left) z inputs.options inputs.opening p.found (NeverBegins-told _ (rows keeper) (rows left) keeps)) p.heard
         (OpensNot-earlier b (rows keeper) (rows left) fb (faults keeper) (faults left) inputs.options.origin inputs.opening s n k later);
     kept = Keeps-more b (rows keeper) (rows left) k keeps;
   }) r

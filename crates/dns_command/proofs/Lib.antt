@@ -4,6 +4,7 @@ mod Keys
 mod TextsRead
 mod TextsWritten
 mod Told
+mod Drawn
 mod Settled
 mod Endings
 mod Completing

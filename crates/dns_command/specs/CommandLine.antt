@@ -1,7 +1,7 @@
 -- The words of the command line.
-use Rattle.std.specs.Prelude.{ℕ, List, [], ◌∷◌, Option, Some, None, is_some, Bool, false, nat_lt, nat_le, length, take, drop, count_by, ◌&&◌, ◌||◌, if◌then◌else◌, Result, Ok, Err, codes}
+use Rattle.std.specs.Prelude.{ℕ, ◌^◌, ◌==◌, List, [], ◌∷◌, Option, Some, None, is_some, Bool, true, false, nat_lt, nat_le, length, take, drop, count_by, ◌&&◌, ◌||◌, if◌then◌else◌, Result, Ok, Err, codes}
 use Rattle.std.specs.List.{list_all, list_any, filter_map}
-use Rattle.std.specs.Option.{option_map_or, option_and_then}
+use Rattle.std.specs.Option.{option_map, option_map_or, option_and_then}
 use Rattle.std.specs.Str.{bytes_eq}
 use Rattle.dns_name.specs.declared.fault.ProtoError.{ProtoError}
 use Rattle.dns_name.specs.Name.{fold_of}
@@ -12,6 +12,9 @@ use Rattle.dns_command.specs.NetworkText.{network_of}
 use Rattle.dns_command.specs.declared.command_line.Action.{Action}
 use Rattle.dns_command.specs.declared.command_line.Action.TheVariants.{Help, Version, Command}
 use Rattle.dns_command.specs.declared.command_line.Options.{Options}
+use Rattle.dns_command.specs.declared.command_line.Drawn.{Drawn}
+use Rattle.dns_command.specs.EventText.{decimal_of}
+use Rattle.dns_generator.specs.Requests.{origin_name}
 
 -- what follows a key at the beginning of a word
 abbrev pub behind : List ℕ → List ℕ → Option (List ℕ)
@@ -61,19 +64,38 @@ are_options words = list_all is_option words && has_no_double words
 -- the options with the folded name of this text as the origin, where it is a name (RFC 1035 5.1, 2.3.3)
 abbrev pub options_for : Result (List (List ℕ)) ProtoError → Bool → List IpNet → List IpNet → Option Options
 options_for (Err e) allow_update denied allowed = None
-options_for (Ok name) allow_update denied allowed = Some (record { origin = fold_of name; allow_update = allow_update; denied = denied; allowed = allowed })
+options_for (Ok name) allow_update denied allowed = Some (record { origin = fold_of name; allow_update = allow_update; denied = denied; allowed = allowed; drawn = None })
 
 -- what an origin and the options behind it ask for. Updates are let in where `--update` stands.
 abbrev pub options_behind : List ℕ → List (List ℕ) → Option Options
 options_behind origin words =
     options_for (name_of origin) (list_any is_update_word words) (nets_behind (codes "--deny=") words) (nets_behind (codes "--allow=") words)
 
--- what legal words of `events` ask for: the command, an origin, and options
+-- a count of messages, from 1 to 100,000
+abbrev pub count_of : List ℕ → Option ℕ
+count_of word = option_and_then (λ count. if count == 0 then None else Some count) (decimal_of 100001 word)
+
+-- a seed below 2 ^ 64 and a count of messages, both in decimal
+abbrev pub drawn_by : List ℕ → List ℕ → Option Drawn
+drawn_by seed count = option_and_then (λ s. option_map (λ c. record { seed = s; count = c }) (count_of count)) (decimal_of (2 ^ 64) seed)
+
+-- a list of events is drawn, for the zone example.com, and updates are let in, from everybody
+abbrev pub options_drawn : Drawn → Options
+options_drawn drawn = record { origin = origin_name; allow_update = true; denied = []; allowed = []; drawn = Some drawn }
+
+-- what legal words of `load` ask for behind the command: a seed, and a count of messages
+abbrev pub load_options : List ℕ → List (List ℕ) → Option Options
+load_options seed (count ∷ []) = option_map options_drawn (drawn_by seed count)
+load_options seed words = None
+
+-- what legal words ask for: `events`, an origin, and options; or `load`, a seed and a count
 unfoldable pub options_of : List (List ℕ) → Option Options
 options_of [] = None
 options_of (command ∷ []) = None
-options_of (command ∷ origin ∷ words) =
-    if bytes_eq command (codes "events") && are_options words then options_behind origin words else None
+options_of (command ∷ word ∷ words) =
+    if bytes_eq command (codes "load") then load_options word words
+    else if bytes_eq command (codes "events") && are_options words then options_behind word words
+    else None
 
 -- who is let in: the networks of the options
 abbrev pub access_of : Options → Access

@@ -1,5 +1,5 @@
 -- What keeps the program from its work: nothing but a fault that is named above, and want of memory.
-use Rattle.std.specs.Prelude.{◌≡◌, ◌≤◌, ◌⊎◌, ℕ, List, [], length, Some, IsSome, Ok}
+use Rattle.std.specs.Prelude.{◌≡◌, ◌≤◌, ◌⊎◌, ℕ, List, [], length, Some, None, IsSome, MatchOption, Ok}
 use Rattle.dns_io.specs.Edge.{Rose}
 use Rattle.dns_name.specs.Name.{fold_of}
 use Rattle.dns_wire.specs.declared.record.Record.{Record}
@@ -23,14 +23,27 @@ pub data HasZone (w : World) (origin : List (List ℕ)) : Type 0 where
   in_text : (text : List ℕ) (records : List Record) → w.journal.before ≡ Some [] → w.zone.before ≡ Some text → length text ≤ zone_bound → zone_of origin text ≡ Ok records → HasZone w origin
   in_rows : (rows : List Row) (records : List Record) → w.journal.before ≡ Some rows → Replays (fold_of origin) rows (Ok records) → HasZone w origin
 
+-- the journal can be opened for a zone of this origin: it has no row, or its rows stand for one
+pub data HasJournal (w : World) (origin : List (List ℕ)) : Type 0 where
+  without_rows : w.journal.before ≡ Some [] → HasJournal w origin
+  with_rows : (rows : List Row) (records : List Record) → w.journal.before ≡ Some rows → Replays (fold_of origin) rows (Ok records) → HasJournal w origin
+
+-- there is a zone for what the words ask: a drawn list has one of its own
+abbrev pub HasZoneBy : World → Options → Type 0
+HasZoneBy w options = MatchOption options.drawn (HasZone w options.origin) (λ drawn. HasJournal w options.origin)
+
 -- the event text is a valid list of events, within its bound
-pub record HasEvents (w : World) : Type 0 where
+pub record HasEventText (w : World) : Type 0 where
   pub text : List ℕ
   pub events : List Event
   pub told : w.events.before ≡ Some text
   pub short : length text ≤ event_bound
   pub read : events_of text ≡ Ok events
   pub valid : Valid new_kept events
+
+-- so it is, where no list is drawn: one that is drawn is always valid
+abbrev pub HasEvents : World → Options → Type 0
+HasEvents w options = options.drawn ≡ None → HasEventText w
 
 -- no count of faults rose, nor stands at its last value
 pub record IsFaultless (w : World) : Type 0 where
@@ -49,8 +62,8 @@ pub record IsTold (w : World) : Type 0 where
 pub record IsSound (w : World) : Type 0 where
   pub options : Options
   pub legal : options_of w.words ≡ Some options
-  pub zone : HasZone w options.origin
-  pub events : HasEvents w
+  pub zone : HasZoneBy w options
+  pub events : HasEvents w options
   pub faultless : IsFaultless w
   pub told : IsTold w
 

@@ -1,5 +1,5 @@
 -- What the program does: the replies owed, and no other bytes.
-use Rattle.std.specs.Prelude.{◌≡◌, ◌≢◌, ℕ, List, length, take, Option, Some}
+use Rattle.std.specs.Prelude.{◌≡◌, ◌≢◌, ℕ, List, length, take, Option, Some, None}
 use Rattle.dns_keeper.specs.declared.row.Row.{Row}
 use Rattle.dns_io.specs.Edge.{Keeps, Rose, GrowsByPrefix}
 use Rattle.dns_zone_map.specs.Zone.{serial_of}
@@ -17,23 +17,24 @@ use Rattle.dns_command.specs.declared.opening.Opening.{Opening}
 use Rattle.dns_command.specs.declared.opening.Opening.TheVariants.{Begin, Recover}
 use Rattle.dns_command.specs.declared.command_line.Options.{Options}
 use Rattle.dns_command.specs.CommandLine.{options_of, access_of}
-use Rattle.dns_command.specs.Lines.{output_lines}
+use Rattle.dns_command.specs.Lines.{lines_by}
 use Rattle.dns_command.specs.Status.{refusal_line}
 use Rattle.dns_command.specs.World.{World, IsUnwritten, IsWritten}
-use Rattle.dns_command.specs.Steps.{Finds, LoadsEvents, IsRefused}
+use Rattle.dns_command.specs.Steps.{FindsBy, HearsBy, IsRefused}
 
--- how the journal was opened, by the options: one without rows was begun with the zone of the zone text at this moment, and
+-- how the journal was opened, by the options: one without rows was begun with the zone that was found at this moment, and
 -- one with rows was read back; either way its rows stand for its zone
 abbrev pub IsOpened : {K : Type 0} → Option (List Row) → (K → Option (List Row)) → Options → ℕ → Opening → SeenOf K → Type 0
 IsOpened before rows options moment (Begin zone) first = book.Begins before rows zone options.allow_update moment first
 IsOpened before rows options moment Recover first = book.Recovers before rows options.origin options.allow_update first
 
--- the words are legal, the event text gives these events, and the journal was opened at the clock's last reading
+-- the words are legal, these are the events of the event text or those that are drawn, and the journal was opened at the clock's
+-- last reading
 pub record Begins {K : Type 0} (rows : K → Option (List Row)) (w : World) (options : Options) (events : List Event) (first : SeenOf K) : Type 0 where
   pub opening : Opening
   pub legal : options_of w.words ≡ Some options
-  pub found : Finds w.journal w.zone options.origin opening
-  pub heard : LoadsEvents w.events events
+  pub found : FindsBy w.journal w.zone options opening
+  pub heard : HearsBy w.events options events
   pub opened : IsOpened w.journal.before rows options w.moment opening first
 
 -- Messages were settled on the journal that was opened: of those that a valid list of events completes, the ones that are
@@ -48,20 +49,22 @@ pub record Serves {K : Type 0} (rows : K → Option (List Row)) (faults : K → 
   pub ran : Run (Settles rows faults (access_of options)) first (picked (done new_kept events)) outs last
   pub few : RoseBy (failures rows faults (access_of options) first (picked (done new_kept events)) outs last ran) w.journal.faults_before w.journal.faults_after
 
--- the list of events is not valid: the journal was opened, and nothing was settled
+-- the list of events is not valid: the journal was opened, and nothing was settled. It is that of the event text: one that is drawn
+-- is always valid
 pub record Rejects {K : Type 0} (rows : K → Option (List Row)) (w : World) : Type 0 where
   pub options : Options
   pub events : List Event
   pub first : SeenOf K
   pub begun : Begins rows w options events first
+  pub undrawn : options.drawn ≡ None
   pub invalid : Valid new_kept events → ⊥
   pub left : rows first.keeper ≡ w.journal.after
 
 abbrev pub all : List Completed → List Completed
 all asks = asks
 
--- every message was settled, and this is the output: a line a reply, the serial of the zone that the rows now stand for, the
--- number of rows, and how many connections are open
+-- every message was settled, and this is the output: a line a reply, or for a drawn list what is told of the replies; then the
+-- serial of the zone that the rows now stand for, the number of rows, and how many connections are open
 pub record Answers {K : Type 0} (rows : K → Option (List Row)) (faults : K → ℕ) (w : World) (written : List ℕ) : Type 0 where
   pub events : List Event
   pub outs : List Out
@@ -69,7 +72,7 @@ pub record Answers {K : Type 0} (rows : K → Option (List Row)) (faults : K →
   pub served : Serves rows faults w all events outs last
   pub left : rows last.keeper ≡ w.journal.after
   pub kept : IsKept rows last
-  pub text : written ≡ output_lines outs (serial_of last.zone.records) last.row_count (length (after new_kept events).connections)
+  pub text : written ≡ lines_by served.options.drawn outs (serial_of last.zone.records) last.row_count (length (after new_kept events).connections)
 
 -- memory ran out among the messages: some of the first ones were settled, and the rows are as the last of these left them
 pub record Breaks {K : Type 0} (rows : K → Option (List Row)) (faults : K → ℕ) (w : World) : Type 0 where

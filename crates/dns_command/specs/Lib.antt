@@ -8,6 +8,7 @@ pub mod ListeningWords
 pub mod EventReading
 pub mod Steps
 pub mod Ends
+pub mod Example
 pub mod Hubs
 pub mod Serving
 pub mod ServeEnds

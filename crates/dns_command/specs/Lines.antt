@@ -1,5 +1,5 @@
 -- The lines that the program writes.
-use Rattle.std.specs.Prelude.{ℕ, ◌++◌, List, codes}
+use Rattle.std.specs.Prelude.{ℕ, ◌++◌, List, codes, Option, Some, None}
 use Rattle.std.specs.List.{flat_map}
 use Rattle.std.specs.Fmt.{decimal}
 use Rattle.std.specs.Int.{w32, w128, to_be_bytes}
@@ -9,6 +9,9 @@ use Rattle.dns_io.specs.declared.peer.Ip.TheVariants.{V4, V6}
 use Rattle.dns_server_core.specs.declared.event.Out.{Out}
 use Rattle.dns_server_core.specs.declared.event.Receiver.{Receiver}
 use Rattle.dns_server_core.specs.declared.event.Receiver.TheVariants as to
+use Rattle.dns_generator.specs.declared.summary.Summary.{Summary}
+use Rattle.dns_generator.specs.Summary.{summary_of}
+use Rattle.dns_command.specs.declared.command_line.Drawn.{Drawn}
 
 -- an address: eight small hex digits, or thirty-two
 abbrev pub ip_text : Ip → List ℕ
@@ -39,3 +42,18 @@ output_lines outs serial rows open_ = flat_map out_line outs ++ closing_lines se
 -- the whole output of `serve`: the zone's serial, and how many rows the journal has
 abbrev pub serve_lines : ℕ → ℕ → List ℕ
 serve_lines serial rows = number_line (codes "serial") serial ++ number_line (codes "journal_len") rows
+
+-- what is told of the replies to so many messages
+abbrev pub counted_lines : ℕ → Summary → List ℕ
+counted_lines messages summary =
+    number_line (codes "messages") messages ++ (number_line (codes "replies") summary.replies ++ (number_line (codes "bytes") summary.bytes
+    ++ (number_line (codes "noerror") summary.no_error ++ number_line (codes "nxdomain") summary.nx_domain)))
+
+-- the whole output for a drawn list of so many messages: what is told of the replies, and the closing lines
+abbrev pub summary_lines : ℕ → Summary → ℕ → ℕ → ℕ → List ℕ
+summary_lines messages summary serial rows open_ = counted_lines messages summary ++ closing_lines serial rows open_
+
+-- the whole output: for a drawn list the summary, else a line for each reply
+abbrev pub lines_by : Option Drawn → List Out → ℕ → ℕ → ℕ → List ℕ
+lines_by None outs serial rows open_ = output_lines outs serial rows open_
+lines_by (Some drawn) outs serial rows open_ = summary_lines drawn.count (summary_of outs) serial rows open_

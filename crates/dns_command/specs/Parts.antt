@@ -1,5 +1,5 @@
 -- What the parts of the top call do.
-use Rattle.std.specs.Prelude.{◌≡◌, ◌≤◌, ℕ, List, take, Option, Some}
+use Rattle.std.specs.Prelude.{◌≡◌, ◌≤◌, ℕ, List, take, Option, Some, IfSome}
 use Rattle.dns_keeper.specs.declared.row.Row.{Row}
 use Rattle.dns_keeper.specs.declared.keeper.KeepFault.{KeepFault}
 use Rattle.dns_keeper.specs.declared.keeper.KeepFault.TheVariants as keep
@@ -24,14 +24,15 @@ use Rattle.dns_command.specs.declared.opening.Opening.{Opening}
 use Rattle.dns_command.specs.declared.opening.Opening.TheVariants.{Begin, Recover}
 use Rattle.dns_command.specs.declared.command_line.Options.{Options}
 use Rattle.dns_command.specs.CommandLine.{options_of, access_of}
-use Rattle.dns_command.specs.Steps.{Finds, LoadsEvents, OpensNot}
+use Rattle.dns_command.specs.Steps.{FindsBy, HearsBy, OpensNot}
 use Rattle.dns_command.specs.Ends.{IsOpened}
 
 -- the words are legal, and what they name was read
 pub record Prepares (words : List (List ℕ)) (zone_text event_text : Around (List ℕ)) (journal : Around (List Row)) (inputs : Inputs) : Type 0 where
   pub legal : options_of words ≡ Some inputs.options
-  pub found : Finds journal zone_text inputs.options.origin inputs.opening
-  pub heard : LoadsEvents event_text inputs.events.items
+  pub found : FindsBy journal zone_text inputs.options inputs.opening
+  pub heard : HearsBy event_text inputs.options inputs.events.items
+  pub few : IfSome inputs.options.drawn (λ drawn. drawn.count ≤ 100000)
 
 -- a journal that is to be begun has no row
 abbrev pub IsReady : Opening → Option (List Row) → Type 0

@@ -1,5 +1,5 @@
--- The steps of the command `events`, in the order of the work, and the causes for which each of them is refused.
-use Rattle.std.specs.Prelude.{◌≡◌, ◌≤◌, ℕ, ℤ, List, length, Some, None, Ok, Err}
+-- The steps of the commands `events` and `load`, in the order of the work, and the causes for which each of them is refused.
+use Rattle.std.specs.Prelude.{◌≡◌, ◌≤◌, ℕ, ℤ, List, length, Some, None, MatchOption, Ok, Err}
 use Rattle.dns_keeper.specs.declared.row.Row.{Row}
 use Rattle.dns_io.specs.Around.{Around}
 use Rattle.dns_io.specs.Edge.{Rose, WasRead, WasLonger}
@@ -18,6 +18,9 @@ use Rattle.dns_command.specs.declared.command_line.Options.{Options}
 use Rattle.dns_command.specs.CommandLine.{options_of}
 use Rattle.dns_command.specs.EventText.{events_of}
 use Rattle.dns_command.specs.World.{IsUntouched}
+use Rattle.dns_command.specs.Example.{example_text}
+use Rattle.dns_generator.specs.Requests.{origin_name}
+use Rattle.dns_generator.specs.Loaded.{loaded}
 
 -- the greatest lengths of a zone text and of an event text, in bytes
 abbrev pub zone_bound : ℕ
@@ -72,6 +75,39 @@ pub data LoadsNoEvents (source : Around (List ℕ)) : Status → Type 0 where
       → LoadsNoEvents source (status.EventLine line)
   events_without_memory : LoadsNoEvents source status.OutOfMemory
 
+-- a drawn list of events has a zone of its own, which is that of a fixed text; then no zone text is read
+abbrev pub IsExample : Contents → Type 0
+IsExample zone = (zone.origin ≡ origin_name) × (zone_of origin_name example_text ≡ Ok zone.records)
+
+-- how the journal is to be opened for a drawn list
+abbrev pub FindsExample : Around (List Row) → Opening → Type 0
+FindsExample journal (Begin zone) = HadNoRow journal.before journal.after × IsExample zone
+FindsExample journal Recover = HadRows journal.before journal.after
+
+-- how the journal is to be opened, by the words
+abbrev pub FindsBy : Around (List Row) → Around (List ℕ) → Options → Opening → Type 0
+FindsBy journal source options opening = MatchOption options.drawn
+    (Finds journal source options.origin opening)
+    (λ drawn. FindsExample journal opening × IsUntouched source)
+
+-- why it is not known how the journal is opened, by the words
+abbrev pub FindsNotBy : Around (List Row) → Around (List ℕ) → Options → Status → Type 0
+FindsNotBy journal source options s = MatchOption options.drawn
+    (FindsNot journal source options.origin s)
+    (λ drawn. SeesNoRow journal s × IsUntouched source)
+
+-- the events, by the words: those of the event text, or those that are drawn, and then no event text is read
+abbrev pub HearsBy : Around (List ℕ) → Options → List Event → Type 0
+HearsBy source options events = MatchOption options.drawn
+    (LoadsEvents source events)
+    (λ drawn. (events ≡ loaded drawn.seed drawn.count) × IsUntouched source)
+
+-- why there are no events, by the words: for a drawn list memory ran out, and for nothing else
+abbrev pub HearsNotBy : Around (List ℕ) → Options → Status → Type 0
+HearsNotBy source options s = MatchOption options.drawn
+    (LoadsNoEvents source s)
+    (λ drawn. (s ≡ status.OutOfMemory) × IsUntouched source)
+
 -- why the journal was not opened: it has rows that stand for no zone of this origin, and this is the first that is refused;
 -- it failed; or memory ran out
 pub data OpensNot (journal : Around (List Row)) (origin : List (List ℕ)) : Opening → Status → Type 0 where
@@ -88,10 +124,10 @@ pub data IsRefused (words : List (List ℕ)) (zone_text event_text : Around (Lis
   without_memory : IsUntouched zone_text → IsUntouched event_text → IsUntouched journal
       → IsRefused words zone_text event_text journal status.OutOfMemory
   at_finding : {s : Status} → (options : Options) → options_of words ≡ Some options
-      → FindsNot journal zone_text options.origin s → IsUntouched event_text
+      → FindsNotBy journal zone_text options s → IsUntouched event_text
       → IsRefused words zone_text event_text journal s
   at_events : {s : Status} → (options : Options) (opening : Opening) → options_of words ≡ Some options
-      → Finds journal zone_text options.origin opening → LoadsNoEvents event_text s
+      → FindsBy journal zone_text options opening → HearsNotBy event_text options s
       → IsRefused words zone_text event_text journal s
   at_opening : {s : Status} → (options : Options) (opening : Opening) (events : List Event) → options_of words ≡ Some options
-      → Finds journal zone_text options.origin opening → LoadsEvents event_text events → OpensNot journal options.origin opening s → IsRefused words zone_text event_text journal s
+      → FindsBy journal zone_text options opening → HearsBy event_text options events → OpensNot journal options.origin opening s → IsRefused words zone_text event_text journal s

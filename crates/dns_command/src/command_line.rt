@@ -1,14 +1,16 @@
 //! What the words of the command line ask for. The program's name is not among them.
 
-ghost use Rattle.std.specs.Prelude.{◌≡◌, ◌↔◌, IsErr, ◌++◌, ◌∷◌, [], IfOk, IfSome, OnOk, map, length, drop, count_by, string_bytes};
+ghost use Rattle.std.specs.Prelude.{◌≡◌, ◌≤◌, ◌↔◌, IsErr, ◌++◌, ◌∷◌, [], IfOk, IfSome, OnOk, map, length, drop, count_by, string_bytes};
 ghost use Rattle.std.specs.List.{list_all, list_any};
 ghost use Rattle.std.specs.Option.{option_map};
 ghost use Rattle.dns_name.specs.Name.{fold_of};
 ghost use Rattle.dns_name.specs.NameText.{name_of};
-ghost use Rattle.dns_command.specs.CommandLine.{behind, first_behind, path_of, action_of_word, action_of, is_path_word, is_update_word, net_behind, nets_behind, is_option, has_no_double, are_options, options_for, options_behind, options_of};
+ghost use Rattle.dns_command.specs.CommandLine.{behind, first_behind, path_of, action_of_word, action_of, is_path_word, is_update_word, net_behind, nets_behind, is_option, has_no_double, are_options, options_for, options_behind, drawn_by, load_options, options_of};
 
+use crate::event_text::decimal_of;
 use crate::network_text::network_of;
 use dns_book::IpNet;
+use dns_generator::origin_name;
 use dns_io::OutOfMemory;
 use dns_name::name_laws::folded_names;
 use dns_name::{Name, ProtoError};
@@ -83,20 +85,35 @@ pub struct Options {
     pub denied: Networks,
     /// The networks whose sources are let in.
     pub allowed: Networks,
+    /// The list of events that is drawn, where no event text is read.
+    pub drawn: Option<Drawn>,
 }
 
-/// What the words ask for: `events ORIGIN`, and behind it options in any order: at most one `--update`, at most one
-/// `--zone=PATH` and one `--journal=PATH`, where PATH is not empty, and any number of `--deny=IP/PREFIX` and
-/// `--allow=IP/PREFIX`. ORIGIN is a name's text (RFC 1035 5.1), whatever word stands there. Any other words are no command,
-/// and give None.
+/// A list of events that is drawn.
+#[derive(Clone, Copy, Debug, PartialEq, Eq)]
+pub struct Drawn {
+    /// What it is drawn from.
+    pub seed: u64,
+    /// How many messages it has, from 1 to 100,000.
+    pub count: u32,
+}
+
+/// What the words ask for: `load SEED COUNT`, as [`load_options`] says; or `events ORIGIN`, and behind it options in any
+/// order: at most one `--update`, at most one `--zone=PATH` and one `--journal=PATH`, where PATH is not empty, and any number
+/// of `--deny=IP/PREFIX` and `--allow=IP/PREFIX`. ORIGIN is a name's text (RFC 1035 5.1), whatever word stands there. Any other
+/// words are no command, and give None.
 #[tactic(auto, unfolding(crate::specs::CommandLine::options_of))]
 pub fn options_of(alloc: Global, words: &[String]) -> Result<Option<Options>, OutOfMemory>
     ensures is { IfOk result (λ options. options ≡ options_of (map string_bytes words.now)) }
     ensures folded { IfOk result (λ options. IfSome options (λ o. fold_of o.origin ≡ o.origin)) }
+    ensures few { IfOk result (λ options. IfSome options (λ o. IfSome o.drawn (λ drawn. drawn.count ≤ 100000))) }
 {
     let [command, origin, words @ ..] = words else {
         return Ok(None);
     };
+    if command.as_str() == "load" {
+        return load_options(alloc, origin.as_str(), words);
+    }
     if command.as_str() != "events" {
         return Ok(None);
     }
@@ -114,10 +131,49 @@ pub fn options_behind(
 ) -> Result<Option<Options>, OutOfMemory>
     ensures is { IfOk result (λ options. options ≡ options_behind origin.now (map string_bytes words.now)) }
     ensures folded { IfOk result (λ options. IfSome options (λ o. fold_of o.origin ≡ o.origin)) }
+    ensures few { IfOk result (λ options. IfSome options (λ o. IfSome o.drawn (λ drawn. drawn.count ≤ 100000))) }
 {
     let denied = nets_behind(alloc, words, DENY)?;
     let allowed = nets_behind(alloc, words, ALLOW)?;
     options_for(alloc, origin, has_update(words), denied, allowed)
+}
+
+/// What the words of `load` ask for: a seed below 2^64, and behind it a count of messages from 1 to 100,000, both in decimal. The
+/// zone is example.com, and updates are let in, from everybody.
+fn load_options(alloc: Global, seed: &str, words: &[String]) -> Result<Option<Options>, OutOfMemory>
+    ensures is { IfOk result (λ options. options ≡ load_options seed.now (map string_bytes words.now)) }
+    ensures folded { IfOk result (λ options. IfSome options (λ o. fold_of o.origin ≡ o.origin)) }
+    ensures few { IfOk result (λ options. IfSome options (λ o. IfSome o.drawn (λ drawn. drawn.count ≤ 100000))) }
+{
+    let [count] = words else {
+        return Ok(None);
+    };
+    match drawn_by(seed, count.as_str()) {
+        None => Ok(None),
+        Some(drawn) => Ok(Some(Options {
+            origin: origin_name(alloc)?,
+            allow_update: true,
+            denied: Networks::new(alloc),
+            allowed: Networks::new(alloc),
+            drawn: Some(drawn),
+        })),
+    }
+}
+
+/// A seed and a count of messages.
+fn drawn_by(seed: &str, count: &str) -> Option<Drawn>
+    ensures is { result ≡ drawn_by seed.now count.now }
+    ensures few { IfSome result (λ drawn. drawn.count ≤ 100000) }
+{
+    let seed = decimal_of(u64::MAX as u128 + 1, seed.as_bytes())?;
+    let count = decimal_of(100_001, count.as_bytes())?;
+    if count == 0 {
+        return None;
+    }
+    Some(Drawn {
+        seed,
+        count: count as u32,
+    })
 }
 
 /// The path that a key names, as `--zone=`: what follows it in the first word that begins with it. The first two words,
@@ -186,6 +242,7 @@ fn options_for(
 ) -> Result<Option<Options>, OutOfMemory>
     ensures is { IfOk result (λ options. options ≡ options_for (name_of origin.now) allow_update denied allowed) }
     ensures folded { IfOk result (λ options. IfSome options (λ o. fold_of o.origin ≡ o.origin)) }
+    ensures few { IfOk result (λ options. IfSome options (λ o. IfSome o.drawn (λ drawn. drawn.count ≤ 100000))) }
 {
     folded_names();
     match Name::parse(alloc, origin) {
@@ -196,6 +253,7 @@ fn options_for(
                 allow_update,
                 denied,
                 allowed,
+                drawn: None,
             }))
         }
         Err(ProtoError::OutOfMemory) => Err(OutOfMemory),

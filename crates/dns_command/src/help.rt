@@ -9,9 +9,10 @@ dns: an authoritative DNS server for one zone
 
 usage: dns serve ORIGIN [--udp=IP:PORT] [--tcp=IP:PORT] [--workers=N] [--limit=MS] [OPTION]...
        dns events ORIGIN [OPTION]...
+       dns load SEED COUNT
        dns --help | --version
 
-options of both:
+options of serve and events:
        [--zone=PATH] [--journal=PATH] [--update] [--deny=IP/PREFIX]... [--allow=IP/PREFIX]...
 
 serve answers what comes by UDP and by TCP at these addresses, at least one of them, until its standard input ends. Then
@@ -21,6 +22,10 @@ it writes its two closing lines. IP is 8 hex digits (IPv4) or 32 (IPv6): 7f00000
               any time.
 
 events answers a list of events from standard input, and writes a line for each reply: the same server without a network.
+
+load answers COUNT messages, 1 to 100000, that are drawn from SEED, a number below 2^64: queries by datagram and over four
+connections, and updates, for 64 hosts of a small zone example.com of its own, which lets updates in. The same SEED and COUNT
+give the same lines.
 
 ORIGIN is the name at the top of the zone.
 
@@ -49,10 +54,16 @@ accepted before; LIMIT for how many milliseconds it may stay without a whole mes
 2^47. IP and PORT are the other end, IP as in the options. HEX is at most 65535 bytes, two hex digits each, or - for none. On a
 connection each message stands behind the two bytes of its length. Empty lines and lines that begin with # are passed over.
 
-The output of events has a line for each reply, P IP PORT HEX or C CONN HEX. Then come, in both commands,
+The output of events has a line for each reply, P IP PORT HEX or C CONN HEX. That of load has in their place
+  messages N     how many messages were drawn
+  replies N      how many replies there are
+  bytes N        how many bytes they take, with those of their length on a connection
+  noerror N      how many of them say NoError
+  nxdomain N     how many of them say NXDomain
+Then come, in every command,
   serial N       the zone's serial
   journal_len N  how many rows the journal has
-and in events
+and in events and load
   open N         how many connections are open
 
 Exit status, and the one line that is written in place of the output:

@@ -4,6 +4,7 @@
 
 mod command_line;
 mod event_text;
+mod example;
 mod help;
 mod lines;
 mod listening_words;

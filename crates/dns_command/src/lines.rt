@@ -25,7 +25,7 @@ pub fn out_line(alloc: Global, out: &Out) -> Result<String, OutOfMemory>
 }
 
 /// The line `name n`, with its line end.
-pub fn number_line(alloc: Global, name: &str, n: u64) -> Result<String, OutOfMemory>
+pub fn number_line(alloc: Global, name: &str, n: u128) -> Result<String, OutOfMemory>
     ensures { IfOk result (λ line. string_bytes line ≡ number_line name.now n) }
 {
     Ok(format!(in alloc; "{name} {n}\n")?)

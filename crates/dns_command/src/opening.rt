@@ -5,13 +5,15 @@ ghost use Rattle.dns_io.specs.Around.{around};
 ghost use Rattle.dns_io.specs.Edge.{Keeps};
 ghost use Rattle.dns_name.specs.Name.{fold_of};
 ghost use Rattle.dns_book.specs.Opening.{HadNoRow, HadRows};
-ghost use Rattle.dns_command.specs.Steps.{ReadsZone, ReadsNoZone, Finds, SeesNoRow, FindsNot, OpensNot};
+ghost use Rattle.dns_command.specs.Steps.{ReadsZone, ReadsNoZone, Finds, SeesNoRow, FindsNot, FindsBy, FindsNotBy, FindsExample, IsExample, OpensNot};
 ghost use Rattle.dns_command.specs.Parts.{IsReady, OpensBook, unopened, unkept};
 
 use crate::command_line::Options;
+use crate::example::EXAMPLE;
 use crate::status::Status;
 use dns_book::{Book, OpenKind};
-use dns_io::{Source, read_to_end};
+use dns_generator::origin_name;
+use dns_io::{OutOfMemory, Source, read_to_end};
 use dns_keeper::{KeepFault, Keeper};
 use dns_name::Name;
 use dns_zone::{Zone, ZoneTextFault, read_zone};
@@ -61,6 +63,59 @@ pub fn find_opening<Z: Source, K: Keeper>(
     }
     let zone = read_zone_text(alloc, origin, source)?;
     Ok(Opening::Begin(zone))
+}
+
+/// How the journal is to be opened for what the words ask: as [`find_opening`] says, or, where a list of events is drawn, with the
+/// zone of that list.
+pub fn find_opening_by<Z: Source, K: Keeper>(
+    alloc: Global,
+    options: &Options,
+    source: &mut Z,
+    keeper: &mut K,
+) -> Result<Opening, Status>
+    requires { fold_of options.now.origin ≡ options.now.origin }
+    ensures ok { IfOk result (FindsBy
+        (around K.rows K.faults keeper.old keeper.new) (around Z.left Z.faults source.old source.new) options.now) }
+    ensures err { IfErr result (FindsNotBy
+        (around K.rows K.faults keeper.old keeper.new) (around Z.left Z.faults source.old source.new) options.now) }
+    ensures ready { IfOk result (λ opening. IsReady opening (K.rows keeper.new)) }
+    ensures kept { Keeps (K.rows keeper.old) (K.rows keeper.new) }
+    ensures later { K.faults keeper.old ≤ K.faults keeper.new }
+    ensures later_source { Z.faults source.old ≤ Z.faults source.new }
+{
+    match options.drawn {
+        None => find_opening(alloc, &options.origin, source, keeper),
+        Some(_) => find_example(alloc, keeper),
+    }
+}
+
+/// How the journal is to be opened for a drawn list of events.
+fn find_example<K: Keeper>(alloc: Global, keeper: &mut K) -> Result<Opening, Status>
+    ensures ok { IfOk result (FindsExample (around K.rows K.faults keeper.old keeper.new)) }
+    ensures err { IfErr result (SeesNoRow (around K.rows K.faults keeper.old keeper.new)) }
+    ensures ready { IfOk result (λ opening. IsReady opening (K.rows keeper.new)) }
+    ensures kept { Keeps (K.rows keeper.old) (K.rows keeper.new) }
+    ensures later { K.faults keeper.old ≤ K.faults keeper.new }
+{
+    if has_rows(keeper)? {
+        return Ok(Opening::Recover);
+    }
+    match example(alloc) {
+        Ok(zone) => Ok(Opening::Begin(zone)),
+        Err(OutOfMemory) => Err(Status::OutOfMemory),
+    }
+}
+
+/// The zone of a drawn list of events.
+fn example(alloc: Global) -> Result<Zone, OutOfMemory>
+    ensures { IfOk result IsExample }
+{
+    let origin = origin_name(alloc)?;
+    match read_zone(alloc, EXAMPLE.as_bytes(), &origin) {
+        Ok(zone) => Ok(zone),
+        // The text is a zone's, so only memory can be wanting.
+        Err(_) => Err(OutOfMemory),
+    }
 }
 
 /// Whether the journal has a row.

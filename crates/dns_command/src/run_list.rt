@@ -1,24 +1,25 @@
-//! The command `events`: the messages of a list of events are settled in order.
+//! The commands `events` and `load`: the messages of a list of events are settled in order.
 
 ghost use Rattle.std.specs.Prelude.{◌≡◌, ◌<◌, ◌≤◌, ◌^◌, length, IsSome, IfSome, IfOk, IfErr, map, string_bytes};
 ghost use Rattle.dns_io.specs.Around.{around, around_sink};
 ghost use Rattle.dns_io.specs.Edge.{Keeps};
 ghost use Rattle.dns_zone_map.specs.Zone.{serial_of};
 ghost use Rattle.dns_command.specs.declared.status.Status.TheVariants as status;
-ghost use Rattle.dns_command.specs.Lines.{output_lines};
-ghost use Rattle.dns_command.specs.Steps.{LoadsEvents, LoadsNoEvents, IsRefused};
+ghost use Rattle.dns_command.specs.Lines.{lines_by};
+ghost use Rattle.dns_command.specs.Steps.{LoadsEvents, LoadsNoEvents, HearsBy, HearsNotBy, IsRefused};
 ghost use Rattle.dns_command.specs.World.{World};
 ghost use Rattle.dns_command.specs.Ends.{Ends};
 ghost use Rattle.dns_command.specs.Completeness.{Completes};
 ghost use Rattle.dns_command.specs.Parts.{Prepares, IsReady, SettlesEach, SettlesPart, SettlesAll, SettlesNot};
 ghost use Rattle.dns_command.specs.Writing.{EndsWriting};
 
-use crate::command_line::{Networks, Options, options_of};
+use crate::command_line::{Drawn, Networks, Options, options_of};
 use crate::event_text::{EventFault, events_of};
-use crate::opening::{Opening, Refusal, find_opening, open_book};
-use crate::output::{put_output, refuse};
+use crate::opening::{Opening, Refusal, find_opening_by, open_book};
+use crate::output::{put_answers, refuse};
 use crate::status::{Ended, Status, after_writing};
 use dns_book::Book;
+use dns_generator::loaded;
 use dns_io::{Clock, OutOfMemory, Sink, Source, read_to_end};
 use dns_keeper::Keeper;
 use dns_server_core::{Event, Out, Server};
@@ -27,7 +28,7 @@ use std::alloc::Global;
 /// The greatest length of an event text, in bytes.
 const EVENT_BOUND: usize = 8_388_608;
 
-/// All that the command `events` works on.
+/// All that a command works on.
 #[derive(Drop)]
 struct Inputs {
     options: Options,
@@ -42,7 +43,7 @@ struct Served<K: Keeper> {
     outs: Vec<Out>,
 }
 
-/// Does what the words of the command `events` say, and ends with a status. The keeper is handed back. Any other words are no
+/// Does what the words of the command `events` or `load` say, and ends with a status. The keeper is handed back. Any other words are no
 /// command here, those of `serve` too.
 ///
 /// Of the zone text, the event text and the journal nothing is read before it is known that it is needed: no text and no
@@ -79,9 +80,10 @@ pub fn run_list<Z: Source, E: Source, W: Sink, K: Keeper, C: Clock>(
         }
     };
     let moment = clock.now();
+    let drawn = inputs.options.drawn;
     match settle_events(alloc, inputs, keeper, moment) {
         Ok(served) => Ended {
-            status: finish(alloc, &served, out),
+            status: finish(alloc, drawn, &served, out),
             keeper: Some(served.server.into_book().into_keeper()),
         },
         Err(fault) => Ended {
@@ -116,8 +118,8 @@ fn prepare<Z: Source, E: Source, K: Keeper>(
         Ok(None) => return Err(Status::Usage),
         Err(OutOfMemory) => return Err(Status::OutOfMemory),
     };
-    let opening = find_opening(alloc, &options.origin, zone, keeper)?;
-    let events = load_events(alloc, events)?;
+    let opening = find_opening_by(alloc, &options, zone, keeper)?;
+    let events = load_events(alloc, &options, events)?;
     Ok(Inputs {
         options,
         opening,
@@ -125,8 +127,28 @@ fn prepare<Z: Source, E: Source, K: Keeper>(
     })
 }
 
+/// The events that the words ask for: those that are drawn, or those of the event text.
+fn load_events<E: Source>(
+    alloc: Global,
+    options: &Options,
+    source: &mut E,
+) -> Result<Vec<Event>, Status>
+    requires { IfSome options.now.drawn (λ drawn. drawn.count ≤ 100000) }
+    ensures ok { IfOk result (λ events. HearsBy (around E.left E.faults source.old source.new) options.now events.items) }
+    ensures err { IfErr result (HearsNotBy (around E.left E.faults source.old source.new) options.now) }
+    ensures later { E.faults source.old ≤ E.faults source.new }
+{
+    let Some(drawn) = options.drawn else {
+        return read_events(alloc, source);
+    };
+    match loaded(alloc, drawn.seed, drawn.count) {
+        Ok(events) => Ok(events),
+        Err(OutOfMemory) => Err(Status::OutOfMemory),
+    }
+}
+
 /// The events of a text, which is read to its end.
-fn load_events<E: Source>(alloc: Global, source: &mut E) -> Result<Vec<Event>, Status>
+fn read_events<E: Source>(alloc: Global, source: &mut E) -> Result<Vec<Event>, Status>
     ensures ok { IfOk result (λ events. LoadsEvents (around E.left E.faults source.old source.new) events.items) }
     ensures err { IfErr result (LoadsNoEvents (around E.left E.faults source.old source.new)) }
     ensures later { E.faults source.old ≤ E.faults source.new }
@@ -198,10 +220,16 @@ fn given_up<K: Keeper>(server: Server<Book<K>>, status: Status) -> Refusal<K>
     }
 }
 
-/// Writes a line for each reply and the three closing lines, and tells how the program ends.
-fn finish<K: Keeper, W: Sink>(alloc: Global, served: &Served<K>, out: &mut W) -> Status
+/// Writes the output, and tells how the program ends: a line for each reply, or for a drawn list the summary of the replies,
+/// and the three closing lines.
+fn finish<K: Keeper, W: Sink>(
+    alloc: Global,
+    drawn: Option<Drawn>,
+    served: &Served<K>,
+    out: &mut W,
+) -> Status
     ensures ends { EndsWriting (around_sink W.taken W.flushed W.faults out.old out.new)
-        (output_lines served.now.outs.items (serial_of served.now.server.handler.zone.records)
+        (lines_by drawn served.now.outs.items (serial_of served.now.server.handler.zone.records)
         served.now.server.handler.row_count (length served.now.server.kept.connections))
         status.Ok result }
     ensures later { W.faults out.old ≤ W.faults out.new }
@@ -212,6 +240,6 @@ fn finish<K: Keeper, W: Sink>(alloc: Global, served: &Served<K>, out: &mut W) ->
     let outs = served.outs.as_slice();
     after_writing(
         Status::Ok,
-        put_output(alloc, outs, serial, length, connections, out),
+        put_answers(alloc, &drawn, outs, serial, length, connections, out),
     )
 }

@@ -8,8 +8,8 @@ use crate::closed_journal::ClosedJournal;
 use crate::file_journal::FileJournal;
 use dns_command::run::run;
 use dns_command::{
-    Action, Ended, HELP, JOURNAL, Status, VERSION, ZONE, action_of, after_writing, is_command, path_of,
-    put_text, unread_words,
+    Action, Ended, HELP, JOURNAL, Status, VERSION, ZONE, action_of, after_writing, is_command,
+    path_of, put_text, unread_words,
 };
 use dns_io::{FileSource, OutOfMemory, Reading, SystemClock, Writing};
 use dns_journal::PersistenceError;

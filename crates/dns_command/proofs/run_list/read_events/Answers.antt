@@ -2,7 +2,7 @@ use Rattle.std.proofs.Common.{rules}
 use Rattle.std.proofs.lemmas.Result.{err_from_is_err_and}
 use Rattle.dns_command.specs.Steps.{event_faulty, events_without_memory}
 use Rattle.dns_command.proofs.TextsRead.{events_cut}
-use Rattle.dns_command.proofs.run_list.load_events.Goals as goal
+use Rattle.dns_command.proofs.run_list.read_events.Goals as goal
 
 pub returns-in_err-text-clause-err : goal.returns-in_err-text-clause-err
 returns-in_err-text-clause-err g c =
