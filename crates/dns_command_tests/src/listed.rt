@@ -65,7 +65,7 @@ fn is_unread_zone(rt: &impl Abort, alloc: Global, failing: u64) {
     let mut out = sink(rt, alloc, 0);
     let end = run(alloc, &words, &mut zone, &mut events, &mut out);
     ended(rt, end, Status::ReadFault, 0);
-    assert_eq!(rt; out.flushed(), b"read fault\n");
+    assert_eq!(rt; out.flushed(), b"read fault\n".as_slice());
     is_whole(rt, &mut events);
 }
 
