@@ -8,7 +8,18 @@ use dns_keeper::MemoryKeeper;
 use std::alloc::Global;
 use std::process::Abort;
 
-/// Runs the words of `events` over these objects; the journal is in memory.
+/// The output that is due to one message that is drawn from the seed 0: an update, which adds an address.
+const SUMMARY: &str = "messages 1
+replies 1
+bytes 29
+noerror 1
+nxdomain 0
+serial 8
+journal_len 9
+open 4
+";
+
+/// Runs these words over these objects; the journal is in memory.
 fn run(
     alloc: Global,
     words: &Vec<String>,
@@ -112,4 +123,17 @@ fn event_text_that_is_not_read(rt: HostRuntime) {
     is_heard(&rt, alloc, 2, Status::ReadFault, "read fault\n", 0);
     is_heard(&rt, alloc, 3, Status::ReadFault, "read fault\n", 0);
     is_heard(&rt, alloc, 4, Status::Ok, ANSWER, 8);
+}
+
+/// Draws a list, over texts whose first read fails: neither is read.
+#[test]
+fn list_that_is_drawn(rt: HostRuntime) {
+    let alloc = rt.alloc();
+    let words = words_of(&rt, alloc, "load 0 1");
+    let mut zone = source(&rt, alloc, ZONE, 1);
+    let mut events = source(&rt, alloc, QUERY, 1);
+    let mut out = sink(&rt, alloc, 0);
+    let end = run(alloc, &words, &mut zone, &mut events, &mut out);
+    ended(&rt, end, Status::Ok, 9);
+    assert_eq!(rt; out.flushed(), SUMMARY.as_bytes());
 }
