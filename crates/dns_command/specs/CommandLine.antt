@@ -88,14 +88,18 @@ abbrev pub load_options : List ℕ → List (List ℕ) → Option Options
 load_options seed (count ∷ []) = option_map options_drawn (drawn_by seed count)
 load_options seed words = None
 
+-- what a command, the word behind it, and the words behind both ask for
+abbrev pub options_by : List ℕ → List ℕ → List (List ℕ) → Option Options
+options_by command word words =
+    if bytes_eq command (codes "load") then load_options word words
+    else if bytes_eq command (codes "events") && are_options words then options_behind word words
+    else None
+
 -- what legal words ask for: `events`, an origin, and options; or `load`, a seed and a count
 unfoldable pub options_of : List (List ℕ) → Option Options
 options_of [] = None
 options_of (command ∷ []) = None
-options_of (command ∷ word ∷ words) =
-    if bytes_eq command (codes "load") then load_options word words
-    else if bytes_eq command (codes "events") && are_options words then options_behind word words
-    else None
+options_of (command ∷ word ∷ words) = options_by command word words
 
 -- who is let in: the networks of the options
 abbrev pub access_of : Options → Access

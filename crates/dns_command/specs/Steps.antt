@@ -76,8 +76,9 @@ pub data LoadsNoEvents (source : Around (List ℕ)) : Status → Type 0 where
   events_without_memory : LoadsNoEvents source status.OutOfMemory
 
 -- a drawn list of events has a zone of its own, which is that of a fixed text; then no zone text is read
-abbrev pub IsExample : Contents → Type 0
-IsExample zone = (zone.origin ≡ origin_name) × (zone_of origin_name example_text ≡ Ok zone.records)
+pub record IsExample (zone : Contents) : Type 0 where
+  pub origin : zone.origin ≡ origin_name
+  pub records : zone_of origin_name example_text ≡ Ok zone.records
 
 -- how the journal is to be opened for a drawn list
 abbrev pub FindsExample : Around (List Row) → Opening → Type 0
