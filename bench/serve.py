@@ -1,7 +1,8 @@
 #!/usr/bin/env python3
 """Times the built program as it serves on loopback, beside a bare echo in C on the same machine (load.c): replies a second and processor
 time a reply, over UDP and over one connection with many queries under way, on zones of few and of many names; how long it takes from the
-start to the first answer; and updates a second on a journal in a file, beside SQLite alone doing the same inserts.
+start to the first answer; what a second worker adds; and updates a second on a journal in a file, beside SQLite alone doing the same
+inserts.
 
   serve.py [SECONDS]  so long for each figure, or 3
 
@@ -84,6 +85,22 @@ def serving(load, seconds, folder):
                 line(f"{count} names, {way}", measured(load, server.run, server.port, way, seconds, names), bare[way])
 
 
+def replies_of(load, port, seconds, names, connections):
+    """Replies a second over so many connections at once."""
+    command = [load, "tcp", str(port), str(seconds), str(WINDOW["tcp"]), names]
+    runs = [subprocess.Popen(command, stdout=subprocess.PIPE, text=True) for _ in range(connections)]
+    outs = [run.communicate()[0].split() for run in runs]
+    return sum(int(replies) / float(passed) for replies, passed, _lost in outs)
+
+
+def second_worker(load, seconds, folder):
+    """What a second worker adds: two connections, each served by a worker of its own, beside one."""
+    zone, names = zone_of(ZONES[0], folder)
+    with clients.Serving(zone=zone, workers=2) as server:
+        one, two = (replies_of(load, server.port, seconds, names, count) for count in (1, 2))
+    print(f"{ZONES[0]} names, tcp, two workers: {two:,.0f} a second; the second adds {two / one - 1:.2f} of the first's {one:,.0f}", flush=True)
+
+
 def updated(folder):
     """Updates a second over one connection, each acknowledged before the next."""
     zone, _ = zone_of(ZONES[0], folder)
@@ -121,6 +138,7 @@ def main():
         load = str(Path(folder, "load"))
         subprocess.run([compiler, "-O2", "-o", load, TOP / "bench" / "load.c"], check=True)
         serving(load, seconds, folder)
+        second_worker(load, seconds, folder)
         ours, bare = updated(folder), inserted(folder)
         print(f"updates on a journal in a file: {ours:,.0f} a second, {100 * ours / bare:.0f} % of SQLite's own {bare:,.0f}")
 

@@ -9,7 +9,6 @@ use Rattle.dns_zone_map.specs.Zone.{Contents}
 use Rattle.dns_update.specs.declared.verdict.Verdict.{Verdict}
 use Rattle.dns_update.specs.declared.verdict.Verdict.TheVariants.{Fails, Passes}
 use Rattle.dns_update.specs.Verdict.{verdict_of}
-use Rattle.dns_zone.specs.Updates.{PreparedUpdate}
 use Rattle.dns_counts.specs.declared.asked.Asked.{Asked}
 use Rattle.dns_counts.specs.declared.asked.Replied.{Replied}
 use Rattle.dns_counts.specs.Counters.{recorded}
@@ -27,7 +26,7 @@ use Rattle.dns_book.specs.Cases.{only_question, Decides}
 use Rattle.dns_book.specs.Owed.{Grounds, code_of, reply_to, case_reply, reply_of, passing_batch, case_batch, IsWritten}
 use Rattle.dns_book.specs.Counted.{asked_of, counts_after}
 use Rattle.dns_book.specs.Book.{SeenOf, IsKept, grounds_of, Ends, idle, journalled, failed, Settles}
-use Rattle.dns_book.specs.Outcome.{IsMadeReady, AreMadeReady, records_in, prepared_in, IsReady, IsFailedReady, IsOutcome, given_of, CarriesOut}
+use Rattle.dns_book.specs.Outcome.{FailsBy, batch_in, updates_in, IsReady, IsFailedReady, IsOutcome, given_of, CarriesOut}
 
 -- the reply to an update that passes is ServFail where the journal fails, and else as without a fault
 servfail_update : (zone : Contents) (request : Request) (m : Message) (verdict : Verdict) → 0 < length (passing_batch zone m verdict)
@@ -47,12 +46,12 @@ servfail_case zone allow_update request (Query q) some = absurd (omega (arith, s
 servfail_case zone allow_update request (Update m) some = servfail_update zone request m (verdict_of zone m allow_update) some
 
 -- the reply that is given is the one that is owed
-given_ready : (protocol : Protocol) (ok broken : Reply) (outcome : Outcome) (change : Option Change) (fails : Bool) → IsReady protocol ok outcome.reply → IsFailedReady protocol broken change
-    → (fails ≡ true → 0 < length (records_in (prepared_in change))) → (owes : Bool → Reply) → owes false ≡ ok → owes true ≡ broken
+given_ready : (zone : Contents) (protocol : Protocol) (ok broken : Reply) (outcome : Outcome) (change : Option Change) (fails : Bool) → IsReady protocol ok outcome.reply → IsFailedReady protocol broken change
+    → (fails ≡ true → 0 < length (batch_in zone (updates_in change))) → (owes : Bool → Reply) → owes false ≡ ok → owes true ≡ broken
     → IsReady protocol (owes fails) (given_of outcome change fails)
-given_ready protocol ok broken outcome change false ready other some owes e f = subst (λ (r : Reply). IsReady protocol r outcome.reply) (sym e) ready
-given_ready protocol ok broken outcome None true ready other some owes e f = absurd (omega (arith, some refl))
-given_ready protocol ok broken outcome (Some change) true ready other some owes e f = subst (λ (r : Reply). IsReady protocol r change.failed) (sym f) other
+given_ready zone protocol ok broken outcome change false ready other some owes e f = subst (λ (r : Reply). IsReady protocol r outcome.reply) (sym e) ready
+given_ready zone protocol ok broken outcome None true ready other some owes e f = absurd (omega (arith, some refl))
+given_ready zone protocol ok broken outcome (Some change) true ready other some owes e f = subst (λ (r : Reply). IsReady protocol r change.failed) (sym f) other
 
 -- the keeper fails only where there is a batch
 pub failed_some : {K : Type 0} (rows : K → Option (List Row)) (faults : K → ℕ) (before : SeenOf K) (ask : Ask) (batch : List Record) (fails : Bool) (receipt : Option Receipt) (ended : SeenOf K)
@@ -71,9 +70,9 @@ pub Settles-carried : {K : Type 0} (rows : K → Option (List Row)) (faults : K 
 Settles-carried rows faults access before ask found d outcome settled after stood kept decided is come done =
     let grounds : Grounds = grounds_of before done.failed in
     let given = given_of outcome outcome.change done.failed in
-    let some = failed_some rows faults before ask (records_in (prepared_in outcome.change)) done.failed settled.receipt done.ended done.ends in
+    let some = failed_some rows faults before ask (batch_in before.zone (updates_in outcome.change)) done.failed settled.receipt done.ended done.ends in
     let ready : IsReady ask.protocol (reply_of grounds d) given =
-    given_ready ask.protocol _ _ outcome outcome.change done.failed come.reply come.failed some (owed_if before.zone before.allow_update d) refl refl in
+    given_ready before.zone ask.protocol _ _ outcome outcome.change done.failed come.reply come.failed some (owed_if before.zone before.allow_update d) refl refl in
     let told : recorded outcome.asked given.replied done.ended.counts ≡ counts_after grounds (Some d) settled.reply done.ended.counts =
     ap (λ (a : Asked). recorded a given.replied done.ended.counts) come.asked
     ∙ ap (λ (r : Replied). recorded (asked_of d) r done.ended.counts) ready.replied
@@ -114,19 +113,13 @@ Settles-silent rows faults access book ask found settled stood decided is e =
       kept = stood;
     })
 
--- what is owed where the journal fails, of a change whose batch was made ready
-pub failed_ready : (protocol : Protocol) (zone : Contents) (allow_update : Bool) (d : Decision) (reply : Reply) (change : Option Change) (prepared : Option PreparedUpdate) → prepared_in change ≡ prepared
-    → records_in prepared ≡ case_batch zone allow_update d.case → AreMadeReady zone prepared → reply ≡ owed_if zone allow_update d false → IsFailedReady protocol (record reply { code = 2 }) change
-    → IsFailedReady protocol (owed_if zone allow_update d true) change
-failed_ready protocol zone allow_update d reply None prepared is batch ready owes other = tt
-failed_ready protocol zone allow_update d reply (Some change) prepared is batch ready owes other =
-    let made : IsMadeReady zone change.prepared = subst (λ (p : Option PreparedUpdate). AreMadeReady zone p) (sym is) ready in
-    let records : change.prepared.batch.records ≡ case_batch zone allow_update d.case = ap records_in is ∙ batch in
-    let some : 0 < length (case_batch zone allow_update d.case) = subst (λ (rs : List Record). 0 < length rs) records made.some in
-    let servfail : record reply { code = 2 } ≡ owed_if zone allow_update d true =
-    ap (λ (r : Reply). record r { code = 2 }) owes ∙ sym (servfail_case zone allow_update d.request d.case some)
-    in
-    subst (λ (r : Reply). IsReady protocol r change.failed) servfail other
+-- what is owed where the journal fails, of an update that passes
+pub failed_ready : (protocol : Protocol) (change : Option Change) (updates : Option (List Record)) (reply servfail : Reply) → updates_in change ≡ updates
+    → FailsBy updates reply servfail → IsFailedReady protocol (record reply { code = 2 }) change → IsFailedReady protocol servfail change
+failed_ready protocol None updates reply servfail is so other = tt
+failed_ready protocol (Some change) updates reply servfail is so other =
+    let same : servfail ≡ record reply { code = 2 } = subst (λ (u : Option (List Record)). FailsBy u reply servfail) (sym is) so in
+    subst (λ (r : Reply). IsReady protocol r change.failed) (sym same) other
 
 -- an outcome without a change is carried out by its reply
 pub CarriesOut-none : {K : Type 0} (rows : K → Option (List Row)) (faults : K → ℕ) (book : SeenOf K) (ask : Ask) (outcome : Outcome) (settled : Settled) (after : SeenOf K)
@@ -138,29 +131,29 @@ CarriesOut-none rows faults book ask outcome settled after none is e =
       failed = false;
       reply = refl;
       ended = book;
-      ends = subst (λ (c : Option Change). Ends rows faults book ask (records_in (prepared_in c)) false None book) (sym none) (idle refl);
+      ends = subst (λ (c : Option Change). Ends rows faults book ask (batch_in book.zone (updates_in c)) false None book) (sym none) (idle refl);
       counted = is;
       length = ap (λ (b : SeenOf _). b.row_count) (sym is);
     })
 
--- one with a change, by an append
-pub CarriesOut-done : {K : Type 0} (rows : K → Option (List Row)) (faults : K → ℕ) (book : SeenOf K) (ask : Ask) (outcome : Outcome) (change : Change) (receipt : Receipt) (ended : SeenOf K) (settled : Settled) (after : SeenOf K)
-    → outcome.change ≡ Some change → Ends rows faults book ask change.prepared.batch.records false (Some receipt) ended → after ≡ record ended { counts = recorded outcome.asked outcome.reply.replied ended.counts }
-    → settled ≡ record { reply = Some outcome.reply.bytes; length = ended.row_count; receipt = Some receipt } → CarriesOut rows faults book ask outcome settled after
+-- one with an update, by what becomes of its batch
+pub CarriesOut-done : {K : Type 0} (rows : K → Option (List Row)) (faults : K → ℕ) (book : SeenOf K) (ask : Ask) (outcome : Outcome) (change : Change) (receipt : Option Receipt) (ended : SeenOf K) (settled : Settled) (after : SeenOf K)
+    → outcome.change ≡ Some change → Ends rows faults book ask (batch_in book.zone (Some change.updates)) false receipt ended → after ≡ record ended { counts = recorded outcome.asked outcome.reply.replied ended.counts }
+    → settled ≡ record { reply = Some outcome.reply.bytes; length = ended.row_count; receipt = receipt } → CarriesOut rows faults book ask outcome settled after
 CarriesOut-done rows faults book ask outcome change receipt ended settled after some ends is e =
     subst (λ (s : Settled). CarriesOut rows faults book ask outcome s after) (sym e)
     (record {
       failed = false;
       reply = refl;
       ended = ended;
-      ends = subst (λ (c : Option Change). Ends rows faults book ask (records_in (prepared_in c)) false (Some receipt) ended) (sym some) ends;
+      ends = subst (λ (c : Option Change). Ends rows faults book ask (batch_in book.zone (updates_in c)) false receipt ended) (sym some) ends;
       counted = is;
       length = ap (λ (b : SeenOf _). b.row_count) (sym is);
     })
 
 -- or by the reply for a journal that fails
 pub CarriesOut-failed : {K : Type 0} (rows : K → Option (List Row)) (faults : K → ℕ) (book : SeenOf K) (ask : Ask) (outcome : Outcome) (change : Change) (ended : SeenOf K) (settled : Settled) (after : SeenOf K)
-    → outcome.change ≡ Some change → Ends rows faults book ask change.prepared.batch.records true None ended → after ≡ record ended { counts = recorded outcome.asked change.failed.replied ended.counts }
+    → outcome.change ≡ Some change → Ends rows faults book ask (batch_in book.zone (Some change.updates)) true None ended → after ≡ record ended { counts = recorded outcome.asked change.failed.replied ended.counts }
     → settled ≡ record { reply = Some change.failed.bytes; length = ended.row_count; receipt = None } → CarriesOut rows faults book ask outcome settled after
 CarriesOut-failed rows faults book ask outcome change ended settled after some ends is e =
     subst (λ (s : Settled). CarriesOut rows faults book ask outcome s after) (sym e)
@@ -168,7 +161,7 @@ CarriesOut-failed rows faults book ask outcome change ended settled after some e
       failed = true;
       reply = ap (λ (c : Option Change). Some (given_of outcome c true).bytes) (sym some);
       ended = ended;
-      ends = subst (λ (c : Option Change). Ends rows faults book ask (records_in (prepared_in c)) true None ended) (sym some) ends;
+      ends = subst (λ (c : Option Change). Ends rows faults book ask (batch_in book.zone (updates_in c)) true None ended) (sym some) ends;
       counted = is ∙ ap (λ (c : Option Change). record ended { counts = recorded outcome.asked (given_of outcome c true).replied ended.counts }) (sym some);
       length = ap (λ (b : SeenOf _). b.row_count) (sym is);
     })

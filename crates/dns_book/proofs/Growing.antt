@@ -1,5 +1,5 @@
 -- The rows and the zone of a book after an append.
-use Rattle.std.proofs.Common.{◌≡◌, ℕ, ◌+◌, ◌<◌, ◌≤◌, List, length, length-append, Option, Some, None, false, Result, Ok, Err, refl, sym, ap, ◌∙◌, subst}
+use Rattle.std.proofs.Common.{◌≡◌, ℕ, ◌+◌, ◌<◌, ◌≤◌, List, length, length-append, Option, Some, None, false, Result, Ok, Err, inl, inr, refl, sym, ap, ◌∙◌, subst, arith}
 use Rattle.std.specs.Prelude.{IsErrOf}
 use Rattle.std.specs.List.{AllByRecursion}
 use Rattle.dns_io.specs.Edge.{Keeps}
@@ -10,16 +10,17 @@ use Rattle.dns_keeper.specs.declared.keeper.KeepFault.TheVariants as keep
 use Rattle.dns_keeper.specs.Rows.{appended}
 use Rattle.dns_keeper.specs.Keeping.{GrowsByBatch, HasCause}
 use Rattle.dns_zone_map.specs.Zone.{Contents, IsZone}
-use Rattle.dns_update.specs.Change.{serial_after_batch, applied}
+use Rattle.dns_update.specs.Change.{batch_of, serial_after_batch, applied}
 use Rattle.dns_update.specs.Modified.{modified_of}
+use Rattle.dns_update.specs.declared.batch.Batch.{Batch}
 use Rattle.dns_update.specs.declared.batch.Modified.{Modified}
 use Rattle.dns_update.specs.Replay.{IsJournalledAsIs, Replays}
 use Rattle.dns_counts.specs.Counters.{changed}
-use Rattle.dns_zone.specs.Updates.{PreparedUpdate, zone_after}
+use Rattle.dns_zone.specs.Updates.{IsBatchOf, zone_after, Journals as ZoneJournals}
 use Rattle.dns_book.specs.declared.ask.Ask.{Ask}
 use Rattle.dns_book.specs.Counted.{zone_with, counts_with}
-use Rattle.dns_book.specs.Book.{SeenOf, HasRows, StandFor, IsKept, IsLeft, receipt_of, grown, Ends, journalled, failed}
-use Rattle.dns_book.specs.Outcome.{IsMadeReady, Journals}
+use Rattle.dns_book.specs.Book.{SeenOf, HasRows, StandFor, IsKept, IsLeft, receipt_of, grown, Ends, idle, journalled, failed}
+use Rattle.dns_book.specs.Outcome.{Journals}
 use Rattle.dns_book.proofs.Opened.{length-rows_of}
 
 -- what was told is told
@@ -68,55 +69,101 @@ StandFor-grown law (Some before) (Some after) client moment zone batch is listed
     subst (λ (rows : List Row). Replays zone.origin rows (Ok (zone_with zone batch).records)) (sym grew.is)
     (law zone.origin before client grew.stamp zone.records batch listed is stand)
 
--- a book is kept after an append of a batch that was made ready
-pub IsKept-grown : {K : Type 0} → GrownRows → (rows : K → Option (List Row)) (book : SeenOf K) (keeper : K) (client moment serial row_count : ℕ) (prepared : PreparedUpdate) (zone : Contents) (counts : List (List ℕ))
-    → IsKept rows book → IsMadeReady book.zone prepared → serial ≡ prepared.batch.serial → GrowsByBatch (rows book.keeper) (rows keeper) client serial moment prepared.batch.records
-    → row_count ≡ book.row_count + length prepared.batch.records → zone ≡ zone_after book.zone prepared.batch
-    → IsKept rows (record { keeper = keeper; zone = zone; allow_update = book.allow_update; row_count = row_count; counts = counts })
-IsKept-grown law rows book keeper client moment serial row_count prepared zone counts is ready same grew more after =
-    let batch = prepared.batch.records in
-    let told : GrowsByBatch (rows book.keeper) (rows keeper) client (serial_after_batch book.zone.origin book.zone.records batch) moment batch =
-    subst (λ (n : ℕ). GrowsByBatch (rows book.keeper) (rows keeper) client n moment batch) (same ∙ ready.serial) grew in
-    let becomes : zone ≡ zone_with book.zone batch =
-    after ∙ ap (λ (n : ℕ). record { origin = book.zone.origin; records = applied book.zone.origin book.zone.records batch n }) ready.serial in
-    record {
-      count = subst (λ (n : ℕ). HasRows (rows keeper) n) (sym more) (HasRows-grown (rows book.keeper) (rows keeper) client _ moment batch book.row_count is.count told);
-      zone = subst (λ (z : Contents). StandFor (rows keeper) z) (sym becomes) (StandFor-grown law (rows book.keeper) (rows keeper) client moment book.zone batch ready.is ready.journalled is.zone told);
-    }
+-- the serial of a batch is the one that its records leave
+serial_of_batch : (zone : Contents) (updates : List Record) (batch : Batch) → IsBatchOf zone updates batch → batch.serial ≡ serial_after_batch zone.origin zone.records batch.records
+serial_of_batch zone updates batch is = is.serial ∙ ap (serial_after_batch zone.origin zone.records) (sym is.records)
 
--- an append was refused
-pub Journals-refused : {K : Type 0} (rows : K → Option (List Row)) (faults : K → ℕ) (before : SeenOf K) (keeper : K) (ask : Ask) (batch : List Record) (result : Result (Unit {0}) KeepFault) (fault : KeepFault) → 0 < length batch
-    → result ≡ Err fault → Keeps (rows before.keeper) (rows keeper) → HasCause (faults before.keeper) (faults keeper) result
-    → (IsErrOf result keep.OutOfMemory → faults keeper ≡ faults before.keeper) → Journals rows faults before ask batch (Err fault) (record before { keeper = keeper })
-Journals-refused rows faults before keeper ask batch result keep.Failed some was kept cause still = failed some keeper kept cause.later (cause.failed was)
-Journals-refused rows faults before keeper ask batch result keep.OutOfMemory some was kept cause still = record { same = refl; kept = kept; uncounted = still was }
+-- a book after an update, with its keeper and its zone
+abbrev pub updated : {K : Type 0} → SeenOf K → K → Contents → ℕ → List (List ℕ) → SeenOf K
+updated book keeper zone row_count counts = record { keeper = keeper; zone = zone; allow_update = book.allow_update; row_count = row_count; counts = counts }
 
--- a batch that was made ready came into the journal, the zone and the counts
-pub Ends-grown : {K : Type 0} (rows : K → Option (List Row)) (faults : K → ℕ) (book : SeenOf K) (keeper : K) (ask : Ask) (prepared : PreparedUpdate) (zone : Contents) (row_count serial count size : ℕ) (modified : Modified) (counts : List (List ℕ))
-    → IsMadeReady book.zone prepared → serial ≡ prepared.batch.serial → GrowsByBatch (rows book.keeper) (rows keeper) ask.client serial ask.at prepared.batch.records → faults book.keeper ≤ faults keeper
-    → count ≡ length prepared.batch.records → row_count ≡ book.row_count + count → zone ≡ zone_after book.zone prepared.batch → modified ≡ prepared.batch.modified → size ≡ length zone.records
-    → counts ≡ changed (record { added = modified.added; deleted = modified.deleted; updated = modified.updated; records = size }) book.counts
-    → Ends rows faults book ask prepared.batch.records false (Some (record { client = ask.client; first = book.row_count + 1; count = count }))
-    (record { keeper = keeper; zone = zone; allow_update = book.allow_update; row_count = row_count; counts = counts })
-Ends-grown {K} rows faults book keeper ask prepared zone row_count serial count size modified counts ready same grew later counted more after done sized told =
-    let batch = prepared.batch.records in
-    let grew_so : GrowsByBatch (rows book.keeper) (rows keeper) ask.client (serial_after_batch book.zone.origin book.zone.records batch) ask.at batch =
-    subst (λ (n : ℕ). GrowsByBatch (rows book.keeper) (rows keeper) ask.client n ask.at batch) (same ∙ ready.serial) grew in
-    let becomes : zone ≡ zone_with book.zone batch =
-    after ∙ ap (λ (n : ℕ). record { origin = book.zone.origin; records = applied book.zone.origin book.zone.records batch n }) ready.serial in
-    let rows_now : row_count ≡ book.row_count + length batch = more ∙ ap (λ (n : ℕ). book.row_count + n) counted in
-    let counts_now : counts ≡ counts_with book.zone batch book.counts =
-    told
-    ∙ ap (λ (m : Modified). changed (record { added = m.added; deleted = m.deleted; updated = m.updated; records = size }) book.counts) (done ∙ ready.modified)
-    ∙ ap (λ (n : ℕ). changed (record { added = (modified_of book.zone.origin book.zone.records batch).added; deleted = (modified_of book.zone.origin book.zone.records batch).deleted; updated = (modified_of book.zone.origin book.zone.records batch).updated; records = n }) book.counts) (sized ∙ ap (λ (z : Contents). length z.records) becomes)
-    in
-    let book_now : record { keeper = keeper; zone = zone; allow_update = book.allow_update; row_count = row_count; counts = counts } ≡ grown book keeper batch =
-    ap (λ (z : Contents). record { keeper = keeper; zone = z; allow_update = book.allow_update; row_count = row_count; counts = counts }) becomes
-    ∙ ap (λ (n : ℕ). record { keeper = keeper; zone = zone_with book.zone batch; allow_update = book.allow_update; row_count = n; counts = counts }) rows_now
-    ∙ ap (λ (c : List (List ℕ)). record { keeper = keeper; zone = zone_with book.zone batch; allow_update = book.allow_update; row_count = book.row_count + length batch; counts = c }) counts_now
-    in
-    let ends : Ends rows faults book ask batch false (Some (receipt_of book ask batch)) (grown book keeper batch) = journalled ready.some keeper grew_so later in
-    let ends_so : Ends rows faults book ask batch false (Some (record { client = ask.client; first = book.row_count + 1; count = count })) (grown book keeper batch) =
-    subst (λ (n : ℕ). Ends rows faults book ask batch false (Some (record { client = ask.client; first = book.row_count + 1; count = n })) (grown book keeper batch)) (sym counted) ends
-    in
-    subst (λ (b : SeenOf K). Ends rows faults book ask batch false (Some (record { client = ask.client; first = book.row_count + 1; count = count })) b) (sym book_now) ends_so
+-- a book of the same zone whose keeper kept its rows is kept
+pub IsKept-same : {K : Type 0} (rows : K → Option (List Row)) (book : SeenOf K) (keeper : K) (zone : Contents) → IsKept rows book → Keeps (rows book.keeper) (rows keeper) → zone ≡ book.zone
+    → IsKept rows (updated book keeper zone book.row_count book.counts)
+IsKept-same rows book keeper zone is kept same =
+    subst (λ (z : Contents). IsKept rows (updated book keeper z book.row_count book.counts)) (sym same) (IsKept-kept rows book keeper is kept)
+
+-- what is known of an update that was done: its batch, and that its records came into the rows and the zone
+pub record IsDone {K : Type 0} (rows : K → Option (List Row)) (book : SeenOf K) (keeper : K) (ask : Ask) (updates : List Record) (batch : Batch) (zone : Contents) : Type 0 where
+  pub is : IsBatchOf book.zone updates batch
+  pub done : ZoneJournals (rows book.keeper) (rows keeper) ask.client ask.at book.zone batch zone
+  pub was : IsZone book.zone.origin book.zone.records
+  pub listed : AllByRecursion (IsJournalledAsIs book.zone.origin) batch.records
+
+module _ {K : Type 0} (rows : K → Option (List Row)) (book : SeenOf K) (keeper : K) (ask : Ask) (updates : List Record) (batch : Batch) (zone : Contents) (is : IsDone rows book keeper ask updates batch zone) where
+  -- an empty batch leaves the zone
+  idle_zone : (d : ZoneJournals (rows book.keeper) (rows keeper) ask.client ask.at book.zone batch zone) → length batch.records ≡ 0 → zone ≡ book.zone
+  idle_zone (inl d) none = d.1
+  idle_zone (inr d) none = absurd (omega (arith, d.0, none))
+
+  some_zone : (d : ZoneJournals (rows book.keeper) (rows keeper) ask.client ask.at book.zone batch zone) → 0 < length batch.records → zone ≡ zone_after book.zone batch
+  some_zone (inl d) some = absurd (omega (arith, d.0, some))
+  some_zone (inr d) some = d.1
+
+  some_rows : (d : ZoneJournals (rows book.keeper) (rows keeper) ask.client ask.at book.zone batch zone) → 0 < length batch.records
+      → GrowsByBatch (rows book.keeper) (rows keeper) ask.client batch.serial ask.at batch.records
+  some_rows (inl d) some = absurd (omega (arith, d.0, some))
+  some_rows (inr d) some = d.2
+
+  pub zone_idle : length batch.records ≡ 0 → zone ≡ book.zone
+  zone_idle none = idle_zone is.done none
+
+  becomes : 0 < length batch.records → zone ≡ zone_with book.zone batch.records
+  becomes some =
+      some_zone is.done some ∙ ap (λ (n : ℕ). record { origin = book.zone.origin; records = applied book.zone.origin book.zone.records batch.records n }) (serial_of_batch book.zone updates batch is.is)
+
+  grew : 0 < length batch.records → GrowsByBatch (rows book.keeper) (rows keeper) ask.client (serial_after_batch book.zone.origin book.zone.records batch.records) ask.at batch.records
+  grew some =
+      subst (λ (n : ℕ). GrowsByBatch (rows book.keeper) (rows keeper) ask.client n ask.at batch.records) (serial_of_batch book.zone updates batch is.is) (some_rows is.done some)
+
+  -- a book is kept after an update whose batch has records
+  pub IsKept-grown : GrownRows → (row_count : ℕ) (counts : List (List ℕ)) → IsKept rows book → 0 < length batch.records → row_count ≡ book.row_count + length batch.records
+      → IsKept rows (updated book keeper zone row_count counts)
+  IsKept-grown law row_count counts stood some more = record {
+    count = subst (λ (n : ℕ). HasRows (rows keeper) n) (sym more) (HasRows-grown (rows book.keeper) (rows keeper) ask.client _ ask.at batch.records book.row_count stood.count (grew some));
+    zone = subst (λ (z : Contents). StandFor (rows keeper) z) (sym (becomes some)) (StandFor-grown law (rows book.keeper) (rows keeper) ask.client ask.at book.zone batch.records is.was is.listed stood.zone (grew some));
+  }
+
+  -- an update without a batch changed nothing
+  pub Journals-idle : (faults : K → ℕ) → length batch.records ≡ 0 → keeper ≡ book.keeper → Journals rows faults book ask (batch_of book.zone.origin book.zone.records updates) (Ok None) (updated book keeper zone book.row_count book.counts)
+  Journals-idle faults none same =
+      subst (λ (k : K). Ends rows faults book ask (batch_of book.zone.origin book.zone.records updates) false None (updated book k zone book.row_count book.counts)) (sym same)
+      (subst (λ (z : Contents). Ends rows faults book ask (batch_of book.zone.origin book.zone.records updates) false None (updated book book.keeper z book.row_count book.counts)) (sym (zone_idle none))
+      (idle (ap length (sym is.is.records) ∙ none)))
+
+  -- its batch came into the journal, the zone and the counts
+  pub Journals-grown : (faults : K → ℕ) (row_count count size : ℕ) (counts : List (List ℕ)) → 0 < length batch.records → faults book.keeper ≤ faults keeper
+      → count ≡ length batch.records → row_count ≡ book.row_count + count → size ≡ length zone.records
+      → counts ≡ changed (record { added = batch.modified.added; deleted = batch.modified.deleted; updated = batch.modified.updated; records = size }) book.counts
+      → Journals rows faults book ask (batch_of book.zone.origin book.zone.records updates) (Ok (Some (record { client = ask.client; first = book.row_count + 1; count = count })))
+      (updated book keeper zone row_count counts)
+  Journals-grown faults row_count count size counts some later counted more sized told =
+      let records = batch.records in
+      let rows_now : row_count ≡ book.row_count + length records = more ∙ ap (λ (n : ℕ). book.row_count + n) counted in
+      let counts_now : counts ≡ counts_with book.zone records book.counts =
+      told
+      ∙ ap (λ (m : Modified). changed (record { added = m.added; deleted = m.deleted; updated = m.updated; records = size }) book.counts) is.is.modified
+      ∙ ap (λ (n : ℕ). changed (record { added = (modified_of book.zone.origin book.zone.records records).added; deleted = (modified_of book.zone.origin book.zone.records records).deleted; updated = (modified_of book.zone.origin book.zone.records records).updated; records = n }) book.counts) (sized ∙ ap (λ (z : Contents). length z.records) (becomes some))
+      in
+      let book_now : updated book keeper zone row_count counts ≡ grown book keeper records =
+      ap (λ (z : Contents). updated book keeper z row_count counts) (becomes some)
+      ∙ ap (λ (n : ℕ). updated book keeper (zone_with book.zone records) n counts) rows_now
+      ∙ ap (λ (c : List (List ℕ)). updated book keeper (zone_with book.zone records) (book.row_count + length records) c) counts_now
+      in
+      let ends : Ends rows faults book ask records false (Some (receipt_of book ask records)) (grown book keeper records) = journalled some keeper (grew some) later in
+      let ends_so : Ends rows faults book ask records false (Some (record { client = ask.client; first = book.row_count + 1; count = count })) (grown book keeper records) =
+      subst (λ (n : ℕ). Ends rows faults book ask records false (Some (record { client = ask.client; first = book.row_count + 1; count = n })) (grown book keeper records)) (sym counted) ends
+      in
+      subst (λ (l : List Record). Ends rows faults book ask l false (Some (record { client = ask.client; first = book.row_count + 1; count = count })) (updated book keeper zone row_count counts)) is.is.records
+      (subst (λ (b : SeenOf K). Ends rows faults book ask records false (Some (record { client = ask.client; first = book.row_count + 1; count = count })) b) (sym book_now) ends_so)
+
+-- an update was refused
+pub Journals-refused : {K : Type 0} (rows : K → Option (List Row)) (faults : K → ℕ) (book : SeenOf K) (keeper : K) (zone : Contents) (ask : Ask) (batch : List Record) (result : Result Batch KeepFault) (fault : KeepFault)
+    → result ≡ Err fault → zone ≡ book.zone → (IsErrOf result keep.Failed → 0 < length batch) → Keeps (rows book.keeper) (rows keeper) → HasCause (faults book.keeper) (faults keeper) result
+    → (IsErrOf result keep.OutOfMemory → faults keeper ≡ faults book.keeper) → Journals rows faults book ask batch (Err fault) (updated book keeper zone book.row_count book.counts)
+Journals-refused {K} rows faults book keeper zone ask batch result fault was same some kept cause still =
+    subst (λ (z : Contents). Journals rows faults book ask batch (Err fault) (updated book keeper z book.row_count book.counts)) (sym same) (refused fault was)
+  where
+    refused : (fault : KeepFault) → result ≡ Err fault → Journals rows faults book ask batch (Err fault) (record book { keeper = keeper })
+    refused keep.Failed was = failed (some was) keeper kept cause.later (cause.failed was)
+    refused keep.OutOfMemory was = record { same = refl; kept = kept; uncounted = still was }

@@ -1,9 +1,9 @@
-//! What a message comes to: its replies and the batch that it brings, made ready before anything changes.
+//! What a message comes to: its replies, made ready before anything changes, and the update that it asks for.
 
 ghost use Rattle.std.specs.Prelude.{◌≡◌, ℕ, IfOk, IfSome, true, false};
 ghost use Rattle.dns_wire.specs.declared.reply.Reply.{Reply as Owing};
 ghost use Rattle.dns_book.specs.Owed.{reply_of, HasRoom, IsFit};
-ghost use Rattle.dns_book.specs.Outcome.{IsReady, AreMadeReady, records_in, prepared_in, IsFailedReady, IsOutcome};
+ghost use Rattle.dns_book.specs.Outcome.{IsReady, ArePassing, batch_in, updates_in, IsFailedReady, IsOutcome};
 
 use crate::counted::{asked_of, replied_of};
 use crate::decision::Decision;
@@ -11,9 +11,9 @@ use crate::owed::{Owed, limit_of, owed_by};
 use crate::reply_bytes::ReplyBytes;
 use dns_counts::{Asked, Replied};
 use dns_io::{OutOfMemory, Protocol};
-use dns_wire::Reply;
 use dns_wire::response_code::SERV_FAIL;
-use dns_zone::{Prepared, Zone};
+use dns_wire::{Records, Reply};
+use dns_zone::Zone;
 use std::alloc::Global;
 
 /// A reply that can be sent.
@@ -25,11 +25,11 @@ pub(crate) struct ReadyReply {
     pub(crate) bytes: ReplyBytes,
 }
 
-/// An update that changes the zone.
+/// An update that passes.
 #[derive(Drop)]
 pub(crate) struct Change {
-    /// Its batch, and the zone after it.
-    pub(crate) prepared: Prepared,
+    /// Its records.
+    pub(crate) updates: Records,
     /// The reply where the journal fails: ServFail.
     pub(crate) failed: ReadyReply,
 }
@@ -55,7 +55,7 @@ pub(crate) fn outcome_of(
 ) -> Result<Outcome, OutOfMemory>
     requires { IsFit zone.now decision.case }
     ensures is { IfOk result (IsOutcome zone.now allow_update protocol decision) }
-    ensures ready { IfOk result (λ outcome. AreMadeReady zone.now (prepared_in outcome.change)) }
+    ensures passing { IfOk result (λ outcome. ArePassing zone.now (updates_in outcome.change)) }
 {
     let asked = asked_of(&decision);
     let owed = owed_by(alloc, zone, allow_update, decision)?;
@@ -71,19 +71,16 @@ pub(crate) fn outcome_of(
 /// The change that a message makes whose reply is owed and whose batch is made ready.
 fn change_of(alloc: Global, protocol: Protocol, owed: Owed) -> Result<Option<Change>, OutOfMemory>
     requires { HasRoom owed.reply }
-    ensures prepared { IfOk result (λ change. prepared_in change ≡ owed.prepared) }
+    ensures updates { IfOk result (λ change. updates_in change ≡ owed.updates) }
     ensures failed { IfOk result (IsFailedReady protocol (record owed.reply { code = 2 })) }
 {
-    let Owed {
-        mut reply,
-        prepared,
-    } = owed;
-    let Some(prepared) = prepared else {
+    let Owed { mut reply, updates } = owed;
+    let Some(updates) = updates else {
         return Ok(None);
     };
     reply.code = SERV_FAIL;
     let failed = ready_reply(alloc, protocol, &reply)?;
-    Ok(Some(Change { prepared, failed }))
+    Ok(Some(Change { updates, failed }))
 }
 
 /// Writes a reply.

@@ -1,6 +1,6 @@
 //! What a message is owed (RFC 1034 4.3, RFC 2136 3, RFC 6891 6.1).
 
-ghost use Rattle.std.specs.Prelude.{◌≡◌, ◌≤◌, ◌<◌, length, IfOk, IfSome, [], false};
+ghost use Rattle.std.specs.Prelude.{◌≡◌, true, ◌≤◌, ◌<◌, length, IfOk, IfSome, [], false};
 ghost use Rattle.std.specs.List.{AllByRecursion};
 ghost use Rattle.dns_wire.specs.ReadBack.{ReadsBack};
 ghost use Rattle.dns_update.specs.declared.verdict.Verdict.TheVariants.{Passes};
@@ -8,7 +8,7 @@ ghost use Rattle.dns_update.specs.Verdict.{prescan};
 ghost use Rattle.dns_update.specs.Change.{batch_of};
 ghost use Rattle.dns_book.specs.declared.decision.Case.TheVariants.{Update};
 ghost use Rattle.dns_book.specs.Owed.{id_for, edns_for, limit_of, reply_to, looked_reply, update_reply, reply_of, HasRoom, IsFit, case_batch};
-ghost use Rattle.dns_book.specs.Outcome.{AreMadeReady, records_in};
+ghost use Rattle.dns_book.specs.Outcome.{ArePassing, FailsBy, batch_in};
 
 use crate::decision::{Case, Decision, Request, only_question};
 use dns_io::{OutOfMemory, Protocol};
@@ -16,7 +16,7 @@ use dns_update::laws::verdicts;
 use dns_wire::limits::{MAX_MESSAGE_LEN, MIN_UDP_PAYLOAD};
 use dns_wire::response_code::{BAD_VERS, FORM_ERR, NO_ERROR, NOT_IMP, REFUSED};
 use dns_wire::{Edns, Message, Question, Records, Reply};
-use dns_zone::{Looked, Prepared, Verdict, Zone};
+use dns_zone::{Looked, Verdict, Zone};
 use std::alloc::Global;
 
 /// What a message is owed where the journal does not fail.
@@ -24,8 +24,8 @@ use std::alloc::Global;
 pub(crate) struct Owed {
     /// The reply.
     pub(crate) reply: Reply,
-    /// The records that it brings into the journal and the zone after them, where there are any.
-    pub(crate) prepared: Option<Prepared>,
+    /// The update records, where it is an update that passes; those that change the zone are then its batch.
+    pub(crate) updates: Option<Records>,
 }
 
 /// What a message is owed, by its case. `allow_update` says whether updates are let in (RFC 2136 3.3).
@@ -38,8 +38,9 @@ pub(crate) fn owed_by(
     requires { IsFit zone.now decision.case }
     ensures reply { IfOk result (λ owed. owed.reply ≡ reply_of (record { zone = zone.now; allow_update = allow_update; failed = false }) decision) }
     ensures fits { IfOk result (λ owed. HasRoom owed.reply) }
-    ensures batch { IfOk result (λ owed. records_in owed.prepared ≡ case_batch zone.now allow_update decision.case) }
-    ensures ready { IfOk result (λ owed. AreMadeReady zone.now owed.prepared) }
+    ensures batch { IfOk result (λ owed. batch_in zone.now owed.updates ≡ case_batch zone.now allow_update decision.case) }
+    ensures passing { IfOk result (λ owed. ArePassing zone.now owed.updates) }
+    ensures failed { IfOk result (λ owed. FailsBy owed.updates owed.reply (reply_of (record { zone = zone.now; allow_update = allow_update; failed = true }) decision)) }
 {
     let request = decision.request;
     match decision.case {
@@ -61,11 +62,11 @@ pub(crate) fn owed_by(
 
 /// A reply beside which nothing is done.
 fn alone(reply: Reply) -> Owed
-    ensures { result ≡ record { reply = reply; prepared = None } }
+    ensures { result ≡ record { reply = reply; updates = None } }
 {
     Owed {
         reply,
-        prepared: None,
+        updates: None,
     }
 }
 
@@ -80,8 +81,9 @@ fn owed_update(
     requires { IsFit zone.now (Update message) }
     ensures reply { IfOk result (λ owed. owed.reply ≡ update_reply (record { zone = zone.now; allow_update = allow_update; failed = false }) request.now message) }
     ensures fits { IfOk result (λ owed. HasRoom owed.reply) }
-    ensures batch { IfOk result (λ owed. records_in owed.prepared ≡ case_batch zone.now allow_update (Update message)) }
-    ensures ready { IfOk result (λ owed. AreMadeReady zone.now owed.prepared) }
+    ensures batch { IfOk result (λ owed. batch_in zone.now owed.updates ≡ case_batch zone.now allow_update (Update message)) }
+    ensures passing { IfOk result (λ owed. ArePassing zone.now owed.updates) }
+    ensures failed { IfOk result (λ owed. FailsBy owed.updates owed.reply (update_reply (record { zone = zone.now; allow_update = allow_update; failed = true }) request.now message)) }
 {
     match zone.judge(alloc, &message, allow_update)? {
         Verdict::Fails(code) => {
@@ -90,30 +92,14 @@ fn owed_update(
         }
         Verdict::Passes => {
             verdicts();
-            let prepared = prepared_batch(alloc, zone, &message.authority)?;
             let question = only_question(message.questions);
             let reply = refusal(alloc, request, NO_ERROR, question);
-            Ok(Owed { reply, prepared })
+            Ok(Owed {
+                reply,
+                updates: Some(message.authority),
+            })
         }
     }
-}
-
-/// The batch of an update, made ready for the journal; none where it is empty (RFC 2136 3.4.2).
-fn prepared_batch(
-    alloc: Global,
-    zone: &Zone,
-    updates: &Records,
-) -> Result<Option<Prepared>, OutOfMemory>
-    requires passes { prescan zone.now.origin updates.now ≡ Passes }
-    requires back { AllByRecursion ReadsBack updates.now }
-    ensures batch { IfOk result (λ prepared. records_in prepared ≡ batch_of zone.now.origin zone.now.records updates.now) }
-    ensures ready { IfOk result (AreMadeReady zone.now) }
-{
-    let prepared = zone.prepare(alloc, updates)?;
-    if prepared.records().len() == 0 {
-        return Ok(None);
-    }
-    Ok(Some(prepared))
 }
 
 fn id_for(protocol: Protocol, id: u16) -> u16

@@ -3,7 +3,8 @@
 ghost use Rattle.std.specs.Prelude.{◌≡◌, ◌<◌, ◌^◌, IfOk, OnErr, None, Some};
 ghost use Rattle.dns_counts.specs.Counters.{recorded, changed};
 ghost use Rattle.dns_book.specs.Book.{IsKept, IsLeft};
-ghost use Rattle.dns_book.specs.Outcome.{IsMadeReady, AreMadeReady, prepared_in, Journals, CarriesOut};
+ghost use Rattle.dns_book.specs.Outcome.{IsPassing, ArePassing, updates_in, Journals, CarriesOut};
+ghost use Rattle.dns_update.specs.Change.{batch_of};
 
 use crate::ask::{Ask, Receipt, Settled};
 use crate::book::Book;
@@ -11,15 +12,16 @@ use crate::outcome::{Change, Outcome, ReadyReply};
 use dns_counts::{Asked, Counts};
 use dns_io::OutOfMemory;
 use dns_keeper::{KeepFault, Keeper};
-use dns_update::laws::replays;
-use dns_zone::{Modified, Prepared};
+use dns_update::laws::{batches, replays};
+use dns_wire::Records;
+use dns_zone::Modified;
 
 impl<K: Keeper> Book<K> {
     /// Carries out what a message comes to: a change of the zone is journalled by one append, and then the zone is
     /// changed; the reply is counted. Where memory ran out, nothing has changed.
     pub(crate) fn carry_out(&mut self, ask: &Ask, outcome: Outcome) -> Result<Settled, OutOfMemory>
         requires moment { ask.now.at < 2 ^ 47 }
-        requires ready { AreMadeReady self.old.zone (prepared_in outcome.change) }
+        requires passing { ArePassing self.old.zone (updates_in outcome.change) }
         ensures ok { IfOk result (λ settled. CarriesOut K.rows K.faults self.old ask.now outcome settled self.new) }
         ensures kept { IsKept K.rows self.new }
         ensures err { OnErr result (IsLeft K.rows K.faults self.old self.new) }
@@ -32,45 +34,48 @@ impl<K: Keeper> Book<K> {
         let Some(change) = change else {
             return Ok(self.answered(&asked, reply, None));
         };
-        let Change { prepared, failed } = change;
-        match self.journal(ask, prepared) {
-            Ok(receipt) => Ok(self.answered(&asked, reply, Some(receipt))),
+        let Change { updates, failed } = change;
+        match self.journal(ask, &updates) {
+            Ok(receipt) => Ok(self.answered(&asked, reply, receipt)),
             Err(KeepFault::Failed) => Ok(self.answered(&asked, failed, None)),
             Err(KeepFault::OutOfMemory) => Err(OutOfMemory),
         }
     }
 
-    /// Journals a batch that was made ready, by one append, and then changes the zone. Where the keeper refuses, nothing
-    /// has changed.
-    fn journal(&mut self, ask: &Ask, prepared: Prepared) -> Result<Receipt, KeepFault>
+    /// Does an update that passes: its batch, where it has records, is journalled by one append. Where it has none, where the
+    /// keeper refuses it, and where memory runs out, nothing has changed.
+    fn journal(&mut self, ask: &Ask, updates: &Records) -> Result<Option<Receipt>, KeepFault>
         requires moment { ask.now.at < 2 ^ 47 }
-        requires ready { IsMadeReady self.old.zone prepared }
-        ensures is { Journals K.rows K.faults self.old ask.now prepared.batch.records result self.new }
+        requires passing { IsPassing self.old.zone updates.now }
+        ensures is { Journals K.rows K.faults self.old ask.now (batch_of self.old.zone.origin self.old.zone.records updates.now) result self.new }
         ensures kept { IsKept K.rows self.new }
     {
         replays();
-        let records = prepared.records();
-        let count = records.len() as u64;
-        let Some(row_count) = self.row_count.checked_add(count) else {
+        batches();
+        let most = updates.len() as u64;
+        if u64::MAX - self.row_count < most {
             return Err(KeepFault::OutOfMemory);
-        };
-        match self
-            .keeper
-            .append(ask.client, prepared.serial(), ask.at, records)
+        }
+        let (alloc, keeper) = (self.alloc, &mut self.keeper);
+        let batch = match self
+            .zone
+            .journal(alloc, keeper, ask.client, ask.at, updates)
         {
-            Ok(()) => {}
+            Ok(batch) => batch,
             Err(fault) => return Err(fault),
+        };
+        let count = batch.records.len() as u64;
+        if count == 0 {
+            return Ok(None);
         }
         let receipt = Receipt {
             client: ask.client,
             first: self.row_count + 1,
             count,
         };
-        let modified = prepared.modified();
-        self.zone.adopt(prepared);
-        self.row_count = row_count;
-        count_change(&mut self.counts, modified, self.zone.len() as u64);
-        Ok(receipt)
+        self.row_count += count;
+        count_change(&mut self.counts, batch.modified, self.zone.len() as u64);
+        Ok(Some(receipt))
     }
 
     /// Counts the reply to a message.

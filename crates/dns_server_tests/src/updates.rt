@@ -1,14 +1,11 @@
 //! Updates of a book: the reply, the journal and the counters, over a keeper of which one append fails (RFC 2136 3.4.2.7).
 
-use crate::book::{ask, count_is, origin};
+use crate::book::{are_counted, book_of, settle};
 use dns_book::*;
-use dns_counts::Counts;
 use dns_io::Protocol;
 use dns_keeper::MemoryKeeper;
-use dns_zone::read_zone;
 use std::alloc::Global;
 use std::process::Abort;
-use std::test::Fail;
 
 const ZONE: &str =
     "example.com. 3600 IN SOA ns.example.com. hostmaster.example.com. 7 3600 600 86400 300
@@ -35,18 +32,18 @@ const SERV_FAIL: &[u8] = b"\x12\x34\xa8\x02\0\x01\0\0\0\0\0\0\x07example\x03com\
 const REFUSED: &[u8] = b"\x12\x34\xa8\x05\0\x01\0\0\0\0\0\0\x07example\x03com\0\0\x06\0\x01";
 
 /// A book that was begun on a journal without rows, of which the append calls with these numbers fail.
-fn book(alloc: Global, failing: Vec<u64>, allow_update: bool) -> Result<Book<MemoryKeeper>, Fail> {
-    let origin = origin(alloc)?;
-    let zone = read_zone(alloc, ZONE.as_bytes(), &origin)?;
+fn book(
+    rt: &impl Abort,
+    alloc: Global,
+    failing: Vec<u64>,
+    allow_update: bool,
+) -> Book<MemoryKeeper> {
     let keeper = MemoryKeeper::failing(alloc, failing, Vec::new(alloc));
-    match Book::open(alloc, keeper, origin, allow_update, 0, Some(zone)) {
-        Ok(book) => Ok(book),
-        Err(_) => Err(Fail::from("not opened")),
-    }
+    book_of(rt, alloc, keeper, allow_update, ZONE)
 }
 
 /// Asserts the reply to an update, the serial and the number of rows after it, and which row it added, if any.
-fn expect(
+fn gets(
     rt: &impl Abort,
     alloc: Global,
     book: &mut Book<MemoryKeeper>,
@@ -54,14 +51,20 @@ fn expect(
     reply: &[u8],
     after: (u32, u64),
     added: Option<u64>,
-) -> Result<(), Fail> {
-    let ask = ask(alloc, update, Protocol::Udp)?;
-    let settled = book.settle(&AccessControl::new(alloc), &ask)?;
+) {
+    let settled = settle(
+        rt,
+        alloc,
+        book,
+        &AccessControl::new(alloc),
+        update,
+        Protocol::Udp,
+    );
     assert_eq!(rt; settled.length, after.1);
     assert_eq!(rt; settled.receipt, added.map(one_row));
     assert_eq!(rt; book.serial(), after.0);
-    assert_eq!(rt; settled.reply.ok_or("no reply")?.as_slice(), reply);
-    Ok(())
+    let given = settled.reply.expect(rt, "a reply");
+    assert_eq!(rt; given.as_slice(), reply);
 }
 
 /// A receipt of one row.
@@ -75,27 +78,20 @@ fn one_row(first: u64) -> Receipt {
 
 /// Four updates: one that adds a record, one whose append fails, the same once more, and the same again, which then changes
 /// nothing.
-fn update(rt: &impl Abort, alloc: Global, book: &mut Book<MemoryKeeper>) -> Result<(), Fail> {
-    expect(rt, alloc, book, ADD, NO_ERROR, (8, 9), Some(9))?;
-    expect(rt, alloc, book, ADD_OTHER, SERV_FAIL, (8, 9), None)?;
-    expect(rt, alloc, book, ADD_OTHER, NO_ERROR, (9, 10), Some(10))?;
-    expect(rt, alloc, book, ADD_OTHER, NO_ERROR, (9, 10), None)
-}
-
-/// Asserts each of these counts.
-fn are_counted(rt: &impl Abort, alloc: Global, counts: &Counts) -> Result<(), Fail> {
-    for line in COUNTS.split('\n') {
-        count_is(rt, alloc, counts, line)?;
-    }
-    Ok(())
+fn update(rt: &impl Abort, alloc: Global, book: &mut Book<MemoryKeeper>) {
+    gets(rt, alloc, book, ADD, NO_ERROR, (8, 9), Some(9));
+    gets(rt, alloc, book, ADD_OTHER, SERV_FAIL, (8, 9), None);
+    gets(rt, alloc, book, ADD_OTHER, NO_ERROR, (9, 10), Some(10));
+    gets(rt, alloc, book, ADD_OTHER, NO_ERROR, (9, 10), None);
 }
 
 #[test]
-fn update_in_the_journal_or_nowhere(rt: HostRuntime) -> Result<(), Fail> {
+fn update_in_the_journal_or_nowhere(rt: HostRuntime) {
     let alloc = rt.alloc();
-    let mut book = book(alloc, vec![in alloc; 3]?, true)?;
-    update(&rt, alloc, &mut book)?;
-    are_counted(&rt, alloc, book.counts())
+    let failing = vec![in alloc; 3].expect(&rt, "ample memory");
+    let mut book = book(&rt, alloc, failing, true);
+    update(&rt, alloc, &mut book);
+    are_counted(&rt, alloc, book.counts(), COUNTS);
 }
 
 /// The counts after three updates that pass and one whose append fails.
@@ -107,8 +103,8 @@ hickory_response_codes_total|no_error|3
 hickory_response_codes_total|serv_fail|1";
 
 #[test]
-fn updates_are_not_let_in(rt: HostRuntime) -> Result<(), Fail> {
+fn updates_are_not_let_in(rt: HostRuntime) {
     let alloc = rt.alloc();
-    let mut book = book(alloc, Vec::new(alloc), false)?;
-    expect(&rt, alloc, &mut book, ADD, REFUSED, (7, 8), None)
+    let mut book = book(&rt, alloc, Vec::new(alloc), false);
+    gets(&rt, alloc, &mut book, ADD, REFUSED, (7, 8), None);
 }

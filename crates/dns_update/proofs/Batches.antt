@@ -1,6 +1,6 @@
 -- What the records of a batch are, and what they do.
-use Rattle.std.proofs.Common.{◌≡◌, ℕ, List, [], ◌∷◌, refl, ap, ◌∙◌, subst, Bool, true, false}
-use Rattle.std.specs.Prelude.{not, ◌==◌, ◌&&◌, if◌then◌else◌}
+use Rattle.std.proofs.Common.{◌≡◌, ℕ, suc, List, [], ◌∷◌, refl, ap, ◌∙◌, subst, Bool, true, false, arith}
+use Rattle.std.specs.Prelude.{◌≤◌, length, not, ◌==◌, ◌&&◌, if◌then◌else◌}
 use Rattle.std.specs.List.{list_any, AllByRecursion}
 use Rattle.dns_name.specs.Name.{is_same_name, is_at_or_below}
 use Rattle.dns_wire.specs.declared.record.Record.{Record}
@@ -95,6 +95,17 @@ batch_journalled origin l [] back passed = tt
 batch_journalled origin l (r ∷ rs) back passed =
     let parts = both_pass (prescan_rule origin r) (prescan origin rs) passed in
     batch_if (are_same_records (change origin l (fold_record r)) l) origin l r rs refl back.0 parts.0 (λ m. batch_journalled origin m rs back.1 parts.1)
+
+few_if : (b : Bool) (r : Record) (n : ℕ) (same more : List Record) → length same ≤ n → length more ≤ n → length (if b then same else r ∷ more) ≤ suc n
+few_if true r n same more p q = omega (arith, p)
+few_if false r n same more p q = omega (arith, q)
+
+-- a batch has no more records than its update
+pub batch_few : (origin : List (List ℕ)) (l : List Record) (rs : List Record) → length (batch_of origin l rs) ≤ length rs
+batch_few origin l [] = omega arith
+batch_few origin l (r ∷ rs) =
+    few_if (are_same_records (change origin l (fold_record r)) l) (fold_record r) (length rs) (batch_of origin l rs) (batch_of origin (change origin l (fold_record r)) rs)
+    (batch_few origin l rs) (batch_few origin (change origin l (fold_record r)) rs)
 
 -- what can be journalled passes the prescan
 journalled_if : (within update home : Bool) → (within && (update && home)) ≡ true → (if not within then Fails 10 else demand update 1) ≡ Passes

@@ -6,6 +6,7 @@ ghost use Rattle.dns_name.specs.Name.{is_at_or_below};
 ghost use Rattle.dns_wire.specs.declared.record.Record.{Record};
 ghost use Rattle.dns_wire.specs.WireFormat.{AreShort};
 ghost use Rattle.dns_wire.specs.ReadBack.{ReadsBack};
+ghost use Rattle.dns_zone_map.specs.Mapped.{contents};
 ghost use Rattle.dns_zone_map.specs.Zone.{Contents, serial_of, IsZone};
 ghost use Rattle.dns_update.specs.declared.verdict.Verdict.TheVariants.{Passes};
 ghost use Rattle.dns_update.specs.Change.{fold_record, makes_change, change, steps, batch_of, serial_after_batch, serial_after, applied};
@@ -54,6 +55,7 @@ pub fn change(alloc: Global, map: &mut ZoneMap, one: &Record) -> Result<bool, Ou
     ensures records { OnOk result (map.new.records ≡ change map.old.origin map.old.records one.now) }
     ensures origin { map.new.origin ≡ map.old.origin }
     ensures zone { IsZone map.new.origin map.new.records }
+    ensures before { map.new.before ≡ map.old.before }
     ensures err { OnErr result (map.new ≡ map.old) }
 {
     if !makes_change(map, one) {
@@ -100,9 +102,11 @@ impl Work {
         requires passes { prescan_rule map.old.origin one.now ≡ Passes }
         requires back { ReadsBack one.now }
         requires counted { sum_of self.old.modified ≡ length self.old.records.items }
-        ensures { OnOk result ((before : Contents) (updates rest : List Record)
-            → IsUnderWay before updates (one.now ∷ rest) map.old self.old.records.items self.old.modified
-            → IsUnderWay before updates rest map.new self.new.records.items self.new.modified) }
+        ensures next { OnOk result ((before : Contents) (updates rest : List Record)
+            → IsUnderWay before updates (one.now ∷ rest) (contents map.old) self.old.records.items self.old.modified
+            → IsUnderWay before updates rest (contents map.new) self.new.records.items self.new.modified) }
+        ensures origin { map.new.origin ≡ map.old.origin }
+        ensures before { map.new.before ≡ map.old.before }
     {
         let small = folded_record(alloc, one)?;
         let size = map.len();
@@ -118,7 +122,8 @@ impl Work {
 }
 
 /// Does an update that passes (RFC 2136 3.4.2): its records in turn, their names in small letters, and then the serial is
-/// raised by one, where a record changed the zone (RFC 2136 3.6). Where memory runs out part of it may be done.
+/// raised by one, where a record changed the zone (RFC 2136 3.6). Where memory runs out part of it may be done; where changes
+/// can be undone, undoing takes all of it back.
 pub fn update(alloc: Global, map: &mut ZoneMap, updates: &[Record]) -> Result<Batch, OutOfMemory>
     requires zone { IsZone map.old.origin map.old.records }
     requires passes { prescan map.old.origin updates.now ≡ Passes }
@@ -127,14 +132,15 @@ pub fn update(alloc: Global, map: &mut ZoneMap, updates: &[Record]) -> Result<Ba
     ensures serial { IfOk result (λ batch. batch.serial ≡ serial_after map.old.origin map.old.records updates.now) }
     ensures modified { IfOk result (λ batch. batch.modified ≡ modified_of map.old.origin map.old.records batch.records) }
     ensures records { IfOk result (λ batch. map.new.records ≡ applied map.old.origin map.old.records batch.records batch.serial) }
-    ensures origin { OnOk result (map.new.origin ≡ map.old.origin) }
+    ensures origin { map.new.origin ≡ map.old.origin }
     ensures zone { OnOk result (IsZone map.new.origin map.new.records) }
+    ensures before { map.new.before ≡ map.old.before }
     ensures journalled { IfOk result (λ batch. AllByRecursion (IsJournalledAsIs map.old.origin) batch.records) }
     ensures short { IfOk result (λ batch. AreShort batch.records) }
 {
     let work = gathered(alloc, map, updates)?;
     let serial = serial_behind(map.serial(), work.records.len());
-    set_serial(map, serial)?;
+    set_serial(alloc, map, serial)?;
     Ok(Batch {
         records: Records::from_vec(work.records),
         serial,
@@ -158,7 +164,9 @@ fn gathered(alloc: Global, map: &mut ZoneMap, updates: &[Record]) -> Result<Work
     requires zone { IsZone map.old.origin map.old.records }
     requires passes { prescan map.old.origin updates.now ≡ Passes }
     requires back { AllByRecursion ReadsBack updates.now }
-    ensures { IfOk result (λ work. IsUnderWay map.old updates.now [] map.new work.records.items work.modified) }
+    ensures done { IfOk result (λ work. IsUnderWay (contents map.old) updates.now [] (contents map.new) work.records.items work.modified) }
+    ensures origin { map.new.origin ≡ map.old.origin }
+    ensures before { map.new.before ≡ map.old.before }
 {
     let mut work = Work {
         records: Vec::new(alloc),
@@ -188,7 +196,7 @@ pub fn apply(
     ensures zone { OnOk result (IsZone map.new.origin map.new.records) }
 {
     apply_each(alloc, map, batch)?;
-    set_serial(map, serial)?;
+    set_serial(alloc, map, serial)?;
     Ok(())
 }
 

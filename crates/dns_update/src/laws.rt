@@ -1,6 +1,6 @@
 //! What updates and journals obey: each law is a call that does nothing and whose contract is the law.
 
-ghost use Rattle.std.specs.Prelude.{◌≡◌, ◌+◌, ◌++◌, ℕ, pos, List, [], Bool, true, length, Result, Ok};
+ghost use Rattle.std.specs.Prelude.{◌≡◌, ◌+◌, ◌≤◌, ◌++◌, ℕ, pos, List, [], Bool, true, length, Result, Ok};
 ghost use Rattle.std.specs.List.{list_any, AllByRecursion};
 ghost use Rattle.dns_name.specs.Name.{IsName, fold_of};
 ghost use Rattle.dns_wire.specs.declared.record_type.TheConstants.{SOA};
@@ -44,6 +44,8 @@ pub fn batches()
     // They pass the prescan again.
     ensures passes { (origin : List (List ℕ)) (records updates : List Record) → AllByRecursion ReadsBack updates
         → prescan origin updates ≡ Passes → prescan origin (batch_of origin records updates) ≡ Passes }
+    // They are no more than those of the update.
+    ensures few { (origin : List (List ℕ)) (records updates : List Record) → length (batch_of origin records updates) ≤ length updates }
 {}
 
 /// What holds of the rows of a journal.

@@ -6,6 +6,7 @@ ghost use Rattle.dns_name.specs.Name.{is_at_or_below};
 ghost use Rattle.dns_zone_map.specs.Folds.{data_eq};
 ghost use Rattle.dns_zone_map.specs.Zone.{is_in_set, set_of};
 ghost use Rattle.dns_zone_map.specs.Existence.{owns_type};
+ghost use Rattle.dns_zone_map.specs.Mapped.{contents};
 ghost use Rattle.dns_update.specs.Verdict.{is_in_use, existence_rule, absence_rule, prerequisite_rule, in_turn, gathered_of, has_data, is_same_set, set_rule, gathered_rule, prerequisites_rule};
 
 use crate::folding::folded_record;
@@ -209,7 +210,7 @@ pub(crate) fn prerequisites_rule(
     map: &ZoneMap,
     prerequisites: &[Record],
 ) -> Result<Verdict, OutOfMemory>
-    ensures { IfOk result (λ verdict. verdict ≡ prerequisites_rule map.now prerequisites.now) }
+    ensures { IfOk result (λ verdict. verdict ≡ prerequisites_rule (contents map.now) prerequisites.now) }
 {
     match each_alone(map, prerequisites) {
         Verdict::Fails(code) => Ok(Verdict::Fails(code)),

@@ -2,6 +2,7 @@
 
 ghost use Rattle.std.specs.Prelude.{◌≡◌, ◌&&◌, ◌==◌, length, IfOk};
 ghost use Rattle.dns_name.specs.Name.{is_same_name};
+ghost use Rattle.dns_zone_map.specs.Mapped.{contents};
 ghost use Rattle.dns_update.specs.Verdict.{zone_rule, section_rule, records_rule, verdict_of};
 
 use crate::prerequisites::prerequisites_rule;
@@ -30,7 +31,7 @@ pub fn judge(
     allow_update: bool,
 ) -> Result<Verdict, OutOfMemory>
     requires { length message.now.questions ≡ 1 }
-    ensures { IfOk result (λ verdict. verdict ≡ verdict_of map.now message.now allow_update) }
+    ensures { IfOk result (λ verdict. verdict ≡ verdict_of (contents map.now) message.now allow_update) }
 {
     match section_rule(map.origin(), message.questions.as_slice(), allow_update) {
         Verdict::Fails(code) => Ok(Verdict::Fails(code)),
@@ -40,7 +41,7 @@ pub fn judge(
 
 /// The first rule that the records of an update break.
 fn records_rule(alloc: Global, map: &ZoneMap, message: &Message) -> Result<Verdict, OutOfMemory>
-    ensures { IfOk result (λ verdict. verdict ≡ records_rule map.now message.now) }
+    ensures { IfOk result (λ verdict. verdict ≡ records_rule (contents map.now) message.now) }
 {
     match prerequisites_rule(alloc, map, message.answers.as_slice())? {
         Verdict::Fails(code) => Ok(Verdict::Fails(code)),

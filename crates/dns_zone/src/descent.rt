@@ -3,6 +3,7 @@
 
 ghost use Rattle.std.specs.Prelude.{◌≡◌, ◌+◌, ◌<◌, length, drop, true, IfOk};
 ghost use Rattle.dns_name.specs.Name.{is_at_or_below};
+ghost use Rattle.dns_zone_map.specs.Mapped.{contents};
 ghost use Rattle.dns_zone_map.specs.Zone.{IsZone};
 ghost use Rattle.dns_zone.specs.Descent.{IsDescent, IsAbove, IsMet};
 
@@ -44,7 +45,7 @@ pub(crate) fn descend<'a>(
     requires origin { key.now.origin ≡ zone.now.origin }
     requires within { is_at_or_below key.now.name zone.now.origin ≡ true }
     requires depth { length zone.now.origin + depth ≡ length key.now.name }
-    ensures { IfOk result (IsDescent zone.now key.now.name rtype) }
+    ensures { IfOk result (IsDescent (contents zone.now) key.now.name rtype) }
 {
     if depth == 0 {
         return Ok(Descent::Own(zone.sets(key, 0)));
@@ -70,7 +71,7 @@ fn meet<'a>(
     requires origin { key.now.origin ≡ zone.now.origin }
     requires within { is_at_or_below key.now.name zone.now.origin ≡ true }
     requires below { length zone.now.origin + labels_dropped < length key.now.name }
-    ensures { IfOk result (IsMet zone.now (drop labels_dropped key.now.name)) }
+    ensures { IfOk result (IsMet (contents zone.now) (drop labels_dropped key.now.name)) }
 {
     match zone.sets(key, labels_dropped) {
         None => {
@@ -96,8 +97,8 @@ fn arrive<'a>(
     requires origin { key.now.origin ≡ zone.now.origin }
     requires within { is_at_or_below key.now.name zone.now.origin ≡ true }
     requires below { length zone.now.origin < length key.now.name }
-    requires above { IsAbove zone.now key.now.name 1 }
-    ensures { IfOk result (IsDescent zone.now key.now.name rtype) }
+    requires above { IsAbove (contents zone.now) key.now.name 1 }
+    ensures { IfOk result (IsDescent (contents zone.now) key.now.name rtype) }
 {
     match zone.sets(key, 0) {
         None => {

@@ -13,9 +13,8 @@ mod zone;
 mod zone_text;
 
 pub use dns_presentation::split_line;
-pub use dns_update::{Modified, ReplayKind, Verdict};
+pub use dns_update::{Batch, Modified, ReplayKind, Verdict};
 pub use lookup::Looked;
 pub use replaying::{ReplayFault, Replaying, replay};
-pub use update::Prepared;
 pub use zone::Zone;
 pub use zone_text::{ZoneTextFault, ZoneTextKind, read_zone};

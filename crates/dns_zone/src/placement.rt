@@ -25,6 +25,7 @@ pub(crate) fn place(alloc: Global, map: &mut ZoneMap, one: Record) -> Result<(),
     ensures so_far { IsSoFar map.new.origin map.new.records }
     ensures ok { OnOk result (placed map.old.origin map.old.records one ≡ Ok map.new.records) }
     ensures origin { map.new.origin ≡ map.old.origin }
+    ensures before { map.new.before ≡ map.old.before }
     ensures fault { IfErr result (TellsKind (placed map.old.origin map.old.records one)) }
 {
     if !one.name.at_or_below(map.origin()) {

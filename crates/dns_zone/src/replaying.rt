@@ -1,6 +1,6 @@
 //! The zone that the rows of a journal stand for.
 
-ghost use Rattle.std.specs.Prelude.{◌≡◌, ◌++◌, ◌∷◌, [], ◌+◌, ◌<◌, ◌^◌, pos, ℕ, length, List, Result, Ok, IfOk, IfErr, OnOk};
+ghost use Rattle.std.specs.Prelude.{◌≡◌, ◌++◌, ◌∷◌, [], ◌+◌, ◌<◌, ◌^◌, pos, ℕ, length, List, None, Result, Ok, IfOk, IfErr, OnOk};
 ghost use Rattle.dns_name.specs.Name.{fold_of};
 ghost use Rattle.dns_keeper.specs.declared.row.Row.{Row as JournalRow};
 ghost use Rattle.dns_zone_map.specs.Zone.{IsSoFar};
@@ -58,7 +58,7 @@ impl Model for Replaying {
 
     ghost view = { λ r. record { origin = r.map.origin; records = r.map.records; last = r.last } };
 
-    ghost invariant = { λ r. IsReplayed r.map.origin r.map.records };
+    ghost invariant = { λ r. IsReplayed r.map };
 }
 
 impl Replaying {
@@ -136,8 +136,10 @@ impl Replaying {
 /// Does what the row at a place says to the records that those before it left.
 fn take_row(alloc: Global, map: &mut ZoneMap, place: u64, row: &Row) -> Result<(), ReplayFault>
     requires so_far { IsSoFar map.old.origin map.old.records }
+    requires settled { map.old.before ≡ None }
     ensures origin { map.new.origin ≡ map.old.origin }
     ensures so_far { IsSoFar map.new.origin map.new.records }
+    ensures settled { map.new.before ≡ None }
     ensures taken { OnOk result (RunsTo map.old.origin place map.old.records (row.now ∷ []) (Ok map.new.records)) }
     ensures fault { IfErr result (TellsEnd (λ end. (more : List JournalRow) → RunsTo map.old.origin place map.old.records (row.now ∷ more) end)) }
 {
@@ -169,9 +171,10 @@ fn change(alloc: Global, map: &mut ZoneMap, one: Record, serial: u32) -> Result<
     ensures origin { map.new.origin ≡ map.old.origin }
     ensures records { OnOk result (map.new.records ≡ set_serial serial (step map.old.origin map.old.records one)) }
     ensures so_far { IsSoFar map.new.origin map.new.records }
+    ensures before { map.new.before ≡ map.old.before }
 {
     step(alloc, map, one)?;
-    set_serial(map, serial)
+    set_serial(alloc, map, serial)
 }
 
 /// The zone that rows stand for, from the first one on, of the journal of the zone that has this origin, in whatever case.

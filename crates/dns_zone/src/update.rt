@@ -1,6 +1,6 @@
 //! Updates of a zone (RFC 2136).
 
-ghost use Rattle.std.specs.Prelude.{◌≡◌, length, IfOk};
+ghost use Rattle.std.specs.Prelude.{◌≡◌, ◌<◌, ◌^◌, length, IfOk, OnOk, OnErr, IsErrOf};
 ghost use Rattle.std.specs.List.{AllByRecursion};
 ghost use Rattle.dns_wire.specs.WireFormat.{AreShort};
 ghost use Rattle.dns_wire.specs.ReadBack.{ReadsBack};
@@ -9,56 +9,18 @@ ghost use Rattle.dns_update.specs.Change.{batch_of, serial_after, applied};
 ghost use Rattle.dns_update.specs.Verdict.{prescan, verdict_of};
 ghost use Rattle.dns_zone_map.specs.Zone.{IsZone};
 ghost use Rattle.dns_update.specs.Replay.{IsJournalledAsIs};
-ghost use Rattle.dns_zone.specs.Updates.{zone_after, IsBatchOf, IsPreparedFor};
+ghost use Rattle.dns_zone.specs.Updates.{zone_after, IsBatchOf, Journals};
+ghost use Rattle.dns_keeper.specs.Keeping.{GrowsByBatch, HasCause};
+ghost use Rattle.dns_io.specs.Edge.{Keeps};
+ghost use Rattle.dns_zone_map.specs.Mapped.{contents};
 
 use crate::zone::Zone;
 use dns_io::OutOfMemory;
-use dns_update::{Batch, Modified, Verdict, apply, judge, update};
+use dns_keeper::{KeepFault, Keeper};
+use dns_update::{Batch, Verdict, apply, judge, update};
 use dns_wire::{Message, Records};
 use dns_zone_map::ZoneMap;
 use std::alloc::Global;
-use std::marker::Model;
-
-/// An update that is made ready: its batch can be journalled, and then the zone adopts it.
-#[derive(Drop)]
-pub struct Prepared {
-    batch: Batch,
-    after: ZoneMap,
-}
-
-impl Model for Prepared {
-    ghost use Rattle.dns_zone_map.specs.Zone.{IsZone};
-    ghost use Rattle.dns_zone.specs.Updates.{PreparedUpdate};
-
-    ghost Value = { PreparedUpdate };
-
-    ghost view = { λ p. record { batch = p.batch; after = p.after } };
-
-    ghost invariant = { λ p. IsZone p.after.origin p.after.records };
-}
-
-impl Prepared {
-    /// The update records that change the zone, in their order, with their names in small letters.
-    pub fn records(&self) -> &Records
-        ensures { result.now ≡ self.now.batch.records }
-    {
-        &self.batch.records
-    }
-
-    /// The serial that the zone has then (RFC 1035 3.3.13).
-    pub fn serial(&self) -> u32
-        ensures { result ≡ self.now.batch.serial }
-    {
-        self.batch.serial
-    }
-
-    /// How many of the records change the zone in which way.
-    pub fn modified(&self) -> Modified
-        ensures { result ≡ self.now.batch.modified }
-    {
-        self.batch.modified
-    }
-}
 
 impl Zone {
     /// The verdict on an update: whether its zone section, its prerequisites and the form of its records pass, or the code
@@ -75,27 +37,46 @@ impl Zone {
         judge(alloc, self.map(), message, allow_update)
     }
 
-    /// Makes an update ready whose records pass the prescan (RFC 2136 3.4.1). The zone stays as it is.
-    pub fn prepare(&self, alloc: Global, updates: &Records) -> Result<Prepared, OutOfMemory>
-        requires passes { prescan self.now.origin updates.now ≡ Passes }
+    /// Does an update whose records pass the prescan (RFC 2136 3.4.1), and has its batch appended to the journal by one call,
+    /// where it has records. The zone is as before where it has none, where the keeper refuses it, and where memory runs out.
+    /// Takes time for the records of the update and those of their names; once the keeper was called it takes no memory.
+    pub fn journal<K: Keeper>(
+        &mut self,
+        alloc: Global,
+        keeper: &mut K,
+        client: u32,
+        moment: u64,
+        updates: &Records,
+    ) -> Result<Batch, KeepFault>
+        requires moment { moment < 2 ^ 47 }
+        requires passes { prescan self.old.origin updates.now ≡ Passes }
         requires back { AllByRecursion ReadsBack updates.now }
-        ensures batch { IfOk result (λ prepared. IsBatchOf self.now updates.now prepared.batch) }
-        ensures prepared { IfOk result (IsPreparedFor self.now) }
-        ensures zone { IsZone self.now.origin self.now.records }
-        ensures journalled { IfOk result (λ prepared. AllByRecursion (IsJournalledAsIs self.now.origin) prepared.batch.records) }
-        ensures short { IfOk result (λ prepared. AreShort prepared.batch.records) }
+        ensures batch { IfOk result (IsBatchOf self.old updates.now) }
+        ensures done { IfOk result (λ batch. Journals (K.rows keeper.old) (K.rows keeper.new) client moment self.old batch self.new) }
+        ensures idle { IfOk result (λ batch. length batch.records ≡ 0 → keeper.new ≡ keeper.old) }
+        ensures zone { IsZone self.old.origin self.old.records }
+        ensures journalled { IfOk result (λ batch. AllByRecursion (IsJournalledAsIs self.old.origin) batch.records) }
+        ensures err { OnErr result (self.new ≡ self.old) }
+        ensures kept { OnErr result (Keeps (K.rows keeper.old) (K.rows keeper.new)) }
+        ensures cause { HasCause (K.faults keeper.old) (K.faults keeper.new) result }
+        ensures uncounted { IsErrOf result KeepFault.OutOfMemory → K.faults keeper.new ≡ K.faults keeper.old }
+        ensures some { IsErrOf result KeepFault.Failed → 0 < length (batch_of self.old.origin self.old.records updates.now) }
     {
-        let mut after = self.map().copy(alloc)?;
-        let batch = update(alloc, &mut after, updates.as_slice())?;
-        Ok(Prepared { batch, after })
-    }
-
-    /// Takes an update over that was made ready for this zone. Takes no memory.
-    pub fn adopt(&mut self, prepared: Prepared)
-        requires { IsPreparedFor self.old prepared }
-        ensures { self.new ≡ zone_after self.old prepared.batch }
-    {
-        *self = Zone::of(prepared.after);
+        self.map.begin(alloc)?;
+        match journalled(alloc, &mut self.map, keeper, client, moment, updates) {
+            Ok(batch) => {
+                if batch.records.len() == 0 {
+                    self.map.undo();
+                    return Ok(batch);
+                }
+                self.map.keep();
+                Ok(batch)
+            }
+            Err(fault) => {
+                self.map.undo();
+                Err(fault)
+            }
+        }
     }
 
     /// The batch of an update whose records pass the prescan, and the serial that it leaves (RFC 2136 3.4.2, 3.6).
@@ -107,9 +88,9 @@ impl Zone {
         ensures journalled { IfOk result (λ batch. AllByRecursion (IsJournalledAsIs self.now.origin) batch.0) }
         ensures short { IfOk result (λ batch. AreShort batch.0) }
     {
-        let prepared = self.prepare(alloc, updates)?;
-        let serial = prepared.batch.serial;
-        Ok((prepared.batch.records, serial))
+        let mut after = self.map().copy(alloc)?;
+        let batch = update(alloc, &mut after, updates.as_slice())?;
+        Ok((batch.records, batch.serial))
     }
 
     /// The zone after a batch, with this serial.
@@ -122,4 +103,39 @@ impl Zone {
         apply(alloc, &mut after, batch.as_slice(), serial)?;
         Ok(Zone::of(after))
     }
+}
+
+/// Does an update on a map, and has its batch appended, where it has records. Where that fails part of it may be done, which can
+/// be undone where changes can.
+fn journalled<K: Keeper>(
+    alloc: Global,
+    map: &mut ZoneMap,
+    keeper: &mut K,
+    client: u32,
+    moment: u64,
+    updates: &Records,
+) -> Result<Batch, KeepFault>
+    requires moment { moment < 2 ^ 47 }
+    requires zone { IsZone map.old.origin map.old.records }
+    requires passes { prescan map.old.origin updates.now ≡ Passes }
+    requires back { AllByRecursion ReadsBack updates.now }
+    ensures batch { IfOk result (IsBatchOf (contents map.old) updates.now) }
+    ensures records { IfOk result (λ batch. contents map.new ≡ zone_after (contents map.old) batch) }
+    ensures origin { map.new.origin ≡ map.old.origin }
+    ensures before { map.new.before ≡ map.old.before }
+    ensures zone { OnOk result (IsZone map.new.origin map.new.records) }
+    ensures grown { IfOk result (λ batch. 0 < length batch.records → GrowsByBatch (K.rows keeper.old) (K.rows keeper.new) client batch.serial moment batch.records) }
+    ensures idle { IfOk result (λ batch. length batch.records ≡ 0 → keeper.new ≡ keeper.old) }
+    ensures journalled { IfOk result (λ batch. AllByRecursion (IsJournalledAsIs map.old.origin) batch.records) }
+    ensures kept { OnErr result (Keeps (K.rows keeper.old) (K.rows keeper.new)) }
+    ensures cause { HasCause (K.faults keeper.old) (K.faults keeper.new) result }
+    ensures uncounted { IsErrOf result KeepFault.OutOfMemory → K.faults keeper.new ≡ K.faults keeper.old }
+    ensures some { IsErrOf result KeepFault.Failed → 0 < length (batch_of map.old.origin map.old.records updates.now) }
+{
+    let batch = update(alloc, map, updates.as_slice())?;
+    if batch.records.len() == 0 {
+        return Ok(batch);
+    }
+    keeper.append(client, batch.serial, moment, &batch.records)?;
+    Ok(batch)
 }

@@ -1,10 +1,11 @@
 //! A zone: its origin and its records (RFC 1034 4.2).
 
-ghost use Rattle.std.specs.Prelude.{◌≡◌, length, IfOk};
+ghost use Rattle.std.specs.Prelude.{◌≡◌, length, None, IfOk};
 ghost use Rattle.std.specs.Option.{option_copied};
 ghost use Rattle.dns_name.specs.Name.{fold_of};
 ghost use Rattle.dns_wire.specs.WireFormat.{AreShort};
 ghost use Rattle.dns_wire.specs.declared.record_type.TheConstants.{SOA};
+ghost use Rattle.dns_zone_map.specs.Mapped.{contents};
 ghost use Rattle.dns_zone_map.specs.Sets.{some_of};
 ghost use Rattle.dns_zone_map.specs.Zone.{set_of, serial_of, IsZone};
 
@@ -22,24 +23,27 @@ use std::marker::Model;
 /// type. There is one SOA, at the origin; no name owns two CNAMEs; no two records are equal in name, type and data.
 #[derive(Drop)]
 pub struct Zone {
-    map: ZoneMap,
+    pub(crate) map: ZoneMap,
 }
 
 impl Model for Zone {
+    ghost use Rattle.std.specs.Prelude.{◌≡◌, None};
+    ghost use Rattle.dns_zone_map.specs.Mapped.{contents};
     ghost use Rattle.dns_zone_map.specs.Zone.{Contents, IsZone};
 
     ghost Value = { Contents };
 
-    ghost view = { λ z. z.map };
+    ghost view = { λ z. contents z.map };
 
-    ghost invariant = { λ z. IsZone z.map.origin z.map.records };
+    ghost invariant = { λ z. IsZone z.map.origin z.map.records × (z.map.before ≡ None) };
 }
 
 impl Zone {
     /// The zone of an origin and records.
     pub(crate) fn of(map: ZoneMap) -> Zone
-        requires { IsZone map.origin map.records }
-        ensures { result ≡ map }
+        requires zone { IsZone map.origin map.records }
+        requires settled { map.before ≡ None }
+        ensures { result ≡ contents map }
     {
         Zone { map }
     }
@@ -83,7 +87,8 @@ impl Zone {
 
     /// The records as a map.
     pub(crate) fn map(&self) -> &ZoneMap
-        ensures is { result.now ≡ self.now }
+        ensures is { contents result.now ≡ self.now }
+        ensures settled { result.now.before ≡ None }
         ensures zone { IsZone self.now.origin self.now.records }
     {
         &self.map

@@ -1,6 +1,6 @@
 //! The text of a zone: the master file format (RFC 1035 5).
 
-ghost use Rattle.std.specs.Prelude.{◌≡◌, Ok, OnOk, OnErr, IfOk, IfErr};
+ghost use Rattle.std.specs.Prelude.{◌≡◌, None, Ok, OnOk, OnErr, IfOk, IfErr};
 ghost use Rattle.dns_name.specs.Name.{fold_of};
 ghost use Rattle.dns_zone.specs.declared.zone_text.LineFault.TheVariants.{Kind, OutOfMemory as NoMemory};
 ghost use Rattle.dns_zone.specs.declared.zone_text.ZoneTextFault.TheVariants as fault;
@@ -149,6 +149,7 @@ impl<T: Drop> From<AllocFailed<T>> for LineFault {
 fn finished(map: ZoneMap) -> Result<Zone, ZoneTextFault>
     requires folded { fold_of map.origin ≡ map.origin }
     requires so_far { IsSoFar map.origin map.records }
+    requires settled { map.before ≡ None }
     ensures records { IfOk result (λ zone. finished map.records ≡ Ok zone.records) }
     ensures origin { IfOk result (λ zone. zone.origin ≡ map.origin) }
     ensures fault { IfErr result (Tells (finished map.records)) }
@@ -176,6 +177,7 @@ fn take_line(
     ensures ok { OnOk result (placed_entry map.old.origin map.old.records (entry_of context.old line.now) ≡ Ok map.new.records) }
     ensures context { OnOk result (context.new ≡ context_behind context.old (entry_of context.old line.now)) }
     ensures origin { map.new.origin ≡ map.old.origin }
+    ensures before { map.new.before ≡ map.old.before }
     ensures fault { IfErr result (TellsKind (placed_entry map.old.origin map.old.records (entry_of context.old line.now))) }
 {
     match entry_of(alloc, context, line) {

@@ -1,5 +1,5 @@
 -- Deletions of sets, which leave those of the SOA and of NS records at the origin.
-use Rattle.std.proofs.Common.{◌≡◌, ℕ, ◌≤◌, Bool, true, false, List, [], ◌∷◌, length, refl, sym, ap, ◌∙◌, subst, arith, ◌==◌}
+use Rattle.std.proofs.Common.{◌≡◌, ℕ, ◌≤◌, Bool, true, false, List, [], ◌∷◌, length, refl, sym, ap, ◌∙◌, subst, arith, ◌==◌, Result, Ok, Err, OnOk, OnErr}
 use Rattle.std.specs.Prelude.{filter, not, ◌&&◌, if◌then◌else◌}
 use Rattle.std.specs.List.{AllByRecursion, IsDistinct}
 use Rattle.std.specs.Str.{bytes_eq}
@@ -10,6 +10,7 @@ use Rattle.std.proofs.lemmas.List.Filters.{length-filter_both}
 use Rattle.dns_name.specs.Name.{fold_of, is_same_name}
 use Rattle.dns_wire.specs.declared.record.Record.{Record}
 use Rattle.dns_zone_map.specs.Changes.{bears, is_kept_type, is_kept_at, is_taken_with_name, is_taken_with_set, is_free_at}
+use Rattle.dns_zone_map.specs.Mapped.{Mapped, contents}
 use Rattle.dns_zone_map.specs.Zone.{Contents, is_in_set, is_rival, IsEntry, IsSoFar}
 use Rattle.dns_zone_map.proofs.Keyed.{same_name}
 use Rattle.dns_zone_map.proofs.Taken.{both}
@@ -29,6 +30,11 @@ distinct_left test (r ∷ records) distinct = distinct_if (test r) r (filter tes
 pub so_far_left : (test : Record → Bool) (before after : Contents) → after.origin ≡ before.origin → after.records ≡ filter test before.records → IsSoFar before.origin before.records → IsSoFar after.origin after.records
 so_far_left test before after top is so_far =
     subst (λ o. IsSoFar o after.records) (sym top) (subst (IsSoFar before.origin) (sym is) (record { entries = all_filtered (IsEntry before.origin) test before.records so_far.entries; distinct = distinct_left test before.records so_far.distinct }))
+
+-- or are unchanged
+pub so_far_either : {T E : Type 0} (test : Record → Bool) (before after : Mapped) (r : Result T E) → after.origin ≡ before.origin → OnOk r (after.records ≡ filter test before.records) → OnErr r (after ≡ before) → IsSoFar before.origin before.records → IsSoFar after.origin after.records
+so_far_either test before after (Ok t) top is same so_far = so_far_left test (contents before) (contents after) top is so_far
+so_far_either test before after (Err e) top is same so_far = subst (λ (m : Mapped). IsSoFar m.origin m.records) (sym same) so_far
 
 -- fewer records are left
 pub no_more : (test : Record → Bool) (before after : List Record) → after ≡ filter test before → length after ≤ length before

@@ -1,6 +1,6 @@
--- A name exists where a key of the map begins with its own.
+-- A name exists where a key of the map begins with its own, at which there are sets.
 use Rattle.std.proofs.Common.{◌≡◌, ℕ, ◌<◌, Bool, true, false, List, [], ◌∷◌, ◌++◌, length, map, refl, sym, ap, ◌∙◌, arith, Vec, Global, eqb, if◌then◌else◌, length-append}
-use Rattle.std.specs.Prelude.{◌||◌, nat_lt}
+use Rattle.std.specs.Prelude.{◌&&◌, ◌||◌, nat_lt}
 use Rattle.std.specs.List.{AllByRecursion, list_any, starts_with}
 use Rattle.std.proofs.lemmas.List.Folds.{list_any-append}
 use Rattle.dns_name.specs.Name.{is_at_or_below}
@@ -8,7 +8,7 @@ use Rattle.dns_wire.specs.declared.record.Record.{Record}
 use Rattle.dns_name.proofs.SameNames.{is_at_or_below-is}
 use Rattle.dns_zone_map.specs.Keys.{key_of}
 use Rattle.dns_zone_map.specs.Order.{Numbered, into, by_number, plain, list_of, of_plain, numbered}
-use Rattle.dns_zone_map.specs.Sets.{in_set, in_sets}
+use Rattle.dns_zone_map.specs.Sets.{in_set, in_sets, are_some}
 use Rattle.dns_zone_map.specs.Tree.{in_entries, Belongs, IsSet, AreEntries}
 use Rattle.dns_zone_map.specs.Zone.{Contents}
 use Rattle.dns_zone_map.specs.Existence.{exists, is_at_or_under}
@@ -55,6 +55,14 @@ pub all_append : {X : Type 0} (P : X → Type 0) (xs ys : List X) → AllByRecur
 all_append P [] ys a b = b
 all_append P (x ∷ xs) ys a b = (a.0, all_append P xs ys a.1 b)
 
+and_false : (b : Bool) → (b && false) ≡ false
+and_false true = refl
+and_false false = refl
+
+and_true : (b : Bool) → (b && true) ≡ b
+and_true true = refl
+and_true false = refl
+
 numbered_some : (ns : List ℕ) (rs : List Record) → length ns ≡ length rs → 0 < length rs → 0 < length (numbered ns rs)
 numbered_some [] rs h l = absurd (omega arith)
 numbered_some (n ∷ ns) [] h l = absurd (omega arith)
@@ -82,19 +90,22 @@ module _ (origin name : List (List ℕ)) (name_in : is_at_or_below name origin �
   sets_some key [] h l = absurd (omega arith)
   sets_some key (s ∷ ss) h l = let some = numbered_some s.numbers s.records h.0.paired h.0.filled in omega (arith, length-append (in_set s) (in_sets ss))
 
-  entries_any : (es : List (Vec ℕ Global × List RecordSet)) → AreEntries origin es → list_any (of_plain test) (in_entries es) ≡ list_any (λ e. starts_with eqb e.0.items (key_of origin name)) es
+  sets_any : (key : List ℕ) (ss : List RecordSet) → AllByRecursion (IsSet origin key) ss → list_any (of_plain test) (in_sets ss) ≡ (starts_with eqb key (key_of origin name) && are_some ss)
+  sets_any key [] h = sym (and_false (starts_with eqb key (key_of origin name)))
+  sets_any key (s ∷ ss) h = any_const (of_plain test) (starts_with eqb key (key_of origin name)) (in_sets (s ∷ ss)) (sets_all key (s ∷ ss) h) (sets_some key (s ∷ ss) h (omega arith)) ∙ sym (and_true (starts_with eqb key (key_of origin name)))
+
+  entries_any : (es : List (Vec ℕ Global × List RecordSet)) → AreEntries origin es → list_any (of_plain test) (in_entries es) ≡ list_any (λ e. starts_with eqb e.0.items (key_of origin name) && are_some e.1) es
   entries_any [] h = refl
   entries_any (e ∷ es) h =
-      let here = any_const (of_plain test) (starts_with eqb e.0.items (key_of origin name)) (in_sets e.1) (sets_all e.0.items e.1 h.0.each) (sets_some e.0.items e.1 h.0.each h.0.filled) in
-      list_any-append (of_plain test) (in_sets e.1) (in_entries es) ∙ rw here (ap (λ b. starts_with eqb e.0.items (key_of origin name) || b) (entries_any es h.1))
+      list_any-append (of_plain test) (in_sets e.1) (in_entries es) ∙ rw (sets_any e.0.items e.1 h.0.each) (ap (λ b. (starts_with eqb e.0.items (key_of origin name) && are_some e.1) || b) (entries_any es h.1))
 
--- a name exists where a key of the map begins with its own
-pub exists_is : (origin name : List (List ℕ)) → is_at_or_below name origin ≡ true → (es : List (Vec ℕ Global × List RecordSet)) → AreEntries origin es → exists (list_of (in_entries es)) name ≡ list_any (λ e. starts_with eqb e.0.items (key_of origin name)) es
+-- a name exists where a key of the map begins with its own, at which there are sets
+pub exists_is : (origin name : List (List ℕ)) → is_at_or_below name origin ≡ true → (es : List (Vec ℕ Global × List RecordSet)) → AreEntries origin es → exists (list_of (in_entries es)) name ≡ list_any (λ e. starts_with eqb e.0.items (key_of origin name) && are_some e.1) es
 exists_is origin name within es h = any_list (is_at_or_under name) (in_entries es) ∙ entries_any origin name within es h
 
 -- the same of a zone that is seen as its list
 pub exists_at : (origin name : List (List ℕ)) (key : List ℕ) (es : List (Vec ℕ Global × List RecordSet)) (zone : Contents) (b : Bool) → record { origin = origin; records = list_of (in_entries es) } ≡ zone → is_at_or_below name zone.origin ≡ true → key ≡ key_of zone.origin name
-    → AreEntries origin es → b ≡ list_any (λ e. starts_with eqb e.0.items key) es → b ≡ exists zone.records name
+    → AreEntries origin es → b ≡ list_any (λ e. starts_with eqb e.0.items key && are_some e.1) es → b ≡ exists zone.records name
 exists_at origin name key es zone b view within is h begun =
     let o : zone.origin ≡ origin = sym (ap (λ z. z.origin) view) in
     let e : zone.records ≡ list_of (in_entries es) = sym (ap (λ z. z.records) view) in

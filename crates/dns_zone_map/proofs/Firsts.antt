@@ -1,4 +1,4 @@
--- A name exists where the first key from its own on begins with its own.
+-- The keys that begin with one follow it at once: a search from it on for one that owns records.
 use Rattle.std.proofs.Common.{Ordering, ◌≡◌, ℕ, ◌<◌, Bool, true, false, List, [], ◌∷◌, ◌++◌, length, drop, refl, sym, ap, subst, ◌∙◌, arith, Vec, Global, eqb}
 use Rattle.std.specs.Prelude.{filter, ◌&&◌, ◌||◌, not, cond}
 use Rattle.std.specs.Bool.{Decides}
@@ -10,6 +10,7 @@ use Rattle.std.specs.Cmp.{nat_cmp_total}
 use Rattle.std.specs.Cmp.Lexicographic.{slice_cmp}
 use Rattle.std.specs.List.Sorted.{IsStrictlySortedBy}
 use Rattle.std.proofs.lemmas.Cmp.{ranked, tied_itself}
+use Rattle.std.proofs.lemmas.List.Kept.{IsStrictlySortedBy-filter}
 use Rattle.std.proofs.lemmas.Map.Keys.{sorted_head, sorted_tail}
 use Rattle.std.proofs.lemmas.Slice.Eq.{starts_is}
 use Rattle.std.proofs.lemmas.Bool.Decides.{Decides-eqb}
@@ -55,6 +56,9 @@ starts-Decides bytes front =
     let p = starts_is Decides-eqb bytes front (starts_with eqb bytes front) refl in
     (λ t. (drop (length front) bytes, p.0 t), λ h. p.1 h.0 h.1)
 
+pub begins_is : (b : Bool) (bytes front key next : List ℕ) → b ≡ starts_with eqb bytes front → bytes ≡ key → front ≡ next → starts_with eqb key next ≡ b
+begins_is b bytes front key next is at of = sym (is ∙ rw (at, of) refl)
+
 not_le : (o : Ordering) → is_le o ≡ not (is_gt o)
 not_le Less = refl
 not_le Equal = refl
@@ -89,11 +93,6 @@ module _ {X : Type 0} (key : List ℕ) where
   abbrev is_from : Vec ℕ Global × X → Bool
   is_from e = is_le (slice_cmp nat_cmp key e.0.items) && true
 
-  -- the first of these entries begins with the key
-  abbrev pub first_begins : List (Vec ℕ Global × X) → Bool
-  first_begins [] = false
-  first_begins (e ∷ es) = begins e
-
   from_is : (e : Vec ℕ Global × X) (b : Bool) → is_from e ≡ b → is_le (slice_cmp nat_cmp key e.0.items) ≡ b
   from_is e b h = go (is_le (slice_cmp nat_cmp key e.0.items)) h
     where
@@ -120,24 +119,82 @@ module _ {X : Type 0} (key : List ℕ) where
       cc) in
       rw here (none_later e fs h n s.1)
 
-  first_if : (b c : Bool) (e : Vec ℕ Global × X) (es : List (Vec ℕ Global × X)) → is_from e ≡ b → begins e ≡ c → AllByRecursion (λ k. slice_cmp nat_cmp e.0.items k.items ≡ Less) (keys_of es)
-      → list_any begins es ≡ first_begins (filter is_from es) → (c || list_any begins es) ≡ first_begins (cond b (e ∷ filter is_from es) (filter is_from es))
-  first_if true true e es h n s ih = sym n
-  first_if true false e es h n s ih = none_later e es h n s ∙ sym n
-  first_if false c e es h n s ih =
-      let no : c ≡ false = sym n ∙ before_begins e h in
-      rw no ih
+module _ {X : Type 0} (key : List ℕ) (has : X → Bool) where
+  abbrev is_owner : Vec ℕ Global × X → Bool
+  is_owner e = starts_with eqb e.0.items key && has e.1
 
-  -- an entry begins with the key where the first one from the key on does
-  pub first_is : (es : List (Vec ℕ Global × X)) → IsStrictlySortedBy (λ x y. slice_cmp nat_cmp x.items y.items) (keys_of es) → list_any (λ e. starts_with eqb e.0.items key) es ≡ first_begins (filter is_from es)
-  first_is [] s = refl
-  first_is (e ∷ es) s =
-      first_if (is_from e) (begins e) e es refl refl (sorted_head (λ x y. slice_cmp nat_cmp x.items y.items) e.0 (keys_of es) s) (first_is es (sorted_tail (λ x y. slice_cmp nat_cmp x.items y.items) e.0 (keys_of es) s))
+  -- the entries from the key on that are not looked at yet, of which one is sought
+  pub record AreNext (es next : List (Vec ℕ Global × X)) : Type 0 where
+    pub sorted : IsStrictlySortedBy (λ x y. slice_cmp nat_cmp x.items y.items) (keys_of next)
+    pub from : AllByRecursion (λ e. is_from key e ≡ true) next
+    pub same : list_any is_owner next ≡ list_any is_owner es
 
-  pub first_some : (es r rest : List (Vec ℕ Global × X)) (first : Vec ℕ Global) (x : X) (b : Bool) (bytes front : List ℕ) → IsStrictlySortedBy (λ x y. slice_cmp nat_cmp x.items y.items) (keys_of es) → r ≡ filter is_from es → r ≡ (first, x) ∷ rest
-      → b ≡ starts_with eqb bytes front → bytes ≡ first.items → front ≡ key → b ≡ list_any (λ e. starts_with eqb e.0.items key) es
-  first_some es r rest first x b bytes front s between steps is at of =
-      is ∙ rw (at, of) (ap first_begins (sym steps ∙ between)) ∙ sym (first_is es s)
+  keys_if : (b : Bool) (e : Vec ℕ Global × X) (es : List (Vec ℕ Global × X)) (ks : List (Vec ℕ Global)) → keys_of es ≡ ks → keys_of (cond b (e ∷ es) es) ≡ cond b (e.0 ∷ ks) ks
+  keys_if true e es ks h = ap (λ (xs : List (Vec ℕ Global)). e.0 ∷ xs) h
+  keys_if false e es ks h = h
 
-  pub first_none : (es r : List (Vec ℕ Global × X)) → IsStrictlySortedBy (λ x y. slice_cmp nat_cmp x.items y.items) (keys_of es) → r ≡ filter is_from es → r ≡ [] → false ≡ list_any (λ e. starts_with eqb e.0.items key) es
-  first_none es r s between steps = ap first_begins (sym steps ∙ between) ∙ sym (first_is es s)
+  keys_from : (es : List (Vec ℕ Global × X)) → keys_of (filter (is_from key) es) ≡ filter (λ k. is_le (slice_cmp nat_cmp key k.items) && true) (keys_of es)
+  keys_from [] = refl
+  keys_from (e ∷ es) = keys_if (is_from key e) e (filter (is_from key) es) (filter (λ k. is_le (slice_cmp nat_cmp key k.items) && true) (keys_of es)) (keys_from es)
+
+  all_if : (b : Bool) (e : Vec ℕ Global × X) (es : List (Vec ℕ Global × X)) → is_from key e ≡ b → AllByRecursion (λ f. is_from key f ≡ true) es → AllByRecursion (λ f. is_from key f ≡ true) (cond b (e ∷ es) es)
+  all_if true e es h ih = (h, ih)
+  all_if false e es h ih = ih
+
+  all_from : (es : List (Vec ℕ Global × X)) → AllByRecursion (λ e. is_from key e ≡ true) (filter (is_from key) es)
+  all_from [] = tt
+  all_from (e ∷ es) = all_if (is_from key e) e (filter (is_from key) es) refl (all_from es)
+
+  no_owner : (e : Vec ℕ Global × X) → starts_with eqb e.0.items key ≡ false → is_owner e ≡ false
+  no_owner e h = ap (λ b. b && has e.1) h
+
+  any_if : (b : Bool) (e : Vec ℕ Global × X) (es : List (Vec ℕ Global × X)) (c : Bool) → is_from key e ≡ b → list_any is_owner es ≡ c → list_any is_owner (cond b (e ∷ es) es) ≡ (is_owner e || c)
+  any_if true e es c h ih = ap (λ b. is_owner e || b) ih
+  any_if false e es c h ih =
+      let no : is_owner e ≡ false = no_owner e (before_begins key e h) in
+      ih ∙ sym (ap (λ b. b || c) no)
+
+  any_from : (es : List (Vec ℕ Global × X)) → list_any is_owner (filter (is_from key) es) ≡ list_any is_owner es
+  any_from [] = refl
+  any_from (e ∷ es) = any_if (is_from key e) e (filter (is_from key) es) (list_any is_owner es) refl (any_from es)
+
+  -- at first all of them
+  pub next_start : (es next : List (Vec ℕ Global × X)) → IsStrictlySortedBy (λ x y. slice_cmp nat_cmp x.items y.items) (keys_of es) → next ≡ filter (is_from key) es → AreNext es next
+  next_start es next s is =
+      subst (AreNext es) (sym is) (record {
+        sorted = subst (IsStrictlySortedBy (λ x y. slice_cmp nat_cmp x.items y.items)) (sym (keys_from es)) (IsStrictlySortedBy-filter (λ x y. slice_cmp nat_cmp x.items y.items) (λ k. is_le (slice_cmp nat_cmp key k.items) && true) (keys_of es) s);
+        from = all_from es;
+        same = any_from es;
+      })
+
+  -- one that owns nothing is passed over
+  pub next_step : (es next rest : List (Vec ℕ Global × X)) (e : Vec ℕ Global × X) → AreNext es next → next ≡ e ∷ rest → has e.1 ≡ false → AreNext es rest
+  next_step es next rest e n is none =
+      let m : AreNext es (e ∷ rest) = subst (AreNext es) is n in
+      record { sorted = sorted_tail (λ x y. slice_cmp nat_cmp x.items y.items) e.0 (keys_of rest) m.sorted; from = m.from.1; same = sym (ap (λ b. b || list_any is_owner rest) (and_none (starts_with eqb e.0.items key) (has e.1) none)) ∙ m.same }
+    where
+      and_none : (a b : Bool) → b ≡ false → (a && b) ≡ false
+      and_none true b h = h
+      and_none false b h = refl
+
+  none_owner : (es : List (Vec ℕ Global × X)) → list_any (λ e. starts_with eqb e.0.items key) es ≡ false → list_any is_owner es ≡ false
+  none_owner [] h = refl
+  none_owner (e ∷ es) h =
+      let both : (starts_with eqb e.0.items key ≡ false) × (list_any (λ f. starts_with eqb f.0.items key) es ≡ false) = neither (starts_with eqb e.0.items key) (list_any (λ f. starts_with eqb f.0.items key) es) h in
+      rw (no_owner e both.0) (none_owner es both.1)
+    where
+      neither : (a b : Bool) → (a || b) ≡ false → (a ≡ false) × (b ≡ false)
+      neither true b h = absurd cc
+      neither false b h = (refl, h)
+
+  -- where one does not begin with the key, none behind it does
+  pub next_other : (es next rest : List (Vec ℕ Global × X)) (e : Vec ℕ Global × X) → AreNext es next → next ≡ e ∷ rest → starts_with eqb e.0.items key ≡ false → false ≡ list_any is_owner es
+  next_other es next rest e n is other =
+      let m : AreNext es (e ∷ rest) = subst (AreNext es) is n in
+      let later : list_any is_owner rest ≡ false = none_owner rest (none_later key e rest m.from.0 other (sorted_head (λ x y. slice_cmp nat_cmp x.items y.items) e.0 (keys_of rest) m.sorted)) in
+      let all : list_any is_owner (e ∷ rest) ≡ false = rw (no_owner e other) later in
+      sym all ∙ m.same
+
+  -- there is none
+  pub next_end : (es next : List (Vec ℕ Global × X)) → AreNext es next → next ≡ [] → false ≡ list_any is_owner es
+  next_end es next n is = sym (ap (list_any is_owner) is) ∙ n.same

@@ -54,18 +54,18 @@ other_bytes key [] h = tt
 other_bytes key (e ∷ es) h = (sym (is_eq-slice_cmp key e.0.items) ∙ h.0, other_bytes key es h.1)
 
 -- the place among the entries of one with another key
-record Between (es : Entries) (stored : Vec ℕ Global) (sets : List RecordSet) : Type 0 where
-  front : Entries
-  back : Entries
-  was : es ≡ front ++ back
-  is : insert_entry (λ x y. slice_cmp nat_cmp x.items y.items) es stored sets ≡ front ++ (stored, sets) ∷ back
+pub record Between (es : Entries) (stored : Vec ℕ Global) (sets : List RecordSet) : Type 0 where
+  pub front : Entries
+  pub back : Entries
+  pub was : es ≡ front ++ back
+  pub is : insert_entry (λ x y. slice_cmp nat_cmp x.items y.items) es stored sets ≡ front ++ (stored, sets) ∷ back
 
 between_if : (o : Ordering) (e : Vec ℕ Global × List RecordSet) (es : Entries) (stored : Vec ℕ Global) (sets : List RecordSet) → slice_cmp nat_cmp stored.items e.0.items ≡ o → is_eq o ≡ false → Between es stored sets → Between (e ∷ es) stored sets
 between_if Less e es stored sets at other ih = record { front = []; back = e ∷ es; was = refl; is = rw at refl }
 between_if Equal e es stored sets at other ih = absurd cc
 between_if Greater e es stored sets at other ih = record { front = e ∷ ih.front; back = ih.back; was = ap (λ (xs : Entries). e ∷ xs) ih.was; is = rw at (ap (λ (xs : Entries). e ∷ xs) ih.is) }
 
-between : (es : Entries) (stored : Vec ℕ Global) (sets : List RecordSet) → AllByRecursion (λ e. is_eq (slice_cmp nat_cmp stored.items e.0.items) ≡ false) es → Between es stored sets
+pub between : (es : Entries) (stored : Vec ℕ Global) (sets : List RecordSet) → AllByRecursion (λ e. is_eq (slice_cmp nat_cmp stored.items e.0.items) ≡ false) es → Between es stored sets
 between [] stored sets h = record { front = []; back = []; was = refl; is = refl }
 between (e ∷ es) stored sets h = between_if (slice_cmp nat_cmp stored.items e.0.items) e es stored sets refl h.0 (between es stored sets h.1)
 

@@ -22,7 +22,7 @@ use Rattle.dns_zone_map.proofs.Rest.{Entries, Fails, FailsAt, all_front, all_bac
 use Rattle.dns_zone_map.proofs.Middle.{Middle, list_taken, turned_not}
 use Rattle.dns_zone_map.proofs.Outside.{not_same}
 use Rattle.dns_zone_map.proofs.Put.{around_entry, apart_front, apart_back}
-use Rattle.dns_zone_map.proofs.Taken.{no_true, in_with, each_with, any_at_all}
+use Rattle.dns_zone_map.proofs.Taken.{no_true, any_at_all}
 
 -- what a test leaves of the sets of a name
 pub record AreLeft (origin : List (List ℕ)) (key : List ℕ) (test : Record → Bool) (sets changed : List RecordSet) : Type 0 where
@@ -121,7 +121,7 @@ module _ (origin name : List (List ℕ)) (test : Record → Bool) (narrow : (r :
       xs_are = ap in_entries t.was ∙ around_entry t.front t.back t.stored t.sets
 
       ys_are : in_entries fs ≡ in_entries t.front ++ (in_sets t.changed ++ in_entries t.back)
-      ys_are = ap in_entries t.is ∙ in_with t.front t.back t.stored t.changed
+      ys_are = ap in_entries t.is ∙ around_entry t.front t.back t.stored t.changed
 
       module _ (left : AreLeft origin key test t.sets t.changed) (gone : ℕ) (count : gone + length (in_sets t.changed) ≡ length (in_sets t.sets)) where
         middle : Middle test (in_entries es) (in_entries fs) (in_sets t.sets) (in_sets t.changed)
@@ -149,7 +149,7 @@ module _ (origin name : List (List ℕ)) (test : Record → Bool) (narrow : (r :
         pub is_left : IsLeft origin test es fs next gone
         is_left = record {
           list = sym (list_taken test (in_entries es) (in_entries fs) (in_sets t.sets) (in_sets t.changed) middle left.left);
-          each = subst (AreEntries origin) (sym t.is) (each_with origin t.front t.back t.stored t.changed each_front each_back (subst (λ k. AllByRecursion (IsSet origin k) t.changed) (sym t.keyed) left.each) left.rise);
+          each = subst (AreEntries origin) (sym t.is) (all_append (λ e. AreSets origin e.0.items e.1) t.front ((t.stored, t.changed) ∷ t.back) each_front (record { each = subst (λ k. AllByRecursion (IsSet origin k) t.changed) (sym t.keyed) left.each; rise = left.rise }, each_back));
           below = subst (AreBelow next) (sym ys_are)
               (all_append P (in_entries t.front) (in_sets t.changed ++ in_entries t.back) (all_front P (in_entries t.front) (in_sets t.sets ++ in_entries t.back) all)
               (all_append P (in_sets t.changed) (in_entries t.back) below_changed (all_back P (in_sets t.sets) (in_entries t.back) rest)));

@@ -240,9 +240,3 @@ sets_are origin name key es zone found view within is h s n =
           ∙ ap (option_map records_in) (either_way rtype found);
       rising = rise_either found (subst (λ (f : Option (List RecordSet)). IfSome f TypesRise) (sym n) (looked TypesRise (λ k. is_eq (slice_cmp nat_cmp key k.items)) es (all_to (λ e. AreSets origin e.0.items e.1) (λ e. TypesRise e.1) (λ e p. p.rise) es h)));
     }
-
--- and where it has some, the name owns records
-pub sets_some : (origin : List (List ℕ)) (key : List ℕ) (es : List (Vec ℕ Global × List RecordSet)) (found : Option (List RecordSet)) → AreEntries origin es → found ≡ lookup (λ k. is_eq (slice_cmp nat_cmp key k.items)) es → IfSome found (λ sets. 0 < length sets)
-sets_some origin key es found h n =
-    subst (λ (f : Option (List RecordSet)). IfSome f (λ sets. 0 < length sets)) (sym n)
-    (looked (λ sets. 0 < length sets) (λ k. is_eq (slice_cmp nat_cmp key k.items)) es (all_to (λ e. AreSets origin e.0.items e.1) (λ e. 0 < length e.1) (λ e p. p.filled) es h))

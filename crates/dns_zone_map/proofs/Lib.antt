@@ -30,3 +30,7 @@ pub mod EqualTaken
 pub mod RecordTaken
 pub mod SerialSet
 pub mod SerialPut
+pub mod Swept
+pub mod Formers
+pub mod CanBeUndone
+pub mod Reverting

@@ -1,9 +1,8 @@
--- All sets of a name, taken from the map with the name.
-use Rattle.std.proofs.Common.{◌≡◌, ℕ, ◌-◌, ◌<◌, ◌≤◌, Bool, true, false, List, [], ◌∷◌, length, refl, sym, ap, ◌∙◌, subst, arith, Some, None, Vec, Global}
-use Rattle.std.specs.Prelude.{filter, not, Option, IfSome}
-use Rattle.std.specs.List.{AllByRecursion}
+-- All sets of a name, taken from the map.
+use Rattle.std.proofs.Common.{◌≡◌, ℕ, ◌-◌, ◌≤◌, true, false, List, [], ◌∷◌, length, refl, sym, ap, ◌∙◌, subst, arith, Some, None}
+use Rattle.std.specs.Prelude.{filter, not}
 use Rattle.std.specs.List.Sorted.{IsStrictlySortedBy}
-use Rattle.std.specs.Map.{keys_of, lookup, remove_entry}
+use Rattle.std.specs.Map.{keys_of}
 use Rattle.std.specs.Ordering.{nat_cmp}
 use Rattle.std.specs.Cmp.Lexicographic.{slice_cmp}
 use Rattle.std.proofs.lemmas.Slice.Eq.{bytes_eq-Decides}
@@ -14,16 +13,12 @@ use Rattle.dns_zone_map.specs.Keys.{key_of}
 use Rattle.dns_zone_map.specs.Changes.{bears}
 use Rattle.dns_zone_map.specs.Zone.{Contents}
 use Rattle.dns_zone_map.specs.Order.{list_of}
-use Rattle.dns_zone_map.specs.Sets.{in_sets, sets_or_none, AreSetsOf, ArePaired}
-use Rattle.dns_zone_map.specs.Tree.{in_entries, Belongs, AreSets, IsTree}
-use Rattle.dns_zone_map.specs.Removal.{is_key, ChangedFrom}
+use Rattle.dns_zone_map.specs.Sets.{in_sets, IsPaired, ArePaired}
+use Rattle.dns_zone_map.specs.Tree.{in_entries, Belongs, IsSet, AreSets, IsTree}
+use Rattle.dns_zone_map.specs.Removal.{AreCleared, IsClearedFrom, ChangedFrom}
 use Rattle.dns_zone_map.proofs.Keyed.{same_keys}
-use Rattle.dns_zone_map.proofs.Lent.{apart_sorted, looked, sets_are, sets_some}
-use Rattle.dns_zone_map.proofs.InEntries.{absent_all}
-use Rattle.dns_zone_map.proofs.Outside.{outside_at}
+use Rattle.dns_zone_map.proofs.Lent.{apart_sorted, all_to}
 use Rattle.dns_zone_map.proofs.Rest.{Entries}
-use Rattle.dns_zone_map.proofs.Reading.{paired_all}
-use Rattle.dns_zone_map.proofs.Taking.{all_gone}
 use Rattle.dns_zone_map.proofs.Left.{IsLeft, outside_left, here, is_left, whole_sets, absent_stays, list_left, gone_fewer, tree_left}
 
 none_kept : (ss : List RecordSet) → [] ≡ filter (λ s. false) ss
@@ -37,36 +32,23 @@ bears_narrow name r h = h
 pub key_bears : (origin name : List (List ℕ)) (r : Record) (kind : ℕ) → is_at_or_below name origin ≡ true → Belongs origin (key_of origin name) kind r → bears name r ≡ true
 key_bears origin name r kind within b = same_keys origin r.name name b.within within ∙ (bytes_eq-Decides (key_of origin r.name) (key_of origin name)).1 b.under
 
-remove_none : (test : Vec ℕ Global → Bool) (es : Entries) → AllByRecursion (λ e. test e.0 ≡ false) es → remove_entry test es ≡ es
-remove_none test [] h = refl
-remove_none test (e ∷ es) h = rw h.0 (ap (λ (xs : Entries). e ∷ xs) (remove_none test es h.1))
-
 module _ (origin name : List (List ℕ)) (es : Entries) (next count : ℕ) (zone : Contents) (view : record { origin = origin; records = list_of (in_entries es) } ≡ zone) (tree : IsTree origin es next count) where
   -- a name outside the zone owns nothing
   pub outside_name : is_at_or_below name origin ≡ false → zone.records ≡ filter (λ r. not (bears name r)) zone.records
   outside_name out = outside_left origin name (bears name) (bears_narrow name) es zone view out tree.each
 
-  pub outside_sets : is_at_or_below name origin ≡ false → AreSetsOf zone.records name []
-  outside_sets out = record { each = λ rtype. sym (outside_at origin name rtype es zone view out tree.each); rising = tt }
-
-  module _ (fs : Entries) (key : List ℕ) (within : is_at_or_below name origin ≡ true) (sorted : IsStrictlySortedBy (λ x y. slice_cmp nat_cmp x.items y.items) (keys_of es)) (keyed : key ≡ key_of origin name) (gone : fs ≡ remove_entry (is_key key) es) where
-    -- what was found are the sets of the name
-    pub sets_found : (found : Option (List RecordSet)) → found ≡ lookup (is_key key) es → AreSetsOf zone.records name (sets_or_none found)
-    sets_found found at =
-        let o : origin ≡ zone.origin = ap (λ z. z.origin) view in
-        sets_are origin name key es zone found view (subst (λ z. is_at_or_below name z ≡ true) o within) (keyed ∙ ap (λ z. key_of z name) o) tree.each sorted at
-
+  module _ (fs : Entries) (key : List ℕ) (within : is_at_or_below name origin ≡ true) (sorted : IsStrictlySortedBy (λ x y. slice_cmp nat_cmp x.items y.items) (keys_of es)) (keyed : key ≡ key_of origin name) where
     -- there was nothing
-    pub none_left : None ≡ lookup (is_key key) es → list_of (in_entries fs) ≡ filter (λ r. not (bears name r)) zone.records
-    none_left at = absent_stays origin name (bears name) (bears_narrow name) es next count zone view tree fs key within keyed (sym at) (gone ∙ remove_none (is_key key) es (absent_all (is_key key) es (sym at)))
+    pub none_left : IsClearedFrom key es fs None → list_of (in_entries fs) ≡ filter (λ r. not (bears name r)) zone.records
+    none_left none = absent_stays origin name (bears name) (bears_narrow name) es next count zone view tree fs key within keyed none.1 none.0
 
-    -- or the name went
-    module _ (sets : List RecordSet) (at : Some sets ≡ lookup (is_key key) es) where
+    -- or its sets were taken
+    module _ (sets : List RecordSet) (cleared : IsClearedFrom key es fs (Some sets)) where
       abbrev Went : List RecordSet → List RecordSet → Type 0
-      Went ss cs = (ss ≡ sets) × (cs ≡ [])
+      Went = AreCleared sets
 
       went : ChangedFrom (key_of origin name) Went es fs
-      went = subst (λ k. ChangedFrom k Went es fs) keyed (all_gone key es fs sets at gone)
+      went = subst (λ k. ChangedFrom k Went es fs) keyed cleared
 
       left : IsLeft origin (bears name) es fs next (length (in_sets sets))
       left =
@@ -79,10 +61,9 @@ module _ (origin name : List (List ℕ)) (es : Entries) (next count : ℕ) (zone
       name_left = list_left origin name (bears name) (bears_narrow name) es next count zone view tree fs (length (in_sets sets)) left
 
       pub name_paired : ArePaired sets
-      name_paired = subst (λ (f : Option (List RecordSet)). IfSome f ArePaired) (sym at) (looked ArePaired (is_key key) es (paired_all origin es tree.each))
-
-      pub name_some : 0 < length sets
-      name_some = sets_some origin key es (Some sets) tree.each at
+      name_paired =
+          let old : AreSets origin (key_of origin name) went.sets = here origin name (bears name) (bears_narrow name) within es fs next Went tree.each tree.below (apart_sorted es sorted) went in
+          subst ArePaired went.change.0 (all_to (IsSet origin (key_of origin name)) IsPaired (λ s p. p.paired) went.sets old.each)
 
       pub name_few : length (in_sets sets) ≤ count
       name_few = gone_fewer origin name (bears name) (bears_narrow name) es next count zone view tree fs (length (in_sets sets)) left

@@ -1,5 +1,5 @@
 -- A record that was put into the map of a zone was put into its list.
-use Rattle.std.proofs.Common.{◌≡◌, ℕ, ◌+◌, ◌<◌, ◌≤◌, Bool, true, false, List, [], ◌∷◌, ◌++◌, length, map, refl, sym, ap, ◌∙◌, subst, arith, append_assoc, length-append, inl, inr, Some, None, Vec, Global}
+use Rattle.std.proofs.Common.{◌≡◌, ℕ, ◌+◌, ◌<◌, ◌≤◌, Bool, true, false, List, [], ◌∷◌, ◌++◌, length, map, refl, sym, ap, ◌∙◌, subst, arith, append_assoc, inl, inr, Some, None, Vec, Global}
 use Rattle.std.specs.Prelude.{Option, is_some}
 use Rattle.std.specs.List.{AllByRecursion, list_any}
 use Rattle.std.specs.Str.{bytes_eq}
@@ -206,7 +206,6 @@ module _ (origin : List (List ℕ)) (one : Record) (entry : IsEntry origin one) 
 
       changed_are : AreSets origin stored.items changed
       changed_are = record {
-        filled = omega (arith, ap length sets_is, length-append lower (put_in_set next one set ∷ upper));
         each = subst (AllByRecursion (IsSet origin stored.items)) (sym sets_is)
             (all_append (IsSet origin stored.items) lower (put_in_set next one set ∷ upper) (all_front (IsSet origin stored.items) lower (set ∷ upper) each_set)
             (is_set_put next one set origin stored.items set_is (belongs stored.items keyed set.rtype typed) few_set set_below, (all_back (IsSet origin stored.items) lower (set ∷ upper) each_set).1));
@@ -270,7 +269,6 @@ module _ (origin : List (List ℕ)) (one : Record) (entry : IsEntry origin one) 
 
       beside_are : AreSets origin stored.items changed
       beside_are = record {
-        filled = omega (arith, ap length sets_is, length-append lower (new_set next one ∷ upper));
         each = subst (AllByRecursion (IsSet origin stored.items)) (sym sets_is)
             (all_append (IsSet origin stored.items) lower (new_set next one ∷ upper) (all_front (IsSet origin stored.items) lower upper each_beside)
             (is_set_new next one origin stored.items (belongs stored.items keyed one.rtype refl), all_back (IsSet origin stored.items) lower upper each_beside));
@@ -303,7 +301,7 @@ module _ (origin : List (List ℕ)) (one : Record) (entry : IsEntry origin one) 
         front_fails = all_front (λ y. of_plain test y ≡ false) (in_entries u.front) (in_entries u.back) fails_split;
         back_fails = all_back (λ y. of_plain test y ≡ false) (in_entries u.front) (in_entries u.back) fails_split;
       } in
-      let sets : AreSets origin u.stored.items (new_set next one ∷ []) = record { filled = omega arith; each = (is_set_new next one origin u.stored.items (belongs u.stored.items u.keyed one.rtype refl), tt); rise = (tt, tt) } in
+      let sets : AreSets origin u.stored.items (new_set next one ∷ []) = record { each = (is_set_new next one origin u.stored.items (belongs u.stored.items u.keyed one.rtype refl), tt); rise = (tt, tt) } in
       alone (in_sets (new_set next one ∷ [])) old refl m u.replaced
       (subst (AreEntries origin) (sym u.is)
       (all_append (λ e. AreSets origin e.0.items e.1) u.front ((u.stored, new_set next one ∷ []) ∷ u.back) (all_front (λ e. AreSets origin e.0.items e.1) u.front u.back each_split)

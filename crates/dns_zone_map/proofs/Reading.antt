@@ -1,6 +1,6 @@
 -- What a look at the map of a zone says of its list.
-use Rattle.std.proofs.Common.{◌≡◌, ℕ, suc, ◌<◌, Bool, true, false, List, [], ◌∷◌, length, refl, sym, ap, ◌∙◌, subst, Vec, Global, Bor, eqb, None, Some, Result, Ok, Err, IfOk}
-use Rattle.std.specs.Prelude.{Option, IfSome, nat_lt, if◌then◌else◌}
+use Rattle.std.proofs.Common.{◌≡◌, ℕ, suc, Bool, true, false, List, [], ◌∷◌, length, refl, sym, ap, ◌∙◌, subst, Vec, Global, Bor, eqb, Result, Ok, Err, IfOk}
+use Rattle.std.specs.Prelude.{Option, ◌&&◌, nat_lt, if◌then◌else◌}
 use Rattle.std.specs.Option.{option_copied}
 use Rattle.std.specs.List.{list_any, starts_with, AllByRecursion}
 use Rattle.std.specs.List.Sorted.{IsStrictlySortedBy}
@@ -14,9 +14,9 @@ use Rattle.dns_zone_map.specs.Keys.{key_of, Placed}
 use Rattle.dns_zone_map.specs.Zone.{Contents}
 use Rattle.dns_zone_map.specs.Existence.{exists}
 use Rattle.dns_zone_map.specs.Order.{Numbered, into, by_number, plain, list_of}
-use Rattle.dns_zone_map.specs.Sets.{sets_or_none, AreSetsOf, IsPaired, ArePaired}
+use Rattle.dns_zone_map.specs.Sets.{sets_or_none, AreSetsOf, are_some, IsPaired, ArePaired, TypesRise}
 use Rattle.dns_zone_map.specs.Tree.{in_entries, AreEntries, IsTree, AreSets, IsSet}
-use Rattle.dns_zone_map.proofs.Lent.{sets_are, sets_some, all_to}
+use Rattle.dns_zone_map.proofs.Lent.{sets_are, all_to}
 use Rattle.dns_wire.specs.declared.record.Record.{Record}
 use Rattle.dns_zone_map.proofs.Exists.{exists_at}
 
@@ -39,28 +39,27 @@ length-list_of xs = length-map (by_number xs) plain ∙ length-by_number xs
 pub count_is : (origin : List (List ℕ)) (es : List (Vec ℕ Global × List RecordSet)) (count : ℕ) (zone : Contents) → record { origin = origin; records = list_of (in_entries es) } ≡ zone → count ≡ length (in_entries es) → count ≡ length zone.records
 count_is origin es count zone view is = is ∙ sym (length-list_of (in_entries es)) ∙ ap (λ z. length z.records) view
 
-copied_filled : (found : Option (Bor (List RecordSet))) → IfSome (option_copied found) (λ sets. 0 < length sets) → IfSome found (λ sets. 0 < length sets.now)
-copied_filled None h = tt
-copied_filled (Some sets) h = h
-
 module _ (origin : List (List ℕ)) (es : List (Vec ℕ Global × List RecordSet)) (next count : ℕ) (zone : Contents) (placed : Placed) (view : record { origin = origin; records = list_of (in_entries es) } ≡ zone) (tree : IsTree origin es next count) (same : placed.origin ≡ zone.origin) (name : List (List ℕ)) (within : is_at_or_below name placed.origin ≡ true) where
   abbrev seen : List ℕ → Option (List RecordSet)
   seen key = lookup (λ k. is_eq (slice_cmp nat_cmp key k.items)) es
 
   -- the sets at the key of a name
-  pub sets_at : (key : List ℕ) (found : Option (Bor (List RecordSet))) → IsStrictlySortedBy (λ x y. slice_cmp nat_cmp x.items y.items) (keys_of es) → key ≡ key_of placed.origin name → option_copied found ≡ seen key → AreSetsOf zone.records name (sets_or_none (option_copied found))
-  sets_at key found sorted is at = sets_are origin name key es zone (option_copied found) view (subst (λ o. is_at_or_below name o ≡ true) same within) (is ∙ ap (λ o. key_of o name) same) tree.each sorted at
-
-  pub some_at : (key : List ℕ) (found : Option (Bor (List RecordSet))) → option_copied found ≡ seen key → IfSome found (λ sets. 0 < length sets.now)
-  some_at key found at = copied_filled found (sets_some origin key es (option_copied found) tree.each at)
+  pub sets_at : (key : List ℕ) (found : Option (Bor (List RecordSet))) → IsStrictlySortedBy (λ x y. slice_cmp nat_cmp x.items y.items) (keys_of es) → key ≡ key_of placed.origin name → sets_or_none (option_copied found) ≡ sets_or_none (seen key) → AreSetsOf zone.records name (sets_or_none (option_copied found))
+  sets_at key found sorted is at =
+      subst (AreSetsOf zone.records name) (sym at)
+      (sets_are origin name key es zone (seen key) view (subst (λ o. is_at_or_below name o ≡ true) same within) (is ∙ ap (λ o. key_of o name) same) tree.each sorted refl)
 
   -- whether the name exists
-  pub there_at : (key : List ℕ) (there : Bool) → key ≡ key_of placed.origin name → there ≡ list_any (λ e. starts_with eqb e.0.items key) es → there ≡ exists zone.records name
+  pub there_at : (key : List ℕ) (there : Bool) → key ≡ key_of placed.origin name → there ≡ list_any (λ e. starts_with eqb e.0.items key && are_some e.1) es → there ≡ exists zone.records name
   there_at key there is begun = exists_at origin name key es zone there view (subst (λ o. is_at_or_below name o ≡ true) same within) (is ∙ ap (λ o. key_of o name) same) tree.each begun
 
 -- each set has a number for each record
 pub paired_all : (origin : List (List ℕ)) (es : List (Vec ℕ Global × List RecordSet)) → AreEntries origin es → AllByRecursion (λ e. ArePaired e.1) es
 paired_all origin es h = all_to (λ e. AreSets origin e.0.items e.1) (λ e. ArePaired e.1) (λ e p. all_to (IsSet origin e.0.items) IsPaired (λ s q. q.paired) e.1 p.each) es h
+
+-- and the types of the sets of each name rise
+pub rising_entries : (origin : List (List ℕ)) (es : List (Vec ℕ Global × List RecordSet)) → AreEntries origin es → AllByRecursion (λ e. TypesRise e.1) es
+rising_entries origin es h = all_to (λ e. AreSets origin e.0.items e.1) (λ e. TypesRise e.1) (λ e p. p.rise) es h
 
 pub records_seen : {E : Type 0} (origin : List (List ℕ)) (es : List (Vec ℕ Global × List RecordSet)) (zone : Contents) (result : Result (List Record) E) → record { origin = origin; records = list_of (in_entries es) } ≡ zone → IfOk result (λ records. records ≡ list_of (in_entries es)) → IfOk result (λ records. records ≡ zone.records)
 records_seen origin es zone (Err e) view is = tt

@@ -21,7 +21,7 @@ use Rattle.dns_zone_map.specs.Zone.{Contents, is_in_set, set_of, is_equal, is_ri
 use Rattle.dns_zone_map.specs.Order.{list_of}
 use Rattle.dns_zone_map.specs.Sets.{set_in, records_in, some_of}
 use Rattle.dns_zone_map.specs.Tree.{in_entries, AreSets, IsTree}
-use Rattle.dns_zone_map.specs.Removal.{is_key, with_sets, ChangedFrom, OneTaken, HasNoEqual, IsOneTaken, IsOneTakenIn, IsOneTakenFrom}
+use Rattle.dns_zone_map.specs.Removal.{is_key, ChangedFrom, OneTaken, HasNoEqual, IsOneTaken, IsOneTakenFrom}
 use Rattle.dns_zone_map.proofs.Keyed.{same_name}
 use Rattle.dns_zone_map.proofs.Lent.{all_to, apart_sorted, lent_set}
 use Rattle.dns_zone_map.proofs.Rest.{Entries}
@@ -32,6 +32,7 @@ use Rattle.dns_zone_map.proofs.Serials.{none_is, some_is}
 use Rattle.dns_zone_map.proofs.Outside.{outside_at}
 use Rattle.dns_zone_map.proofs.Taken.{all_stay, IsOut, is_out}
 use Rattle.dns_zone_map.proofs.Left.{IsLeft, here, is_left, list_left, gone_fewer, tree_left}
+use Rattle.dns_zone_map.proofs.Taking.{changed_from}
 use Rattle.dns_zone_map.proofs.EqualTaken.{equal_type, equal_name, one_left, one_count}
 
 turned_name : (a b : List (List ℕ)) → is_same_name a b ≡ true → is_same_name b a ≡ true
@@ -140,9 +141,9 @@ module _ (origin : List (List ℕ)) (one : Record) (es : Entries) (next count : 
       went = subst (λ k. ChangedFrom k (OneTaken one r) es fs) keyed taken
 
       -- the set of which it was
-      out : IsOut origin one.name one.rtype es (with_sets went.front went.stored (went.change.front ++ went.change.back) went.back) next went.change.set
+      out : IsOut origin one.name one.rtype es (went.front ++ (went.stored, went.change.front ++ went.change.back) ∷ went.back) next went.change.set
       out =
-          is_out origin one.name one.rtype within es (with_sets went.front went.stored (went.change.front ++ went.change.back) went.back) next went.change.set tree.each tree.below (apart_sorted es sorted)
+          is_out origin one.name one.rtype within es (went.front ++ (went.stored, went.change.front ++ went.change.back) ∷ went.back) next went.change.set tree.each tree.below (apart_sorted es sorted)
           (record {
             front = went.front;
             stored = went.stored;
@@ -189,6 +190,7 @@ module _ (key : List ℕ) (one : Record) (before after : Entries) where
   pub no_such_name : None ≡ lookup (is_key key) before → IfSome (option_and_then (set_in one.rtype) (lookup (is_key key) before)) (HasNoEqual one)
   no_such_name at = subst (λ (found : Option (List RecordSet)). IfSome (option_and_then (set_in one.rtype) found) (HasNoEqual one)) at tt
 
-  pub none_of_name : (sets changed : List RecordSet) → Some sets ≡ lookup (is_key key) before → after ≡ set_value (is_key key) before changed → IsOneTaken one sets changed None → IsOneTakenIn key one before after None
-  none_of_name sets changed at is none =
+  pub one_of_name : (sets changed : List RecordSet) (result : Option Record) → Some sets ≡ lookup (is_key key) before → after ≡ set_value (is_key key) before changed → IsOneTaken one sets changed result → IsOneTakenFrom key one before after result
+  one_of_name sets changed None at is none =
       (is ∙ ap (set_value (is_key key) before) none.0 ∙ set_value_same (is_key key) before sets (sym at), subst (λ (found : Option (List RecordSet)). IfSome (option_and_then (set_in one.rtype) found) (HasNoEqual one)) at none.1)
+  one_of_name sets changed (Some r) at is taken = changed_from key before after (OneTaken one r) sets changed at is taken

@@ -1,5 +1,5 @@
 -- A serial that is set in the map is set in its list.
-use Rattle.std.proofs.Common.{◌≡◌, ℕ, ◌+◌, ◌<◌, suc, Bool, true, false, List, [], ◌∷◌, ◌++◌, length, map, get_or, take, drop, refl, sym, ap, ◌∙◌, subst, arith, ◌==◌, if◌then◌else◌, append_assoc, length-append, inl, inr, Some, None}
+use Rattle.std.proofs.Common.{◌≡◌, ℕ, ◌+◌, ◌<◌, suc, Bool, true, false, List, [], ◌∷◌, ◌++◌, length, map, get_or, take, drop, refl, sym, ap, ◌∙◌, subst, arith, ◌==◌, if◌then◌else◌, append_assoc, inl, inr, Some, None}
 use Rattle.std.specs.Prelude.{slice_set}
 use Rattle.std.specs.List.{AllByRecursion}
 use Rattle.std.specs.Str.{bytes_eq}
@@ -228,7 +228,6 @@ module _ (origin : List (List ℕ)) (k : ℕ) where
               whole = subst (AreEntries origin) (sym t.is)
                   (all_append (λ e. AreSets origin e.0.items e.1) t.front ((t.stored, t.changed) ∷ t.back) each_front (
                     record {
-                      filled = omega (arith, ap length s.is, length-append s.front (serial_set k s.set ∷ s.back));
                       each = subst (AllByRecursion (IsSet origin t.stored.items)) (sym s.is) (all_append (IsSet origin t.stored.items) s.front (serial_set k s.set ∷ s.back) lower (still_set t.stored.items s.set upper.0, upper.1));
                       rise = subst TypesRise (sym s.is) (rise_same s.front s.back s.set (serial_set k s.set) refl rise);
                     },

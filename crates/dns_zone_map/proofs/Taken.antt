@@ -1,5 +1,5 @@
 -- A set that was taken from the map was taken from its list.
-use Rattle.std.proofs.Common.{◌≡◌, ℕ, suc, ◌+◌, ◌-◌, ◌<◌, ◌≤◌, Bool, true, false, List, [], ◌∷◌, ◌++◌, length, map, refl, sym, ap, ◌∙◌, subst, arith, ◌==◌, if◌then◌else◌, append_assoc, length-append, Some, None, Vec, Global}
+use Rattle.std.proofs.Common.{◌≡◌, ℕ, suc, ◌+◌, ◌-◌, ◌<◌, ◌≤◌, Bool, true, false, List, [], ◌∷◌, ◌++◌, length, map, refl, sym, ap, ◌∙◌, subst, arith, ◌==◌, if◌then◌else◌, append_assoc, length-append, Some, None}
 use Rattle.std.specs.Prelude.{filter, not, ◌&&◌, option_map}
 use Rattle.std.specs.List.{AllByRecursion}
 use Rattle.std.specs.Str.{bytes_eq}
@@ -18,9 +18,9 @@ use Rattle.dns_zone_map.specs.Zone.{Contents, is_in_set, set_of}
 use Rattle.dns_zone_map.specs.Order.{Numbered, plain, list_of, of_plain, numbered, AreBelow}
 use Rattle.dns_zone_map.specs.Sets.{TypesRise, in_set, in_sets, records_in, some_of}
 use Rattle.dns_zone_map.specs.Tree.{in_entries, Belongs, IsSet, AreSets, AreEntries, IsTree, KeysApart}
-use Rattle.dns_zone_map.specs.Removal.{with_sets, TakenFrom, HasNone, IsTakenFrom}
+use Rattle.dns_zone_map.specs.Removal.{TakenFrom, HasNone, IsTakenFrom}
 use Rattle.dns_zone_map.proofs.Keyed.{same_keys}
-use Rattle.dns_zone_map.proofs.Lent.{plain_again, set_list, bytes_turned, all_to, numbered_all, filter_none, filter_all, some_filled, apart_sorted, lent_set}
+use Rattle.dns_zone_map.proofs.Lent.{plain_again, set_list, bytes_turned, all_to, numbered_all, filter_none, filter_all, apart_sorted, lent_set}
 use Rattle.dns_zone_map.proofs.Exists.{all_append}
 use Rattle.dns_zone_map.proofs.Rest.{Entries, Fails, FailsAt, all_front, all_back, sets_fail, entries_fail}
 use Rattle.dns_zone_map.proofs.Middle.{Middle, filtered_mid, list_taken}
@@ -53,14 +53,6 @@ pub rise_without : (front back : List RecordSet) (s : RecordSet) → TypesRise (
 rise_without [] back s h = h.1
 rise_without (f ∷ front) back s h =
     (all_append (λ t. f.rtype < t.rtype) front back (all_front (λ t. f.rtype < t.rtype) front (s ∷ back) h.0) (all_back (λ t. f.rtype < t.rtype) front (s ∷ back) h.0).1, rise_without front back s h.1)
-
-pub in_with : (front back : Entries) (stored : Vec ℕ Global) (changed : List RecordSet) → in_entries (with_sets front stored changed back) ≡ in_entries front ++ (in_sets changed ++ in_entries back)
-in_with front back stored [] = flat_map-append (λ (e : Vec ℕ Global × List RecordSet). in_sets e.1) front back
-in_with front back stored (s ∷ ss) = around_entry front back stored (s ∷ ss)
-
-pub each_with : (origin : List (List ℕ)) (front back : Entries) (stored : Vec ℕ Global) (changed : List RecordSet) → AreEntries origin front → AreEntries origin back → AllByRecursion (IsSet origin stored.items) changed → TypesRise changed → AreEntries origin (with_sets front stored changed back)
-each_with origin front back stored [] f b e r = all_append (λ e. AreSets origin e.0.items e.1) front back f b
-each_with origin front back stored (s ∷ ss) f b e r = all_append (λ e. AreSets origin e.0.items e.1) front ((stored, s ∷ ss) ∷ back) f (record { filled = omega arith; each = e; rise = r }, b)
 
 regroup : (a b c d : List Numbered) → a ++ ((b ++ c) ++ d) ≡ (a ++ b) ++ (c ++ d)
 regroup a b c d = simp append_assoc
@@ -163,7 +155,7 @@ module _ (origin name : List (List ℕ)) (rtype : ℕ) (within : is_at_or_below 
 
   ys_are : in_entries fs ≡ (in_entries t.front ++ in_sets lower) ++ (in_sets upper ++ in_entries t.back)
   ys_are =
-      ap in_entries t.is ∙ in_with t.front t.back t.stored t.changed
+      ap in_entries t.is ∙ around_entry t.front t.back t.stored t.changed
       ∙ ap (λ (xs : List Numbered). in_entries t.front ++ (xs ++ in_entries t.back)) (ap in_sets t.change.is ∙ flat_map-append in_set lower upper) ∙ regroup (in_entries t.front) (in_sets lower) (in_sets upper) (in_entries t.back)
 
   middle : Middle test (in_entries es) (in_entries fs) (in_set set) []
@@ -208,7 +200,7 @@ module _ (origin name : List (List ℕ)) (rtype : ℕ) (within : is_at_or_below 
         list = sym (list_taken test (in_entries es) (in_entries fs) (in_set set) [] middle none_left);
         records = filtered_mid test (in_entries es) (in_entries fs) (in_set set) [] middle sorted ∙ ap (filter test) plain_is ∙ filter_all test set.records all_pass;
         some = set_is.filled;
-        each = subst (AreEntries origin) (sym t.is) (each_with origin t.front t.back t.stored t.changed each_front each_back changed_each changed_rise);
+        each = subst (AreEntries origin) (sym t.is) (all_append (λ e. AreSets origin e.0.items e.1) t.front ((t.stored, t.changed) ∷ t.back) each_front (record { each = changed_each; rise = changed_rise }, each_back));
         below = subst (AreBelow next) (sym ys_are) (all_append P (in_entries t.front ++ in_sets lower) (in_sets upper ++ in_entries t.back) a b);
         counted = omega (
           arith,
@@ -252,9 +244,6 @@ module _ (origin name : List (List ℕ)) (rtype : ℕ) (es : Entries) (next coun
 
       pub list_after : list_of (in_entries fs) ≡ filter (λ r. not (is_in_set name rtype r)) zone.records
       list_after = out.list ∙ ap (filter (λ r. not (is_in_set name rtype r))) same_records
-
-      pub was_there : Some set.records ≡ some_of (set_of zone.records name rtype)
-      was_there = sym (ap (λ (rs : List Record). some_of (set_of rs name rtype)) (sym same_records) ∙ ap some_of out.records ∙ some_filled set.records out.some)
 
       pub fewer : length set.records ≤ count
       fewer = omega (arith, out.counted, tree.counted)

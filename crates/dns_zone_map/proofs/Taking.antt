@@ -13,7 +13,7 @@ use Rattle.std.proofs.lemmas.Slice.Eq.{bytes_eq-Decides}
 use Rattle.std.proofs.lemmas.Map.Text.{is_eq-slice_cmp}
 use Rattle.dns_zone_map.proofs.Lent.{looked}
 use Rattle.dns_zone_map.specs.Insertion.{StandsAt, ComesAt}
-use Rattle.dns_zone_map.specs.Removal.{SetTaken, IsTaken, is_key, ChangedIn, IsTakenIn, with_sets, ChangedFrom}
+use Rattle.dns_zone_map.specs.Removal.{SetTaken, IsTaken, is_key, ChangedIn, ChangedFrom, IsTakenFrom}
 
 abbrev Entries : Type 0
 Entries = List (Vec ℕ Global × List RecordSet)
@@ -78,73 +78,39 @@ changed_in key before after Change sets changed left at is change count =
     let f : FirstAt key before sets = first_at key before sets (sym at) in
     record { front = f.front; stored = f.stored; sets = sets; changed = changed; back = f.back; was = f.was; first = f.first; found = f.found; is = is ∙ f.written changed; change = change; left_is = count }
 
+pub key_is : (key : List ℕ) (k : Vec ℕ Global) → is_key key k ≡ true → k.items ≡ key
+key_is key k t = sym ((bytes_eq-Decides key k.items).0 (sym (is_eq-slice_cmp key k.items) ∙ t))
+
+-- the same, the name staying
+pub changed_from : (key : List ℕ) (before after : Entries) (Change : List RecordSet → List RecordSet → Type 0) (sets changed : List RecordSet) → Some sets ≡ lookup (is_key key) before → after ≡ set_value (is_key key) before changed → Change sets changed → ChangedFrom key Change before after
+changed_from key before after Change sets changed at is change =
+    let f : FirstAt key before sets = first_at key before sets (sym at) in
+    record { front = f.front; stored = f.stored; sets = sets; changed = changed; back = f.back; was = f.was; keyed = key_is key f.stored f.found; is = is ∙ f.written changed; change = change }
+
 module _ (key : List ℕ) (rtype : ℕ) (before after : Entries) where
-  pub no_name : None ≡ lookup (is_key key) before → after ≡ before → IsTakenIn key rtype before after None
-  no_name at same = (same, ap (option_and_then (λ sets. set_in rtype sets)) (sym at))
-
-  pub no_set : (sets changed : List RecordSet) → Some sets ≡ lookup (is_key key) before → after ≡ set_value (is_key key) before changed → IsTaken rtype sets changed None → IsTakenIn key rtype before after None
-  no_set sets changed at is none =
+  -- a set is taken from the sets that are found
+  pub taken_from : (sets changed : List RecordSet) (result : Option RecordSet) → Some sets ≡ lookup (is_key key) before → after ≡ set_value (is_key key) before changed → IsTaken rtype sets changed result → IsTakenFrom key rtype before after result
+  taken_from sets changed None at is none =
       (is ∙ ap (set_value (is_key key) before) none.0 ∙ set_value_same (is_key key) before sets (sym at), ap (option_and_then (λ ss. set_in rtype ss)) (sym at) ∙ none.1)
+  taken_from sets changed (Some set) at is taken = changed_from key before after (λ ss cs. SetTaken rtype ss cs set) sets changed at is taken
 
-  pub one_set : (sets changed : List RecordSet) (set : RecordSet) (left : ℕ) → Some sets ≡ lookup (is_key key) before → after ≡ set_value (is_key key) before changed → IsTaken rtype sets changed (Some set) → left ≡ length changed → IsTakenIn key rtype before after (Some (set, left))
-  one_set sets changed set left at is taken count = changed_in key before after (λ ss cs. SetTaken rtype ss cs set) sets changed left at is taken count
+  -- there is no such name
+  pub no_name : None ≡ lookup (is_key key) before → after ≡ before → IsTakenFrom key rtype before after None
+  no_name at same = (same, ap (option_and_then (λ sets. set_in rtype sets)) (sym at))
 
   -- the sets that are found rise
   pub rising_at : (sets : List RecordSet) → AllByRecursion (λ e. TypesRise e.1) before → Some sets ≡ lookup (is_key key) before → TypesRise sets
   rising_at sets rise at = subst (λ (f : Option (List RecordSet)). IfSome f TypesRise) (sym at) (looked TypesRise (is_key key) before rise)
 
-pub key_is : (key : List ℕ) (k : Vec ℕ Global) → is_key key k ≡ true → k.items ≡ key
-key_is key k t = sym ((bytes_eq-Decides key k.items).0 (sym (is_eq-slice_cmp key k.items) ∙ t))
+-- a name that is found was taken away
+pub record GoneAt (key : List ℕ) (before after : Entries) (sets : List RecordSet) : Type 0 where
+  pub front : Entries
+  pub stored : Vec ℕ Global
+  pub back : Entries
+  pub was : before ≡ front ++ (stored, sets) ∷ back
+  pub is : after ≡ front ++ back
 
-with_none : (front back : Entries) (stored : Vec ℕ Global) (changed : List RecordSet) → length changed ≡ 0 → front ++ back ≡ with_sets front stored changed back
-with_none front back stored [] h = refl
-with_none front back stored (s ∷ ss) h = absurd (omega (arith, h))
-
-with_some : (front back : Entries) (stored : Vec ℕ Global) (changed : List RecordSet) → (length changed ≡ 0 → ⊥) → front ++ (stored, changed) ∷ back ≡ with_sets front stored changed back
-with_some front back stored [] h = absurd (h refl)
-with_some front back stored (s ∷ ss) h = refl
-
-module _ (key : List ℕ) (Change : List RecordSet → List RecordSet → Type 0) (before between : Entries) (left : ℕ) (t : ChangedIn key Change before between left) where
-  -- the name went with its last set
-  pub name_gone : (after : Entries) → left ≡ 0 → after ≡ remove_entry (is_key key) between → ChangedFrom key Change before after
-  name_gone after none gone = record {
-    front = t.front;
-    stored = t.stored;
-    sets = t.sets;
-    changed = t.changed;
-    back = t.back;
-    was = t.was;
-    keyed = key_is key t.stored t.found;
-    is = gone ∙ ap (remove_entry (is_key key)) t.is ∙ gone_here key t.front t.back t.stored t.changed t.first t.found ∙ with_none t.front t.back t.stored t.changed (sym t.left_is ∙ none);
-    change = t.change;
-  }
-
-  -- or stays with others
-  pub name_stays : (left ≡ 0 → ⊥) → ChangedFrom key Change before between
-  name_stays some = record {
-    front = t.front;
-    stored = t.stored;
-    sets = t.sets;
-    changed = t.changed;
-    back = t.back;
-    was = t.was;
-    keyed = key_is key t.stored t.found;
-    is = t.is ∙ with_some t.front t.back t.stored t.changed (λ e. some (t.left_is ∙ e));
-    change = t.change;
-  }
-
--- the sets that are found were taken with their name
-pub all_gone : (key : List ℕ) (before after : Entries) (sets : List RecordSet) → Some sets ≡ lookup (is_key key) before → after ≡ remove_entry (is_key key) before → ChangedFrom key (λ ss cs. (ss ≡ sets) × (cs ≡ [])) before after
-all_gone key before after sets at gone =
+pub gone_at : (key : List ℕ) (before after : Entries) (sets : List RecordSet) → Some sets ≡ lookup (is_key key) before → after ≡ remove_entry (is_key key) before → GoneAt key before after sets
+gone_at key before after sets at gone =
     let f : FirstAt key before sets = first_at key before sets (sym at) in
-    record {
-      front = f.front;
-      stored = f.stored;
-      sets = sets;
-      changed = [];
-      back = f.back;
-      was = f.was;
-      keyed = key_is key f.stored f.found;
-      is = gone ∙ ap (remove_entry (is_key key)) f.was ∙ gone_here key f.front f.back f.stored sets f.first f.found;
-      change = (refl, refl);
-    }
+    record { front = f.front; stored = f.stored; back = f.back; was = f.was; is = gone ∙ ap (remove_entry (is_key key)) f.was ∙ gone_here key f.front f.back f.stored sets f.first f.found }

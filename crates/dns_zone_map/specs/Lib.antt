@@ -10,3 +10,5 @@ pub mod Changes
 pub mod Insertion
 pub mod Removal
 pub mod Serial
+pub mod Mapped
+pub mod Former

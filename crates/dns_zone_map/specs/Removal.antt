@@ -47,12 +47,7 @@ pub record ChangedIn (key : List ℕ) (Change : List RecordSet → List RecordSe
 abbrev pub HasNone : List ℕ → ℕ → List (Vec ℕ Global × List RecordSet) → Type 0
 HasNone key rtype entries = option_and_then (λ sets. set_in rtype sets) (lookup (is_key key) entries) ≡ None
 
--- the entries with other sets of a name, or without the name where none are left
-abbrev pub with_sets : List (Vec ℕ Global × List RecordSet) → Vec ℕ Global → List RecordSet → List (Vec ℕ Global × List RecordSet) → List (Vec ℕ Global × List RecordSet)
-with_sets front stored [] back = front ++ back
-with_sets front stored (s ∷ ss) back = front ++ (stored, s ∷ ss) ∷ back
-
--- the sets of the name with this key became others, and the name went where none were left
+-- the sets of the name with this key became others; the name stays, also where none are left
 pub record ChangedFrom (key : List ℕ) (Change : List RecordSet → List RecordSet → Type 0) (before after : List (Vec ℕ Global × List RecordSet)) : Type 0 where
   pub front : List (Vec ℕ Global × List RecordSet)
   pub stored : Vec ℕ Global
@@ -61,7 +56,7 @@ pub record ChangedFrom (key : List ℕ) (Change : List RecordSet → List Record
   pub back : List (Vec ℕ Global × List RecordSet)
   pub was : before ≡ front ++ (stored, sets) ∷ back
   pub keyed : stored.items ≡ key
-  pub is : after ≡ with_sets front stored changed back
+  pub is : after ≡ front ++ (stored, changed) ∷ back
   pub change : Change sets changed
 
 -- the set of a type was taken from the name with this key
@@ -72,12 +67,7 @@ abbrev pub IsTakenFrom : List ℕ → ℕ → List (Vec ℕ Global × List Recor
 IsTakenFrom key rtype before after None = (after ≡ before) × HasNone key rtype before
 IsTakenFrom key rtype before after (Some set) = TakenFrom key rtype before after set
 
--- the same, with how many sets are left
-abbrev pub IsTakenIn : List ℕ → ℕ → List (Vec ℕ Global × List RecordSet) → List (Vec ℕ Global × List RecordSet) → Option (RecordSet × ℕ) → Type 0
-IsTakenIn key rtype before after None = (after ≡ before) × HasNone key rtype before
-IsTakenIn key rtype before after (Some taken) = ChangedIn key (λ sets changed. SetTaken rtype sets changed taken.0) before after taken.1
-
--- the name with this key owns nothing
+-- there is no name with this key
 abbrev pub IsAbsent : List ℕ → List (Vec ℕ Global × List RecordSet) → Type 0
 IsAbsent key entries = lookup (is_key key) entries ≡ None
 
@@ -90,10 +80,13 @@ abbrev pub IsFreedFrom : List ℕ → List (Vec ℕ Global × List RecordSet) �
 IsFreedFrom key before after None = (after ≡ before) × IsAbsent key before
 IsFreedFrom key before after (Some gone) = ChangedFrom key (AreFreed gone) before after
 
--- the same, with how many sets are left
-abbrev pub IsFreedIn : List ℕ → List (Vec ℕ Global × List RecordSet) → List (Vec ℕ Global × List RecordSet) → Option (ℕ × ℕ) → Type 0
-IsFreedIn key before after None = (after ≡ before) × IsAbsent key before
-IsFreedIn key before after (Some freed) = ChangedIn key (AreFreed freed.0) before after freed.1
+-- all sets of a name were taken away
+abbrev pub AreCleared : List RecordSet → List RecordSet → List RecordSet → Type 0
+AreCleared taken sets changed = (sets ≡ taken) × (changed ≡ [])
+
+abbrev pub IsClearedFrom : List ℕ → List (Vec ℕ Global × List RecordSet) → List (Vec ℕ Global × List RecordSet) → Option (List RecordSet) → Type 0
+IsClearedFrom key before after None = (after ≡ before) × IsAbsent key before
+IsClearedFrom key before after (Some taken) = ChangedFrom key (AreCleared taken) before after
 
 -- the first record equal to this one stands at a place
 pub record IsFirstEqual (one : Record) (records : List Record) (place : ℕ) : Type 0 where
@@ -158,8 +151,3 @@ IsOneTaken one before after (Some r) = OneTaken one r before after
 abbrev pub IsOneTakenFrom : List ℕ → Record → List (Vec ℕ Global × List RecordSet) → List (Vec ℕ Global × List RecordSet) → Option Record → Type 0
 IsOneTakenFrom key one before after None = (after ≡ before) × IfSome (option_and_then (set_in one.rtype) (lookup (is_key key) before)) (HasNoEqual one)
 IsOneTakenFrom key one before after (Some r) = ChangedFrom key (OneTaken one r) before after
-
--- the same, with how many sets are left
-abbrev pub IsOneTakenIn : List ℕ → Record → List (Vec ℕ Global × List RecordSet) → List (Vec ℕ Global × List RecordSet) → Option (Record × ℕ) → Type 0
-IsOneTakenIn key one before after None = (after ≡ before) × IfSome (option_and_then (set_in one.rtype) (lookup (is_key key) before)) (HasNoEqual one)
-IsOneTakenIn key one before after (Some taken) = ChangedIn key (OneTaken one taken.0) before after taken.1

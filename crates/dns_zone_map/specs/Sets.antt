@@ -1,5 +1,5 @@
 -- The sets of a name (RFC 2181 5).
-use Rattle.std.specs.Prelude.{◌≡◌, ℕ, ◌<◌, List, [], ◌∷◌, length, ◌==◌, if◌then◌else◌, Option, Some, None, option_map}
+use Rattle.std.specs.Prelude.{◌≡◌, ℕ, ◌<◌, Bool, true, false, List, [], ◌∷◌, length, ◌==◌, if◌then◌else◌, Option, Some, None, option_map}
 use Rattle.std.specs.List.{AllByRecursion, flat_map}
 use Rattle.dns_wire.specs.declared.record.Record.{Record}
 use Rattle.dns_zone_map.specs.declared.sets.RecordSet.{RecordSet}
@@ -34,6 +34,11 @@ sets_or_none (Some sets) = sets
 pub record AreSetsOf (records : List Record) (name : List (List ℕ)) (sets : List RecordSet) : Type 0 where
   pub each : (rtype : ℕ) → some_of (set_of records name rtype) ≡ option_map records_in (set_in rtype sets)
   pub rising : TypesRise sets
+
+-- there is a set
+abbrev pub are_some : List RecordSet → Bool
+are_some [] = false
+are_some (s ∷ ss) = true
 
 -- the records of sets with their numbers
 abbrev pub in_set : RecordSet → List Numbered

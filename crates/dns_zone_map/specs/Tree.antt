@@ -27,9 +27,8 @@ pub record IsSet (origin : List (List ℕ)) (key : List ℕ) (s : RecordSet) : T
   pub belong : AllByRecursion (Belongs origin key s.rtype) s.records
   pub rising : IsRising s.numbers
 
--- the sets of a name: not none, each a set, by ascending type
+-- the sets of a name, of which there may be none: each a set, by ascending type
 pub record AreSets (origin : List (List ℕ)) (key : List ℕ) (sets : List RecordSet) : Type 0 where
-  pub filled : 0 < length sets
   pub each : AllByRecursion (IsSet origin key) sets
   pub rise : TypesRise sets
 
@@ -48,3 +47,8 @@ pub record IsTree (origin : List (List ℕ)) (entries : List (Vec ℕ Global × 
 abbrev pub KeysApart : List (Vec ℕ Global × List RecordSet) → Type 0
 KeysApart [] = Unit {0}
 KeysApart (e ∷ es) = AllByRecursion (λ f. bytes_eq e.0.items f.0.items ≡ false) es × KeysApart es
+
+-- the names own what they owned: only names without sets may have come or gone
+pub record OwnsSame (before after : List (Vec ℕ Global × List RecordSet)) : Type 0 where
+  pub same : in_entries after ≡ in_entries before
+  pub each : (origin : List (List ℕ)) → AreEntries origin before → AreEntries origin after

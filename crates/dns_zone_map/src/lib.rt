@@ -2,11 +2,13 @@
 #![tactic(auto)]
 
 mod equal;
+mod former;
 mod key;
 pub mod laws;
 mod listing;
 mod rival;
 mod sets;
+mod sweeping;
 mod zone_map;
 
 pub use key::ZoneKey;

@@ -6,7 +6,7 @@ ghost use Rattle.dns_zone_map.specs.declared.sets.RecordSet.{RecordSet};
 ghost use Rattle.dns_zone_map.specs.Zone.{is_rival};
 ghost use Rattle.dns_zone_map.specs.Changes.{first_that, is_kept_type, data_at, at_serial, set_serial};
 ghost use Rattle.dns_zone_map.specs.Serial.{serial_set, IsSerialSet};
-ghost use Rattle.dns_zone_map.specs.Sets.{set_in, in_sets, IsPaired, ArePaired, TypesRise};
+ghost use Rattle.dns_zone_map.specs.Sets.{set_in, in_sets, are_some, IsPaired, ArePaired, TypesRise};
 ghost use Rattle.dns_zone_map.specs.Removal.{IsTaken, AreFreed, IsEqualTaken, IsEqualTakenAt, IsOneTaken, with_set};
 ghost use Rattle.dns_zone_map.specs.Insertion.{put_in_set, new_set, StandsAt, ComesAt, PutInSets};
 
@@ -59,6 +59,15 @@ impl Numbers {
         &self.numbers
     }
 
+    /// A copy of the numbers.
+    fn copy(&self) -> Result<Numbers, OutOfMemory>
+        ensures { IfOk result (λ copy. copy ≡ self.now) }
+    {
+        Ok(Numbers {
+            numbers: self.numbers.clone()?,
+        })
+    }
+
     /// Takes the number at a place away.
     fn remove(&mut self, place: usize)
         requires { place < length self.old }
@@ -97,6 +106,17 @@ impl RecordSet {
     {
         &self.records
     }
+}
+
+/// A copy of a set.
+fn copied_set(set: &RecordSet) -> Result<RecordSet, OutOfMemory>
+    ensures { IfOk result (λ copy. copy ≡ set.now) }
+{
+    Ok(RecordSet {
+        rtype: set.rtype,
+        records: set.records.copy()?,
+        numbers: set.numbers.copy()?,
+    })
 }
 
 /// The set of a record alone.
@@ -313,6 +333,26 @@ impl OwnerSets {
         Ok(OwnerSets { sets })
     }
 
+    /// No sets. Takes no memory.
+    pub(crate) fn none(alloc: Global) -> OwnerSets
+        ensures { result ≡ [] }
+    {
+        OwnerSets {
+            sets: Vec::new(alloc),
+        }
+    }
+
+    /// A copy of the sets.
+    pub(crate) fn copy(&self, alloc: Global) -> Result<OwnerSets, OutOfMemory>
+        ensures { IfOk result (λ copy. copy ≡ self.now) }
+    {
+        let mut sets = Vec::with_capacity(alloc, self.sets.len())?;
+        for set in &self.sets {
+            sets.push(copied_set(set)?)?;
+        }
+        Ok(OwnerSets { sets })
+    }
+
     /// Puts a record of the name in the place of its rival in the set of its type, which is given back, or at the end of
     /// the set with the number; where memory runs out the sets are as before.
     pub(crate) fn put(
@@ -399,11 +439,14 @@ impl OwnerSets {
         count
     }
 
-    /// How many sets there are.
-    pub(crate) fn len(&self) -> usize
-        ensures { result ≡ length self.now }
+    /// Whether there is a set.
+    pub(crate) fn is_some(&self) -> bool
+        ensures { result ≡ are_some self.now }
     {
-        self.sets.len()
+        match self.as_slice() {
+            [] => false,
+            [_, ..] => true,
+        }
     }
 
     /// All sets, by ascending type.

@@ -1,23 +1,28 @@
 //! The map of a zone: from names to their sets of records.
 
-ghost use Rattle.std.specs.Prelude.{◌≡◌, ◌&&◌, ◌+◌, ◌<◌, ◌≤◌, ◌^◌, [], length, drop, filter, not, option_map, IfOk, IfSome, OnOk, OnErr};
-ghost use Rattle.std.specs.Option.{option_copied};
+ghost use Rattle.std.specs.Prelude.{◌≡◌, ◌&&◌, ◌+◌, ◌<◌, ◌≤◌, ◌^◌, [], length, drop, filter, not, None, IfOk, IfSome, OnOk, OnErr};
+ghost use Rattle.std.specs.Option.{option_copied, IsSome};
+ghost use Rattle.std.specs.Map.{lookup};
 ghost use Rattle.std.specs.List.{list_any, starts_with, AllByRecursion};
 ghost use Rattle.std.specs.Prelude.{nat_eq as eqb};
 ghost use Rattle.dns_name.specs.Name.{is_same_name};
 ghost use Rattle.dns_zone_map.specs.Keys.{star_above};
+ghost use Rattle.dns_zone_map.specs.Mapped.{contents, begun, kept, undone};
+ghost use Rattle.dns_zone_map.specs.Former.{blanked};
 ghost use Rattle.dns_zone_map.specs.Zone.{is_in_set, set_of, serial_or, serial_of, first_serial, is_equal, is_rival, IsEntry, IsSoFar};
 ghost use Rattle.dns_zone_map.specs.Changes.{put_over, first_that, bears, is_kept_type, is_free_at, is_taken_with_name, is_taken_with_set, set_serial};
 ghost use Rattle.dns_zone_map.specs.Serial.{IsSerialSetAt};
 ghost use Rattle.dns_zone_map.specs.Existence.{exists};
-ghost use Rattle.dns_zone_map.specs.Sets.{records_in, some_of, sets_or_none, AreSetsOf, ArePaired, TypesRise};
-ghost use Rattle.dns_zone_map.specs.Removal.{IsTakenIn, IsTakenFrom, IsFreedIn, IsFreedFrom, IsOneTakenIn, IsOneTakenFrom};
+ghost use Rattle.dns_zone_map.specs.Sets.{some_of, sets_or_none, are_some, AreSetsOf, ArePaired, TypesRise};
+ghost use Rattle.dns_zone_map.specs.Removal.{is_key, IsTakenFrom, IsFreedFrom, IsClearedFrom, IsOneTakenFrom};
 ghost use Rattle.dns_zone_map.specs.Tree.{in_entries};
-ghost use Rattle.dns_zone_map.specs.Insertion.{PutUnder, IsAdded};
+ghost use Rattle.dns_zone_map.specs.Insertion.{PutUnder};
 
+use crate::former::{Undoing, keep_former, put_all_back, sweep, sweep_unless};
 use crate::key::{ZoneKey, write_front, write_key, write_star};
 use crate::listing::in_order;
 use crate::sets::{OwnerSets, RecordSet, is_kept_type};
+use crate::sweeping::{add_name, sets_at};
 use dns_io::OutOfMemory;
 use dns_name::Name;
 use dns_wire::record_type::SOA;
@@ -25,10 +30,13 @@ use dns_wire::{Data, Record, Records};
 use std::alloc::Global;
 use std::collections::BTreeMap;
 use std::marker::Model;
+use std::mem::replace;
 
 /// The records of a zone, by name and type.
 ///
-/// Contracts see a list of records: each record has an order number, and the list is in the order of the numbers.
+/// Contracts see a list of records: each record has an order number, and the list is in the order of the numbers. Beside it
+/// they see the list to which `undo` goes back, where changes can be undone: then a changing call keeps what a name owned
+/// before, and a name that loses its last record keeps its place in the map until `keep` or `undo`.
 #[derive(Drop)]
 pub struct ZoneMap {
     alloc: Global,
@@ -39,18 +47,21 @@ pub struct ZoneMap {
     next: u64,
     /// How many records there are.
     count: usize,
+    /// What it takes to undo the changes, where they can be undone.
+    undoing: Option<Undoing>,
 }
 
 impl Model for ZoneMap {
-    ghost use Rattle.dns_zone_map.specs.Zone.{Contents};
+    ghost use Rattle.dns_zone_map.specs.Mapped.{Mapped};
     ghost use Rattle.dns_zone_map.specs.Order.{list_of};
-    ghost use Rattle.dns_zone_map.specs.Tree.{in_entries, IsTree};
+    ghost use Rattle.dns_zone_map.specs.Tree.{in_entries};
+    ghost use Rattle.dns_zone_map.specs.Former.{before_of, IsMap};
 
-    ghost Value = { Contents };
+    ghost Value = { Mapped };
 
-    ghost view = { λ z. record { origin = z.origin; records = list_of (in_entries z.names.entries) } };
+    ghost view = { λ z. record { origin = z.origin; records = list_of (in_entries z.names.entries); before = before_of z.undoing z.names.entries } };
 
-    ghost invariant = { λ z. IsTree z.origin z.names.entries z.next z.count };
+    ghost invariant = { λ z. IsMap z.origin z.names.entries z.next z.count z.undoing };
 }
 
 impl ZoneMap {
@@ -58,6 +69,7 @@ impl ZoneMap {
     pub fn new(alloc: Global, origin: Name) -> ZoneMap
         ensures origin { result.origin ≡ origin }
         ensures records { result.records ≡ [] }
+        ensures before { result.before ≡ None }
     {
         ZoneMap {
             alloc,
@@ -65,6 +77,51 @@ impl ZoneMap {
             names: BTreeMap::new(alloc),
             next: 0,
             count: 0,
+            undoing: None,
+        }
+    }
+
+    /// From here on changes can be undone, back to here.
+    pub fn begin(&mut self, alloc: Global) -> Result<(), OutOfMemory>
+        requires so_far { IsSoFar self.old.origin self.old.records }
+        requires before { self.old.before ≡ None }
+        ensures ok { OnOk result (self.new ≡ begun self.old) }
+        ensures err { OnErr result (self.new ≡ self.old) }
+    {
+        if self.next > u64::MAX / 2 {
+            self.number_anew(alloc)?;
+        }
+        self.undoing = Some(Undoing {
+            formers: Vec::new(alloc),
+            next: self.next,
+            count: self.count,
+        });
+        Ok(())
+    }
+
+    /// Keeps what was changed: it can no more be undone. Takes no memory.
+    pub fn keep(&mut self)
+        ensures { self.new ≡ kept self.old }
+    {
+        match replace(&mut self.undoing, None) {
+            None => (),
+            Some(undoing) => sweep(&mut self.names, &undoing.formers),
+        }
+    }
+
+    /// Undoes what was changed since `begin`; where changes cannot be undone nothing happens. Takes no memory.
+    pub fn undo(&mut self)
+        ensures { self.new ≡ undone self.old }
+    {
+        match replace(&mut self.undoing, None) {
+            None => (),
+            Some(undoing) => {
+                let mut formers = undoing.formers;
+                put_all_back(&mut self.names, &mut formers);
+                sweep(&mut self.names, &formers);
+                self.next = undoing.next;
+                self.count = undoing.count;
+            }
         }
     }
 
@@ -101,15 +158,21 @@ impl ZoneMap {
         }
     }
 
-    /// Gives the SOA this serial (RFC 1035 3.3.13), where there is one. Takes no memory.
-    pub fn set_serial(&mut self, serial: u32)
+    /// Gives the SOA this serial (RFC 1035 3.3.13), where there is one. Takes memory only where changes can be undone; where it
+    /// runs out nothing is changed.
+    pub fn set_serial(&mut self, alloc: Global, serial: u32) -> Result<(), OutOfMemory>
         requires { IsSoFar self.old.origin self.old.records }
         ensures origin { self.new.origin ≡ self.old.origin }
-        ensures records { self.new.records ≡ set_serial serial self.old.records }
+        ensures records { OnOk result (self.new.records ≡ set_serial serial self.old.records) }
         ensures so_far { IsSoFar self.new.origin self.new.records }
+        ensures before { self.new.before ≡ self.old.before }
+        ensures err { OnErr result (self.new ≡ self.old) }
     {
         let _ordered = self.names.len();
-        set_serial_at(self.alloc, &mut self.names, b"", serial);
+        keep_former(alloc, &mut self.names, &mut self.undoing, b"")?;
+        let _still_ordered = self.names.len();
+        set_serial_at(alloc, &mut self.names, b"", serial);
+        Ok(())
     }
 
     /// Puts a record in the place of its rival, whose place in the order it takes and which is given back; or else at the
@@ -122,9 +185,10 @@ impl ZoneMap {
         ensures records { OnOk result (self.new.records ≡ put_over (is_rival one) one self.old.records) }
         ensures replaced { IfOk result (λ old. old ≡ first_that (is_rival one) self.old.records) }
         ensures so_far { IsSoFar self.new.origin self.new.records }
+        ensures before { self.new.before ≡ self.old.before }
         ensures err { OnErr result (self.new ≡ self.old) }
     {
-        if self.next == u64::MAX {
+        if self.next == u64::MAX && self.undoing.is_none() {
             self.number_anew(alloc)?;
         }
         self.put_next(alloc, one)
@@ -132,7 +196,8 @@ impl ZoneMap {
 
     /// Numbers the records anew, from 0 in their order; where memory runs out nothing is changed.
     fn number_anew(&mut self, alloc: Global) -> Result<(), OutOfMemory>
-        requires { IsSoFar self.old.origin self.old.records }
+        requires so_far { IsSoFar self.old.origin self.old.records }
+        requires before { self.old.before ≡ None }
         ensures { self.new ≡ self.old }
     {
         let anew = self.copy(alloc)?;
@@ -143,7 +208,7 @@ impl ZoneMap {
     /// A map of the same records, numbered from 0 in their order.
     pub fn copy(&self, alloc: Global) -> Result<ZoneMap, OutOfMemory>
         requires { IsSoFar self.now.origin self.now.records }
-        ensures { IfOk result (λ copy. copy ≡ self.now) }
+        ensures { IfOk result (λ copy. copy ≡ kept self.now) }
     {
         let records = self.records(alloc)?;
         numbered_anew(alloc, self.origin(), records)
@@ -155,6 +220,7 @@ impl ZoneMap {
         requires so_far { IsSoFar self.old.origin self.old.records }
         ensures origin { self.new.origin ≡ self.old.origin }
         ensures records { OnOk result (self.new.records ≡ put_over (is_rival one) one self.old.records) }
+        ensures before { self.new.before ≡ self.old.before }
         ensures so_far { IsSoFar self.new.origin self.new.records }
     {
         self.put_next(alloc, one)?;
@@ -168,6 +234,7 @@ impl ZoneMap {
         ensures origin { self.new.origin ≡ self.old.origin }
         ensures records { OnOk result (self.new.records ≡ put_over (is_rival one) one self.old.records) }
         ensures replaced { IfOk result (λ old. old ≡ first_that (is_rival one) self.old.records) }
+        ensures before { self.new.before ≡ self.old.before }
         ensures so_far { IsSoFar self.new.origin self.new.records }
         ensures err { OnErr result (self.new ≡ self.old) }
     {
@@ -176,8 +243,11 @@ impl ZoneMap {
         }
         let mut room = [0u8; 255];
         let start = write_key(&self.origin, &one.name, &mut room);
+        let key = behind(&room, start);
         let _ordered = self.names.len();
-        match put_under(alloc, &mut self.names, behind(&room, start), self.next, one)? {
+        keep_former(alloc, &mut self.names, &mut self.undoing, key)?;
+        let _still_ordered = self.names.len();
+        match put_under(alloc, &mut self.names, key, self.next, one)? {
             Some(old) => Ok(Some(old)),
             None => {
                 self.next += 1;
@@ -187,118 +257,152 @@ impl ZoneMap {
         }
     }
 
-    /// Takes the records of a name, in whatever case, and a type away; the name goes with its last records. Takes no
-    /// memory.
-    pub fn take_set(&mut self, name: &Name, rtype: u16) -> Option<RecordSet>
+    /// Takes the records of a name, in whatever case, and a type away; where memory runs out nothing is changed.
+    fn take_set(&mut self, alloc: Global, name: &Name, rtype: u16) -> Result<(), OutOfMemory>
         ensures origin { self.new.origin ≡ self.old.origin }
-        ensures records { self.new.records ≡ filter (λ r. not (is_in_set name.now rtype r)) self.old.records }
-        ensures taken { option_map records_in result ≡ some_of (set_of self.old.records name.now rtype) }
+        ensures records { OnOk result (self.new.records ≡ filter (λ r. not (is_in_set name.now rtype r)) self.old.records) }
+        ensures before { self.new.before ≡ self.old.before }
+        ensures err { OnErr result (self.new ≡ self.old) }
     {
         if !name.at_or_below(&self.origin) {
-            return None;
+            return Ok(());
         }
         let mut room = [0u8; 255];
         let start = write_key(&self.origin, name, &mut room);
+        let key = behind(&room, start);
         let _ordered = self.names.len();
-        match take_from(&mut self.names, behind(&room, start), rtype) {
-            None => None,
+        keep_former(alloc, &mut self.names, &mut self.undoing, key)?;
+        let _still_ordered = self.names.len();
+        match take_from(&mut self.names, key, rtype) {
+            None => (),
             Some(set) => {
                 self.count -= set.records.len();
-                Some(set)
+                sweep_unless(&mut self.names, &self.undoing, key);
             }
         }
+        Ok(())
     }
 
-    /// Takes all sets of a name, in whatever case, away: none exactly where it owns no records. Takes no memory.
-    pub fn take_name(&mut self, name: &Name) -> Option<OwnerSets>
+    /// Takes all sets of a name, in whatever case, away; where memory runs out nothing is changed.
+    fn take_name(&mut self, alloc: Global, name: &Name) -> Result<(), OutOfMemory>
         ensures origin { self.new.origin ≡ self.old.origin }
-        ensures records { self.new.records ≡ filter (λ r. not (bears name.now r)) self.old.records }
-        ensures taken { AreSetsOf self.old.records name.now (sets_or_none result) }
-        ensures some { IfSome result (λ sets. 0 < length sets) }
+        ensures records { OnOk result (self.new.records ≡ filter (λ r. not (bears name.now r)) self.old.records) }
+        ensures before { self.new.before ≡ self.old.before }
+        ensures err { OnErr result (self.new ≡ self.old) }
     {
         if !name.at_or_below(&self.origin) {
-            return None;
+            return Ok(());
         }
         let mut room = [0u8; 255];
         let start = write_key(&self.origin, name, &mut room);
+        let key = behind(&room, start);
         let _ordered = self.names.len();
-        match self.names.remove(behind(&room, start)) {
-            None => None,
+        keep_former(alloc, &mut self.names, &mut self.undoing, key)?;
+        let _still_ordered = self.names.len();
+        match clear_from(alloc, &mut self.names, key) {
+            None => (),
             Some(sets) => {
                 self.count -= sets.record_count();
-                Some(sets)
+                sweep_unless(&mut self.names, &self.undoing, key);
             }
         }
+        Ok(())
     }
 
     /// Takes the record away that is equal to this one in name, type and data, whatever its TTL; the name goes with its
-    /// last record. Takes no memory.
-    pub fn take_record(&mut self, one: &Record) -> Option<Record>
+    /// last record. Takes memory only where changes can be undone; where it runs out nothing is changed.
+    pub fn take_record(
+        &mut self,
+        alloc: Global,
+        one: &Record,
+    ) -> Result<Option<Record>, OutOfMemory>
         requires { IsSoFar self.old.origin self.old.records }
         ensures origin { self.new.origin ≡ self.old.origin }
-        ensures records { self.new.records ≡ filter (λ r. not (is_equal one.now r)) self.old.records }
-        ensures taken { result ≡ first_that (is_equal one.now) self.old.records }
+        ensures records { OnOk result (self.new.records ≡ filter (λ r. not (is_equal one.now r)) self.old.records) }
+        ensures taken { IfOk result (λ taken. taken ≡ first_that (is_equal one.now) self.old.records) }
         ensures so_far { IsSoFar self.new.origin self.new.records }
+        ensures before { self.new.before ≡ self.old.before }
+        ensures err { OnErr result (self.new ≡ self.old) }
     {
         if !one.name.at_or_below(&self.origin) {
-            return None;
+            return Ok(None);
         }
         let mut room = [0u8; 255];
         let start = write_key(&self.origin, &one.name, &mut room);
+        let key = behind(&room, start);
         let _ordered = self.names.len();
-        match one_from(self.alloc, &mut self.names, behind(&room, start), one) {
-            None => None,
+        keep_former(alloc, &mut self.names, &mut self.undoing, key)?;
+        let _still_ordered = self.names.len();
+        match one_from(alloc, &mut self.names, key, one) {
+            None => Ok(None),
             Some(taken) => {
                 self.count -= 1;
-                Some(taken)
+                sweep_unless(&mut self.names, &self.undoing, key);
+                Ok(Some(taken))
             }
         }
     }
 
     /// Deletes the records of a name, in whatever case, and a type, but at the origin no SOA and no NS records (RFC 2136
-    /// 3.4.2.3); gives how many went. Takes no memory.
-    pub fn delete_set(&mut self, name: &Name, rtype: u16) -> usize
+    /// 3.4.2.3); gives how many went. Takes memory only where changes can be undone; where it runs out nothing is changed.
+    pub fn delete_set(
+        &mut self,
+        alloc: Global,
+        name: &Name,
+        rtype: u16,
+    ) -> Result<usize, OutOfMemory>
         ensures origin { self.new.origin ≡ self.old.origin }
-        ensures records { self.new.records ≡ filter (λ r. not (is_taken_with_set self.old.origin name.now rtype r)) self.old.records }
-        ensures gone { result + length self.new.records ≡ length self.old.records }
+        ensures records { OnOk result (self.new.records ≡ filter (λ r. not (is_taken_with_set self.old.origin name.now rtype r)) self.old.records) }
+        ensures gone { IfOk result (λ gone. gone + length self.new.records ≡ length self.old.records) }
         ensures so_far { IsSoFar self.old.origin self.old.records → IsSoFar self.new.origin self.new.records }
+        ensures before { self.new.before ≡ self.old.before }
+        ensures err { OnErr result (self.new ≡ self.old) }
     {
         if is_kept_set(self.origin(), name, rtype) {
-            return 0;
+            return Ok(0);
         }
         let before = self.len();
-        self.take_set(name, rtype);
-        before - self.len()
+        self.take_set(alloc, name, rtype)?;
+        Ok(before - self.len())
     }
 
     /// Deletes all sets of a name, in whatever case, but at the origin not those of the SOA and of NS records (RFC 2136
-    /// 3.4.2.3); gives how many records went. Takes no memory.
-    pub fn delete_name(&mut self, name: &Name) -> usize
+    /// 3.4.2.3); gives how many records went. Takes memory only where changes can be undone; where it runs out nothing is
+    /// changed.
+    pub fn delete_name(&mut self, alloc: Global, name: &Name) -> Result<usize, OutOfMemory>
         ensures origin { self.new.origin ≡ self.old.origin }
-        ensures records { self.new.records ≡ filter (λ r. not (is_taken_with_name self.old.origin name.now r)) self.old.records }
-        ensures gone { result + length self.new.records ≡ length self.old.records }
+        ensures records { OnOk result (self.new.records ≡ filter (λ r. not (is_taken_with_name self.old.origin name.now r)) self.old.records) }
+        ensures gone { IfOk result (λ gone. gone + length self.new.records ≡ length self.old.records) }
         ensures so_far { IsSoFar self.old.origin self.old.records → IsSoFar self.new.origin self.new.records }
+        ensures before { self.new.before ≡ self.old.before }
+        ensures err { OnErr result (self.new ≡ self.old) }
     {
         if name.same(self.origin()) {
-            return self.take_free_sets();
+            return self.take_free_sets(alloc);
         }
         let before = self.len();
-        self.take_name(name);
-        before - self.len()
+        self.take_name(alloc, name)?;
+        Ok(before - self.len())
     }
 
-    /// Takes all sets of the origin away but those of the SOA and of NS records, and gives how many records went.
-    fn take_free_sets(&mut self) -> usize
+    /// Takes all sets of the origin away but those of the SOA and of NS records, and gives how many records went; where memory
+    /// runs out nothing is changed.
+    fn take_free_sets(&mut self, alloc: Global) -> Result<usize, OutOfMemory>
         ensures origin { self.new.origin ≡ self.old.origin }
-        ensures records { self.new.records ≡ filter (λ r. not (is_free_at self.old.origin r)) self.old.records }
-        ensures taken { result + length self.new.records ≡ length self.old.records }
+        ensures records { OnOk result (self.new.records ≡ filter (λ r. not (is_free_at self.old.origin r)) self.old.records) }
+        ensures taken { IfOk result (λ gone. gone + length self.new.records ≡ length self.old.records) }
+        ensures before { self.new.before ≡ self.old.before }
+        ensures err { OnErr result (self.new ≡ self.old) }
     {
         let _ordered = self.names.len();
+        keep_former(alloc, &mut self.names, &mut self.undoing, b"")?;
+        let _still_ordered = self.names.len();
         match free_from(&mut self.names, b"") {
-            None => 0,
+            None => Ok(0),
             Some(gone) => {
                 self.count -= gone;
-                gone
+                sweep_unless(&mut self.names, &self.undoing, b"");
+                Ok(gone)
             }
         }
     }
@@ -326,7 +430,7 @@ impl ZoneMap {
         ensures some { IfSome result (λ sets. 0 < length sets.now) }
     {
         let _ordered = self.names.len();
-        self.names.get(key.above(labels_dropped))
+        sets_at(&self.names, key.above(labels_dropped))
     }
 
     /// Whether the name without its first `labels_dropped` labels exists: it owns records, or a name below it does (RFC
@@ -361,7 +465,7 @@ impl ZoneMap {
     {
         let _ordered = self.names.len();
         write_star(probe, key.above(labels_dropped))?;
-        Ok(self.names.get(probe.as_slice()))
+        Ok(sets_at(&self.names, probe.as_slice()))
     }
 
     /// Whether the label `*` under the name without its first `labels_dropped` labels exists (RFC 4592 2.1.1, 2.2.2). The
@@ -394,6 +498,7 @@ fn numbered_anew(alloc: Global, origin: &Name, records: Records) -> Result<ZoneM
     requires { IsSoFar origin.now records }
     ensures origin { IfOk result (λ map. map.origin ≡ origin.now) }
     ensures records { IfOk result (λ map. map.records ≡ records) }
+    ensures before { IfOk result (λ map. map.before ≡ None) }
 {
     let mut anew = ZoneMap::new(alloc, origin.copy()?);
     for one in records.into_vec() {
@@ -440,6 +545,7 @@ fn put_under(
 ) -> Result<Option<Record>, OutOfMemory>
     requires { AllByRecursion (λ e. TypesRise e.1) names.old.entries }
     ensures put { IfOk result (λ old. PutUnder key.now number one names.old.entries names.new.entries old) }
+    ensures others { IsSome (lookup (is_key key.now) names.old.entries) → blanked key.now names.new.entries ≡ blanked key.now names.old.entries }
     ensures err { OnErr result (names.new.entries ≡ names.old.entries) }
 {
     match names.get_mut(key) {
@@ -452,76 +558,48 @@ fn put_under(
     }
 }
 
-/// Takes a set away from the name with this key, and the name with its last set.
+/// Takes a set away from the name with this key, which stays.
 fn take_from(names: &mut BTreeMap<Vec<u8>, OwnerSets>, key: &[u8], rtype: u16) -> Option<RecordSet>
     requires { AllByRecursion (λ e. TypesRise e.1) names.old.entries }
-    ensures { IsTakenFrom key.now rtype names.old.entries names.new.entries result }
-{
-    match take_in(names, key, rtype) {
-        None => None,
-        Some((set, left)) => {
-            if left == 0 {
-                names.remove(key);
-                return Some(set);
-            }
-            Some(set)
-        }
-    }
-}
-
-/// Takes a set away from the name with this key, which stays, and tells how many sets are left of it.
-fn take_in(
-    names: &mut BTreeMap<Vec<u8>, OwnerSets>,
-    key: &[u8],
-    rtype: u16,
-) -> Option<(RecordSet, usize)>
-    requires { AllByRecursion (λ e. TypesRise e.1) names.old.entries }
-    ensures { IsTakenIn key.now rtype names.old.entries names.new.entries result }
+    ensures is { IsTakenFrom key.now rtype names.old.entries names.new.entries result }
+    ensures others { blanked key.now names.new.entries ≡ blanked key.now names.old.entries }
 {
     match names.get_mut(key) {
         None => None,
-        Some(sets) => match sets.take(rtype) {
-            None => None,
-            Some(set) => Some((set, sets.len())),
-        },
+        Some(sets) => sets.take(rtype),
     }
 }
 
-/// Takes all sets but those of the SOA and of NS records away from the name with this key, and the name with its last set;
-/// gives how many records went.
+/// Takes all sets away from the name with this key, which stays.
+fn clear_from(
+    alloc: Global,
+    names: &mut BTreeMap<Vec<u8>, OwnerSets>,
+    key: &[u8],
+) -> Option<OwnerSets>
+    ensures is { IsClearedFrom key.now names.old.entries names.new.entries result }
+    ensures others { blanked key.now names.new.entries ≡ blanked key.now names.old.entries }
+{
+    match names.get_mut(key) {
+        None => None,
+        Some(sets) => Some(replace(sets, OwnerSets::none(alloc))),
+    }
+}
+
+/// Takes all sets but those of the SOA and of NS records away from the name with this key, which stays; gives how many
+/// records went.
 fn free_from(names: &mut BTreeMap<Vec<u8>, OwnerSets>, key: &[u8]) -> Option<usize>
     requires paired { AllByRecursion (λ e. ArePaired e.1) names.old.entries }
     requires few { length (in_entries names.old.entries) < 2 ^ 64 }
-    ensures { IsFreedFrom key.now names.old.entries names.new.entries result }
-{
-    match free_in(names, key) {
-        None => None,
-        Some((gone, left)) => {
-            if left == 0 {
-                names.remove(key);
-                return Some(gone);
-            }
-            Some(gone)
-        }
-    }
-}
-
-/// Takes these sets away from the name with this key, which stays, and tells how many sets are left of it.
-fn free_in(names: &mut BTreeMap<Vec<u8>, OwnerSets>, key: &[u8]) -> Option<(usize, usize)>
-    requires paired { AllByRecursion (λ e. ArePaired e.1) names.old.entries }
-    requires few { length (in_entries names.old.entries) < 2 ^ 64 }
-    ensures { IsFreedIn key.now names.old.entries names.new.entries result }
+    ensures is { IsFreedFrom key.now names.old.entries names.new.entries result }
+    ensures others { blanked key.now names.new.entries ≡ blanked key.now names.old.entries }
 {
     match names.get_mut(key) {
         None => None,
-        Some(sets) => {
-            let gone = sets.take_free();
-            Some((gone, sets.len()))
-        }
+        Some(sets) => Some(sets.take_free()),
     }
 }
 
-/// Takes the record that is equal to this one away from the name with this key, and the name with its last record.
+/// Takes the record that is equal to this one away from the name with this key, which stays.
 fn one_from(
     alloc: Global,
     names: &mut BTreeMap<Vec<u8>, OwnerSets>,
@@ -530,44 +608,20 @@ fn one_from(
 ) -> Option<Record>
     requires rise { AllByRecursion (λ e. TypesRise e.1) names.old.entries }
     requires paired { AllByRecursion (λ e. ArePaired e.1) names.old.entries }
-    ensures { IsOneTakenFrom key.now one.now names.old.entries names.new.entries result }
-{
-    match one_in(alloc, names, key, one) {
-        None => None,
-        Some((taken, left)) => {
-            if left == 0 {
-                names.remove(key);
-                return Some(taken);
-            }
-            Some(taken)
-        }
-    }
-}
-
-/// Takes that record away from the name with this key, which stays, and tells how many sets are left of it.
-fn one_in(
-    alloc: Global,
-    names: &mut BTreeMap<Vec<u8>, OwnerSets>,
-    key: &[u8],
-    one: &Record,
-) -> Option<(Record, usize)>
-    requires rise { AllByRecursion (λ e. TypesRise e.1) names.old.entries }
-    requires paired { AllByRecursion (λ e. ArePaired e.1) names.old.entries }
-    ensures { IsOneTakenIn key.now one.now names.old.entries names.new.entries result }
+    ensures is { IsOneTakenFrom key.now one.now names.old.entries names.new.entries result }
+    ensures others { blanked key.now names.new.entries ≡ blanked key.now names.old.entries }
 {
     match names.get_mut(key) {
         None => None,
-        Some(sets) => match sets.take_one(alloc, one) {
-            None => None,
-            Some(taken) => Some((taken, sets.len())),
-        },
+        Some(sets) => sets.take_one(alloc, one),
     }
 }
 
 /// Gives the SOA of the name with this key this serial, if it owns one.
 fn set_serial_at(alloc: Global, names: &mut BTreeMap<Vec<u8>, OwnerSets>, key: &[u8], serial: u32)
     requires { AllByRecursion (λ e. TypesRise e.1) names.old.entries }
-    ensures { IsSerialSetAt key.now serial names.old.entries names.new.entries }
+    ensures is { IsSerialSetAt key.now serial names.old.entries names.new.entries }
+    ensures others { blanked key.now names.new.entries ≡ blanked key.now names.old.entries }
 {
     match names.get_mut(key) {
         None => (),
@@ -575,29 +629,18 @@ fn set_serial_at(alloc: Global, names: &mut BTreeMap<Vec<u8>, OwnerSets>, key: &
     }
 }
 
-/// Adds a name with its sets; where memory runs out the names are as before.
-fn add_name(
-    alloc: Global,
-    names: &mut BTreeMap<Vec<u8>, OwnerSets>,
-    key: &[u8],
-    sets: OwnerSets,
-) -> Result<(), OutOfMemory>
-    ensures ok { OnOk result (IsAdded key.now sets names.old.entries names.new.entries) }
-    ensures err { OnErr result (names.new.entries ≡ names.old.entries) }
-{
-    let mut stored = Vec::with_capacity(alloc, key.len())?;
-    stored.extend_from_slice(key)?;
-    names.insert(stored, sets)?;
-    Ok(())
-}
-
-/// Whether a key of the map begins with this one: the first from there on does, since the keys that begin with it follow
-/// it at once.
+/// Whether a key of the map begins with this one at which there are sets. The keys that begin with it follow it at once; only
+/// names whose last sets were taken by a change that may still be undone are passed over.
 fn is_begun(names: &BTreeMap<Vec<u8>, OwnerSets>, key: &Vec<u8>) -> bool
-    ensures { result ≡ list_any (λ e. starts_with eqb e.0.items key.now.items) names.now.entries }
+    ensures { result ≡ list_any (λ e. starts_with eqb e.0.items key.now.items && are_some e.1) names.now.entries }
 {
-    match names.range(key..).next() {
-        Some((first, _)) => first.starts_with(key),
-        None => false,
+    for (next, sets) in names.range(key..) {
+        if !next.starts_with(key) {
+            return false;
+        }
+        if sets.is_some() {
+            return true;
+        }
     }
+    false
 }

@@ -11,4 +11,4 @@ returns-then-is_kept-clause-records c =
 pub returns-clause-records : goal.returns-clause-records
 returns-clause-records c =
     let z = c.args.map.now in
-    c.take_record.ensures.records ∙ gone z.origin (ns_count z.origin z.records) c.args.one.now z.records c.is_kept.result c.is_kept.ensures c.if-is_kept.false
+    c.in_ok-take_record.ensures.records ∙ gone z.origin (ns_count z.origin z.records) c.args.one.now z.records c.is_kept.result c.is_kept.ensures c.if-is_kept.false

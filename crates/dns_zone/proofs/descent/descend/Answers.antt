@@ -1,11 +1,12 @@
 use Rattle.std.proofs.Common.{◌≡◌, ℕ, ◌+◌, ◌-◌, drop, subst, arith}
+use Rattle.dns_zone_map.specs.Mapped.{contents}
 use Rattle.dns_zone.specs.Descent.{IsAbove, IsMet}
 use Rattle.dns_zone.proofs.Descending.{above_first, above_next, at_cut, at_gone, at_origin, origin_exists}
 use Rattle.dns_zone.proofs.descent.descend.Goals as goal
 
 pub returns-then-depth-eq0 : goal.returns-then-depth-eq0
 returns-then-depth-eq0 c = (
-  at_origin c.args.zone.now c.args.key.now.name c.args.rtype (omega arith)
+  at_origin (contents c.args.zone.now) c.args.key.now.name c.args.rtype (omega arith)
       (origin_exists c.args.zone.now.origin c.args.zone.now.records c.args.key.now.name 0 c.requires.zone c.requires.within (omega arith)),
   c.sets.ensures.sets,
 )
@@ -13,30 +14,30 @@ returns-then-depth-eq0 c = (
 pub loop-labels-init : goal.loop-labels-init
 loop-labels-init c =
     let all : c.args.depth ≡ c.args.depth + 1 - 1 = omega arith in
-    subst (IsAbove c.args.zone.now c.args.key.now.name) all
-    (above_first c.args.zone.now c.args.key.now.name c.args.depth c.requires.zone c.requires.within c.requires.depth)
+    subst (IsAbove (contents c.args.zone.now) c.args.key.now.name) all
+    (above_first (contents c.args.zone.now) c.args.key.now.name c.args.depth c.requires.zone c.requires.within c.requires.depth)
 
 pub returns-in-Cut : goal.returns-in-Cut
 returns-in-Cut c =
     let k : ℕ = c.args.depth - c.loop-labels.labels in
     let before : c.args.depth + 1 - c.loop-labels.labels ≡ k + 1 = omega arith in
-    let above : IsAbove c.args.zone.now c.args.key.now.name (k + 1) = subst (IsAbove c.args.zone.now c.args.key.now.name) before c.loop-labels.invariant in
-    let met = subst (IsMet c.args.zone.now (drop k c.args.key.now.name)) c.in-Cut.is c.in_ok-set.ensures in
-    at_cut c.args.zone.now c.args.key.now.name c.args.rtype k c.in-Cut.set.now.records (omega arith) (omega arith) above.uncut met.0 met.1
+    let above : IsAbove (contents c.args.zone.now) c.args.key.now.name (k + 1) = subst (IsAbove (contents c.args.zone.now) c.args.key.now.name) before c.loop-labels.invariant in
+    let met = subst (IsMet (contents c.args.zone.now) (drop k c.args.key.now.name)) c.in-Cut.is c.in_ok-set.ensures in
+    at_cut (contents c.args.zone.now) c.args.key.now.name c.args.rtype k c.in-Cut.set.now.records (omega arith) (omega arith) above.uncut met.0 met.1
 
 pub returns-in-Gone : goal.returns-in-Gone
 returns-in-Gone c =
     let k : ℕ = c.args.depth - c.loop-labels.labels in
     let before : c.args.depth + 1 - c.loop-labels.labels ≡ k + 1 = omega arith in
-    let above : IsAbove c.args.zone.now c.args.key.now.name (k + 1) = subst (IsAbove c.args.zone.now c.args.key.now.name) before c.loop-labels.invariant in
-    at_gone c.args.zone.now c.args.key.now.name c.args.rtype k (omega arith) (omega arith) above
-    (subst (IsMet c.args.zone.now (drop k c.args.key.now.name)) c.in-Gone.is c.in_ok-set.ensures)
+    let above : IsAbove (contents c.args.zone.now) c.args.key.now.name (k + 1) = subst (IsAbove (contents c.args.zone.now) c.args.key.now.name) before c.loop-labels.invariant in
+    at_gone (contents c.args.zone.now) c.args.key.now.name c.args.rtype k (omega arith) (omega arith) above
+    (subst (IsMet (contents c.args.zone.now) (drop k c.args.key.now.name)) c.in-Gone.is c.in_ok-set.ensures)
 
 pub loop-labels-preserved : goal.loop-labels-preserved
 loop-labels-preserved c =
     let k : ℕ = c.args.depth - c.loop-labels.labels in
     let before : c.args.depth + 1 - c.loop-labels.labels ≡ k + 1 = omega arith in
     let after : k ≡ c.args.depth + 1 - (c.loop-labels.labels + 1) = omega arith in
-    let above : IsAbove c.args.zone.now c.args.key.now.name (k + 1) = subst (IsAbove c.args.zone.now c.args.key.now.name) before c.loop-labels.invariant in
-    let met = subst (IsMet c.args.zone.now (drop k c.args.key.now.name)) c.in-There.is c.in_ok-set.ensures in
-    subst (IsAbove c.args.zone.now c.args.key.now.name) after (above_next c.args.zone.now c.args.key.now.name c.args.rtype k (omega arith) above met.0 met.1)
+    let above : IsAbove (contents c.args.zone.now) c.args.key.now.name (k + 1) = subst (IsAbove (contents c.args.zone.now) c.args.key.now.name) before c.loop-labels.invariant in
+    let met = subst (IsMet (contents c.args.zone.now) (drop k c.args.key.now.name)) c.in-There.is c.in_ok-set.ensures in
+    subst (IsAbove (contents c.args.zone.now) c.args.key.now.name) after (above_next (contents c.args.zone.now) c.args.key.now.name c.args.rtype k (omega arith) above met.0 met.1)

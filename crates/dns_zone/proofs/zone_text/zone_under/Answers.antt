@@ -17,6 +17,7 @@ loop-map-init c =
       under = c.new-map.ensures.origin;
       sound = subst IsSound (sym first) (IsSound-first c.args.origin c.requires name);
       so_far = subst (IsSoFar c.new-map.result.origin) (sym c.new-map.ensures.records) (IsSoFar-none c.new-map.result.origin);
+      settled = c.new-map.ensures.before;
       left =
           ap (λ context. records_from c.new-map.result.origin context c.new-map.result.records (logical_lines 1 c.args.text.now)) (first ∙ ap first_context (sym c.new-map.ensures.origin))
           ∙ ap (λ records. records_from c.new-map.result.origin (first_context c.new-map.result.origin) records (logical_lines 1 c.args.text.now)) c.new-map.ensures.records;
@@ -36,6 +37,7 @@ loop-map-preserved c =
       under = origin ∙ c.loop-map.invariant.under;
       sound = c.in-Ok.ensures.sound;
       so_far = c.take_line.ensures.so_far;
+      settled = c.take_line.ensures.before ∙ c.loop-map.invariant.settled;
       left =
           ap (λ top. records_from top c.take_line.new.context more.records (logical_lines c.next-number.result c.in-Some.after.now)) origin
           ∙ ap (λ next. records_from map.origin c.take_line.new.context more.records (logical_lines next c.in-Some.after.now)) c.next-number.ensures

@@ -1,4 +1,4 @@
-use Rattle.std.proofs.Common.{◌≡◌, ◌+◌, ◌≤◌, length}
+use Rattle.std.proofs.Common.{◌≡◌, ◌+◌, ◌≤◌, length, None}
 use Rattle.dns_zone_map.specs.Zone.{IsSoFar}
 use Rattle.dns_presentation.specs.LogicalLines.{logical_lines}
 use Rattle.dns_zone.specs.Contexts.{IsSound}
@@ -11,6 +11,7 @@ invariant-loop-map l = record {
   under : l.map.origin ≡ l.fn.origin;
   sound : IsSound l.context;
   so_far : IsSoFar l.map.origin l.map.records;
+  settled : l.map.before ≡ None;
   left : records_from l.map.origin l.context l.map.records (logical_lines l.number l.rest) ≡ zone_of l.map.origin l.text;
 }
 

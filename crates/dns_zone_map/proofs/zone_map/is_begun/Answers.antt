@@ -1,10 +1,17 @@
-use Rattle.dns_zone_map.proofs.Firsts.{first_some, first_none}
+use Rattle.std.proofs.Common.{◌∙◌, sym}
+use Rattle.dns_zone_map.specs.Sets.{are_some}
+use Rattle.dns_zone_map.proofs.Firsts.{begins_is, next_start, next_step, next_other}
 use Rattle.dns_zone_map.proofs.zone_map.is_begun.Goals as goal
 
-pub returns-in-Some : goal.returns-in-Some
-returns-in-Some c =
-    first_some c.args.key.now.items c.args.names.now.entries c.range.result _ c.in-Some.first.now c.in-Some.field-0-1.now c.starts_with.result _ _ c.range.ensures.ordered (c.range.ensures.between tt) c.in-Some.ensures.steps c.starts_with.ensures.value
-    c.deref.ensures.value c.deref-in-Some.ensures.value
+pub loop-next-init : goal.loop-next-init
+loop-next-init c =
+    next_start c.args.key.now.items are_some c.args.names.now.entries c.into_iter-next-iterator.result c.range-next-items.ensures.ordered (c.into_iter-next-iterator.ensures.into_iter_gives ∙ c.range-next-items.ensures.between tt)
 
-pub returns-in-None : goal.returns-in-None
-returns-in-None c = first_none c.args.key.now.items c.args.names.now.entries c.range.result c.range.ensures.ordered (c.range.ensures.between tt) c.in-None.ensures.steps.0
+pub returns-then-not-starts_with : goal.returns-then-not-starts_with
+returns-then-not-starts_with c =
+    next_other c.args.key.now.items are_some c.args.names.now.entries c.loop-next.next-iterator c.next.new.self (c.in-Some.next.now, c.in-Some.sets.now) c.loop-next.invariant c.in-Some.ensures.steps
+    (begins_is c.starts_with.result _ _ c.in-Some.next.now.items c.args.key.now.items c.starts_with.ensures.value c.deref.ensures.value c.deref-in-loop-next.ensures.value ∙ c.if-not-starts_with.true)
+
+pub loop-next-preserved : goal.loop-next-preserved
+loop-next-preserved c =
+    next_step c.args.key.now.items are_some c.args.names.now.entries c.loop-next.next-iterator c.next.new.self (c.in-Some.next.now, c.in-Some.sets.now) c.loop-next.invariant c.in-Some.ensures.steps (sym c.is_some.ensures ∙ c.if-is_some.false)

@@ -12,6 +12,7 @@ loop-one-init c =
       top = c.new-anew.ensures.origin ∙ c.in_ok-copy.ensures;
       some = subst (IsSoFar c.new-anew.result.origin) (sym c.new-anew.ensures.records) (none_so_far c.new-anew.result.origin);
       all = subst (IsSoFar c.args.origin.now) (sym rest) c.requires;
+      alone = c.new-anew.ensures.before;
       rest = rest;
     }
 
@@ -26,5 +27,6 @@ loop-one-preserved c =
       top = c.in_ok-put_again.ensures.origin ∙ was.top;
       some = c.in_ok-put_again.ensures.so_far;
       all = subst (IsSoFar c.args.origin.now) (sym rest) c.requires;
+      alone = c.in_ok-put_again.ensures.before ∙ was.alone;
       rest = rest;
     }

@@ -1,6 +1,7 @@
 use Rattle.std.proofs.Common.{subst}
 use Rattle.dns_zone_map.specs.Insertion.{IsAdded}
 use Rattle.dns_zone_map.proofs.InEntries.{under_name, under_new_name, as_before, rising_found}
+use Rattle.dns_zone_map.proofs.CanBeUndone.{written_others}
 use Rattle.dns_zone_map.proofs.zone_map.put_under.Goals as goal
 
 pub put-requires : goal.put-requires
@@ -18,3 +19,6 @@ pub returns-in_ok-add_name-in-None-clause-put : goal.returns-in_ok-add_name-in-N
 returns-in_ok-add_name-in-None-clause-put c =
     under_new_name c.args.key.now c.args.number c.args.one c.args.names.now.entries c.add_name.new.names.entries c.in_ok-sets-in-None.sets c.in-None.ensures.value c.in_ok-sets-in-None.ensures
     (subst (λ m. IsAdded c.args.key.now c.in_ok-sets-in-None.sets m.entries c.add_name.new.names.entries) c.get_mut.follows.holds-at-none c.in_ok-add_name-in-None.ensures.ok)
+
+pub returns-in-Some-clause-others : goal.returns-in-Some-clause-others
+returns-in-Some-clause-others c there = written_others c.args.key.now c.args.names.now.entries (c.get_mut.follows.lender c.put.new.self).entries c.put.new.self (c.get_mut.follows.holds c.put.new.self).0

@@ -2,6 +2,7 @@ use Rattle.std.proofs.Common.{vec_len, ◌≡◌, ◌∙◌, sym, ap, subst, ref
 use Rattle.std.specs.Prelude.{length}
 use Rattle.dns_wire.specs.declared.record.Record.{Record}
 use Rattle.dns_name.specs.Name.{is_at_or_below}
+use Rattle.dns_zone_map.specs.Mapped.{contents}
 use Rattle.dns_update.specs.Change.{fold_record, makes_change}
 use Rattle.dns_update.specs.Replay.{MayCome}
 use Rattle.dns_update.specs.UnderWay.{IsUnderWay}
@@ -16,14 +17,14 @@ change-requires-clause-within c =
 
 pub change-requires-clause-fit : goal.change-requires-clause-fit
 change-requires-clause-fit c = λ changes.
-    let z = c.args.map.now in
+    let z = contents c.args.map.now in
     subst (λ (r : Record). MayCome z.origin r) (sym c.in_ok-small.ensures)
     (batch_entry z.origin (fold_record c.args.one.now) (journalled_change z.origin z.records c.args.one.now c.requires.back c.requires.passes
     (subst (λ (r : Record). makes_change z.origin z.records r ≡ true) c.in_ok-small.ensures changes)))
 
-pub returns-then-not-branch : goal.returns-then-not-branch
-returns-then-not-branch c = λ before updates rest u.
-    passed_by before c.args.map.now c.change.new.map updates rest c.args.self.now.records.items c.args.self.now.modified c.args.one.now c.in_ok-small.small c.in_ok-change.field-0
+pub returns-then-not-branch-clause-next : goal.returns-then-not-branch-clause-next
+returns-then-not-branch-clause-next c = λ before updates rest u.
+    passed_by before (contents c.args.map.now) (contents c.change.new.map) updates rest c.args.self.now.records.items c.args.self.now.modified c.args.one.now c.in_ok-small.small c.in_ok-change.field-0
     c.in_ok-small.ensures u c.in_ok-change.ensures.changed c.change.ensures.origin c.in_ok-change.ensures.records c.change.ensures.zone c.if-not-branch.true
 
 pub count-self-requires : goal.count-self-requires
@@ -31,10 +32,10 @@ count-self-requires c =
     let size : vec_len c.push.new.self ≡ length c.push.new.self.items = omega (arith, c.push.new.self.ok.0) in
     has_room _ c.len-many.result c.args.self.now.records.items c.in_ok-small.small c.requires.counted (c.len-many.ensures ∙ size ∙ ap length c.in_ok-push.ensures.items) c.len-many.type_inv
 
-pub returns : goal.returns
-returns c = λ before updates rest u.
-    subst (λ l. IsUnderWay before updates rest c.change.new.map l c.count-self.result) (sym c.in_ok-push.ensures.items)
-    (taken_in before c.args.map.now c.change.new.map updates rest c.args.self.now.records.items c.args.self.now.modified c.args.one.now c.in_ok-small.small c.in_ok-change.field-0
+pub returns-clause-next : goal.returns-clause-next
+returns-clause-next c = λ before updates rest u.
+    subst (λ l. IsUnderWay before updates rest (contents c.change.new.map) l c.count-self.result) (sym c.in_ok-push.ensures.items)
+    (taken_in before (contents c.args.map.now) (contents c.change.new.map) updates rest c.args.self.now.records.items c.args.self.now.modified c.args.one.now c.in_ok-small.small c.in_ok-change.field-0
     c.in_ok-small.ensures u c.in_ok-change.ensures.changed c.change.ensures.origin c.in_ok-change.ensures.records c.change.ensures.zone c.if-not-branch.false
     c.count-self.result
     (c.count-self.ensures c.in_ok-small.small refl ∙ grew c.args.self.now.modified c.in_ok-small.small c.len-size.result c.len.result c.args.map.now.records c.change.new.map.records c.len-size.ensures c.len.ensures))

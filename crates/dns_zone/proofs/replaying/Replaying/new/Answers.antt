@@ -10,4 +10,5 @@ invariant_of-result c =
     record {
       folded = subst (λ (o : List (List ℕ)). fold_of o ≡ o) (sym is) (c.folded_names.ensures c.args.origin.now);
       so_far = subst (IsSoFar c.new.result.origin) (sym c.new.ensures.records) (none_so_far c.new.result.origin);
+      settled = c.new.ensures.before;
     }

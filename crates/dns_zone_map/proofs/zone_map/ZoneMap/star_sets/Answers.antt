@@ -1,13 +1,11 @@
-use Rattle.std.proofs.Common.{drop, ◌∙◌, ◌∷◌, []}
+use Rattle.std.proofs.Common.{drop, ◌∙◌, ◌∷◌, [], ap}
 use Rattle.dns_zone_map.specs.Keys.{star_above}
-use Rattle.dns_zone_map.proofs.Reading.{sets_at, some_at}
+use Rattle.dns_zone_map.specs.Mapped.{contents}
+use Rattle.dns_zone_map.proofs.Reading.{sets_at}
 use Rattle.dns_zone_map.proofs.Written.{star_key, within_below}
 use Rattle.dns_zone_map.proofs.zone_map.ZoneMap.star_sets.Goals as goal
 
 pub returns-clause-sets : goal.returns-clause-sets
 returns-clause-sets c =
-    sets_at c.self.inside.origin c.self.inside.names.entries _ _ c.args.self.now c.args.key.now c.self.view_is c.self.invariant c.requires.origin (star_above c.args.labels_dropped c.args.key.now.name) (within_below c.args.key.now.origin (drop c.args.labels_dropped c.args.key.now.name) (42 ∷ []) c.above.ensures.within) _ _ c.len-ordered.ensures.ordered
-    (star_key c.args.key.now.origin (drop c.args.labels_dropped c.args.key.now.name) _ _ c.above.ensures.within c.above.ensures.key (c.as_slice.ensures.value ∙ c.in_ok-write_star.ensures)) c.get.ensures.value
-
-pub returns-clause-some : goal.returns-clause-some
-returns-clause-some c = some_at c.self.inside.origin c.self.inside.names.entries _ _ c.args.self.now c.args.key.now c.self.view_is c.self.invariant c.requires.origin (star_above c.args.labels_dropped c.args.key.now.name) (within_below c.args.key.now.origin (drop c.args.labels_dropped c.args.key.now.name) (42 ∷ []) c.above.ensures.within) _ _ c.get.ensures.value
+    sets_at c.self.inside.origin c.self.inside.names.entries _ _ (contents c.args.self.now) c.args.key.now (ap contents c.self.view_is) c.self.invariant.tree c.requires.origin (star_above c.args.labels_dropped c.args.key.now.name) (within_below c.args.key.now.origin (drop c.args.labels_dropped c.args.key.now.name) (42 ∷ []) c.above.ensures.within) _ c.sets_at.result c.len-ordered.ensures.ordered
+    (star_key c.args.key.now.origin (drop c.args.labels_dropped c.args.key.now.name) _ _ c.above.ensures.within c.above.ensures.key (c.as_slice.ensures.value ∙ c.in_ok-write_star.ensures)) c.sets_at.ensures.sets

@@ -1,50 +1,71 @@
-use Rattle.std.proofs.Common.{◌≡◌, ◌∙◌, ◌-◌, ◌≤◌, subst, sym, true}
-use Rattle.dns_name.specs.Name.{is_at_or_below}
-use Rattle.dns_zone_map.specs.Tree.{IsTree}
+use Rattle.std.proofs.Common.{◌≡◌, ◌∙◌, ◌-◌, ◌≤◌, ap, subst, sym}
+use Rattle.dns_zone_map.specs.Mapped.{contents}
+use Rattle.dns_zone_map.specs.Tree.{IsTree, in_entries}
+use Rattle.dns_zone_map.specs.Order.{list_of}
+use Rattle.dns_zone_map.specs.Former.{before_of}
+use Rattle.dns_zone_map.proofs.Swept.{swept_list}
 use Rattle.dns_zone_map.proofs.Outside.{outside_at}
-use Rattle.dns_zone_map.proofs.Taken.{none_stays, rising_all, none_there, none_taken, list_after, was_there, fewer, tree_after}
+use Rattle.dns_zone_map.proofs.Taken.{none_stays, rising_all, none_taken, list_after, fewer, tree_after}
+use Rattle.dns_zone_map.proofs.CanBeUndone.{MayChange, may_change, mapped_of, on_err, seen_failed, map_failed, map_swept, before_swept}
 use Rattle.dns_zone_map.proofs.zone_map.ZoneMap.take_set.Goals as goal
+use Rattle.dns_zone_map.proofs.zone_map.ZoneMap.take_set.Goals.{In_err-keep_former, In_ok-keep_former}
+
+between : (c : In_ok-keep_former) → MayChange c.self.inside.origin c.behind-key.result.now c.keep_former.new.names.entries c.self.inside.next c.self.inside.count c.keep_former.new.undoing c.args.self.now
+between c = may_change c.self.inside.origin c.behind-key.result.now c.self.inside.names.entries c.keep_former.new.names.entries c.self.inside.next c.self.inside.count c.self.inside.undoing c.keep_former.new.undoing c.len-ordered.ensures.ordered c.self.invariant c.in_ok-keep_former.ensures.ok c.args.self.now c.self.view_is
+
+failed : (c : In_err-keep_former) → mapped_of c.self.inside.origin (list_of (in_entries c.keep_former.new.names.entries)) (before_of c.keep_former.new.undoing c.keep_former.new.names.entries) ≡ c.args.self.now
+failed c = seen_failed c.self.inside.origin c.self.inside.names.entries c.keep_former.new.names.entries c.in_err-keep_former.ensures.err_names c.self.inside.undoing c.keep_former.new.undoing c.in_err-keep_former.ensures.err_undoing c.args.self.now c.self.view_is
 
 pub returns-then-not-at_or_below-clause-records : goal.returns-then-not-at_or_below-clause-records
 returns-then-not-at_or_below-clause-records c =
-    none_stays c.args.self.now c.args.name.now c.args.rtype
-    (outside_at c.self.inside.origin c.args.name.now c.args.rtype c.self.inside.names.entries c.args.self.now c.self.view_is (sym c.at_or_below.ensures.test ∙ c.if-not-at_or_below.true) c.self.invariant.each)
+    none_stays (contents c.args.self.now) c.args.name.now c.args.rtype (outside_at c.self.inside.origin c.args.name.now c.args.rtype c.self.inside.names.entries (contents c.args.self.now) (ap contents c.self.view_is) (sym c.at_or_below.ensures.test ∙ c.if-not-at_or_below.true) c.self.invariant.tree.each)
 
-pub returns-then-not-at_or_below-clause-taken : goal.returns-then-not-at_or_below-clause-taken
-returns-then-not-at_or_below-clause-taken c =
-    outside_at c.self.inside.origin c.args.name.now c.args.rtype c.self.inside.names.entries c.args.self.now c.self.view_is (sym c.at_or_below.ensures.test ∙ c.if-not-at_or_below.true) c.self.invariant.each
+pub invariant_of-self : goal.invariant_of-self
+invariant_of-self c =
+    map_failed c.self.inside.origin c.self.inside.names.entries c.keep_former.new.names.entries c.in_err-keep_former.ensures.err_names c.self.inside.undoing c.keep_former.new.undoing c.in_err-keep_former.ensures.err_undoing c.self.inside.next c.self.inside.count c.self.invariant
+
+pub returns-in_err-keep_former-clause-before : goal.returns-in_err-keep_former-clause-before
+returns-in_err-keep_former-clause-before c = ap (λ z. z.before) (failed (goal.at.returns-in_err-keep_former-clause-before c).In_err-keep_former)
+
+pub returns-in_err-keep_former-clause-err : goal.returns-in_err-keep_former-clause-err
+returns-in_err-keep_former-clause-err c = on_err _ (failed (goal.at.returns-in_err-keep_former-clause-err c).In_err-keep_former)
 
 pub take_from-requires : goal.take_from-requires
 take_from-requires c =
-    let within : is_at_or_below c.args.name.now c.self.inside.origin ≡ true = sym c.at_or_below.ensures.test ∙ c.if-not-at_or_below.false in
-    rising_all c.self.inside.origin c.args.name.now c.args.rtype c.self.inside.names.entries c.self.inside.next c.self.inside.count c.args.self.now c.self.view_is c.self.invariant within c.len-ordered.ensures.ordered
+    let m = between (goal.at.take_from-requires c).In_ok-keep_former in
+    rising_all c.self.inside.origin c.args.name.now c.args.rtype c.keep_former.new.names.entries c.self.inside.next c.self.inside.count (contents c.args.self.now) m.seen m.tree (sym c.at_or_below.ensures.test ∙ c.if-not-at_or_below.false) c.len-still_ordered.ensures.ordered
 
 pub overflow_sub-self : goal.overflow_sub-self
 overflow_sub-self c =
-    let within : is_at_or_below c.args.name.now c.self.inside.origin ≡ true = sym c.at_or_below.ensures.test ∙ c.if-not-at_or_below.false in
-    subst (λ n. n ≤ c.self.inside.count) (sym c.len.ensures) (fewer c.self.inside.origin c.args.name.now c.args.rtype c.self.inside.names.entries c.self.inside.next c.self.inside.count c.args.self.now c.self.view_is c.self.invariant within c.len-ordered.ensures.ordered c.take_from.new.names.entries c.behind.result.now (c.behind.ensures ∙ c.write_key-start.ensures.key) c.in-Some.set c.in-Some.ensures)
+    let m = between (goal.at.overflow_sub-self c).In_ok-keep_former in
+    subst (λ n. n ≤ c.self.inside.count) (sym c.len.ensures) (fewer c.self.inside.origin c.args.name.now c.args.rtype c.keep_former.new.names.entries c.self.inside.next c.self.inside.count (contents c.args.self.now) m.seen m.tree (sym c.at_or_below.ensures.test ∙ c.if-not-at_or_below.false) c.len-still_ordered.ensures.ordered c.take_from.new.names.entries c.behind-key.result.now (c.behind-key.ensures ∙ c.write_key-start.ensures.key) c.in-Some.set c.in-Some.ensures.is)
+
+pub invariant_of-self-in-None : goal.invariant_of-self-in-None
+invariant_of-self-in-None c =
+    let m = between (goal.at.invariant_of-self-in-None c).In_ok-keep_former in
+    m.same c.take_from.new.names.entries c.in-None.ensures.is.0
 
 pub invariant_of-self-in-Some : goal.invariant_of-self-in-Some
 invariant_of-self-in-Some c =
-    let within : is_at_or_below c.args.name.now c.self.inside.origin ≡ true = sym c.at_or_below.ensures.test ∙ c.if-not-at_or_below.false in
-    subst (λ n. IsTree c.self.inside.origin c.take_from.new.names.entries c.self.inside.next (c.self.inside.count - n)) (sym c.len.ensures) (tree_after c.self.inside.origin c.args.name.now c.args.rtype c.self.inside.names.entries c.self.inside.next c.self.inside.count c.args.self.now c.self.view_is c.self.invariant within c.len-ordered.ensures.ordered c.take_from.new.names.entries c.behind.result.now (c.behind.ensures ∙ c.write_key-start.ensures.key) c.in-Some.set c.in-Some.ensures)
+    let m = between (goal.at.invariant_of-self-in-Some c).In_ok-keep_former in
+    map_swept c.self.inside.origin c.take_from.new.names.entries c.sweep_unless.new.names.entries c.self.inside.next _ c.keep_former.new.undoing c.sweep_unless.ensures.same c.sweep_unless.ensures.stays (m.changed c.take_from.new.names.entries c.self.inside.next _ (λ there. c.in-Some.ensures.others) (subst (λ n. IsTree c.self.inside.origin c.take_from.new.names.entries c.self.inside.next (c.self.inside.count - n)) (sym c.len.ensures) (tree_after c.self.inside.origin c.args.name.now c.args.rtype c.keep_former.new.names.entries c.self.inside.next c.self.inside.count (contents c.args.self.now) m.seen m.tree (sym c.at_or_below.ensures.test ∙ c.if-not-at_or_below.false) c.len-still_ordered.ensures.ordered c.take_from.new.names.entries c.behind-key.result.now (c.behind-key.ensures ∙ c.write_key-start.ensures.key) c.in-Some.set c.in-Some.ensures.is)))
 
 pub returns-in-None-clause-records : goal.returns-in-None-clause-records
 returns-in-None-clause-records c =
-    let within : is_at_or_below c.args.name.now c.self.inside.origin ≡ true = sym c.at_or_below.ensures.test ∙ c.if-not-at_or_below.false in
-    none_taken c.self.inside.origin c.args.name.now c.args.rtype c.self.inside.names.entries c.self.inside.next c.self.inside.count c.args.self.now c.self.view_is c.self.invariant within c.len-ordered.ensures.ordered c.take_from.new.names.entries c.behind.result.now (c.behind.ensures ∙ c.write_key-start.ensures.key) c.in-None.ensures
+    let m = between (goal.at.returns-in-None-clause-records c).In_ok-keep_former in
+    none_taken c.self.inside.origin c.args.name.now c.args.rtype c.keep_former.new.names.entries c.self.inside.next c.self.inside.count (contents c.args.self.now) m.seen m.tree (sym c.at_or_below.ensures.test ∙ c.if-not-at_or_below.false) c.len-still_ordered.ensures.ordered c.take_from.new.names.entries c.behind-key.result.now (c.behind-key.ensures ∙ c.write_key-start.ensures.key) c.in-None.ensures.is
 
-pub returns-in-None-clause-taken : goal.returns-in-None-clause-taken
-returns-in-None-clause-taken c =
-    let within : is_at_or_below c.args.name.now c.self.inside.origin ≡ true = sym c.at_or_below.ensures.test ∙ c.if-not-at_or_below.false in
-    none_there c.self.inside.origin c.args.name.now c.args.rtype c.self.inside.names.entries c.self.inside.next c.self.inside.count c.args.self.now c.self.view_is c.self.invariant within c.len-ordered.ensures.ordered c.take_from.new.names.entries c.behind.result.now (c.behind.ensures ∙ c.write_key-start.ensures.key) c.in-None.ensures
+pub returns-in-None-clause-before : goal.returns-in-None-clause-before
+returns-in-None-clause-before c =
+    let m = between (goal.at.returns-in-None-clause-before c).In_ok-keep_former in
+    m.before c.take_from.new.names.entries (λ there. c.in-None.ensures.others)
 
 pub returns-in-Some-clause-records : goal.returns-in-Some-clause-records
 returns-in-Some-clause-records c =
-    let within : is_at_or_below c.args.name.now c.self.inside.origin ≡ true = sym c.at_or_below.ensures.test ∙ c.if-not-at_or_below.false in
-    list_after c.self.inside.origin c.args.name.now c.args.rtype c.self.inside.names.entries c.self.inside.next c.self.inside.count c.args.self.now c.self.view_is c.self.invariant within c.len-ordered.ensures.ordered c.take_from.new.names.entries c.behind.result.now (c.behind.ensures ∙ c.write_key-start.ensures.key) c.in-Some.set c.in-Some.ensures
+    let m = between (goal.at.returns-in-Some-clause-records c).In_ok-keep_former in
+    swept_list c.take_from.new.names.entries c.sweep_unless.new.names.entries c.sweep_unless.ensures.same ∙ list_after c.self.inside.origin c.args.name.now c.args.rtype c.keep_former.new.names.entries c.self.inside.next c.self.inside.count (contents c.args.self.now) m.seen m.tree (sym c.at_or_below.ensures.test ∙ c.if-not-at_or_below.false) c.len-still_ordered.ensures.ordered c.take_from.new.names.entries c.behind-key.result.now (c.behind-key.ensures ∙ c.write_key-start.ensures.key) c.in-Some.set c.in-Some.ensures.is
 
-pub returns-in-Some-clause-taken : goal.returns-in-Some-clause-taken
-returns-in-Some-clause-taken c =
-    let within : is_at_or_below c.args.name.now c.self.inside.origin ≡ true = sym c.at_or_below.ensures.test ∙ c.if-not-at_or_below.false in
-    was_there c.self.inside.origin c.args.name.now c.args.rtype c.self.inside.names.entries c.self.inside.next c.self.inside.count c.args.self.now c.self.view_is c.self.invariant within c.len-ordered.ensures.ordered c.take_from.new.names.entries c.behind.result.now (c.behind.ensures ∙ c.write_key-start.ensures.key) c.in-Some.set c.in-Some.ensures
+pub returns-in-Some-clause-before : goal.returns-in-Some-clause-before
+returns-in-Some-clause-before c =
+    let m = between (goal.at.returns-in-Some-clause-before c).In_ok-keep_former in
+    before_swept c.take_from.new.names.entries c.sweep_unless.new.names.entries c.keep_former.new.undoing c.sweep_unless.ensures.stays ∙ m.before c.take_from.new.names.entries (λ there. c.in-Some.ensures.others)

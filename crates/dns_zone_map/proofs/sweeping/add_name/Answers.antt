@@ -1,5 +1,5 @@
 use Rattle.std.proofs.Common.{◌∙◌, ap, ◌++◌, List, ℕ}
-use Rattle.dns_zone_map.proofs.zone_map.add_name.Goals as goal
+use Rattle.dns_zone_map.proofs.sweeping.add_name.Goals as goal
 
 pub returns-clause-ok : goal.returns-clause-ok
 returns-clause-ok c = record {
