@@ -68,7 +68,7 @@ pub(crate) fn outcome_of(
     })
 }
 
-/// The change that a message makes whose reply is owed and whose batch is made ready.
+/// The change that a message asks for, with its reply where the journal fails, made ready.
 fn change_of(alloc: Global, protocol: Protocol, owed: Owed) -> Result<Option<Change>, OutOfMemory>
     requires { HasRoom owed.reply }
     ensures updates { IfOk result (λ change. updates_in change ≡ owed.updates) }

@@ -19,8 +19,9 @@ use Rattle.dns_keeper.specs.declared.row.Row.{Row}
 use Rattle.dns_stamp.specs.Stamp.{IsStampOf}
 use Rattle.dns_keeper.specs.Rows.{appended, rows_of as batch_of}
 use Rattle.dns_keeper.specs.Keeping.{IsStampFor, GrowsByBatch}
+use Rattle.dns_keeper.specs.Crash.{IsGrownFrom}
 use Rattle.dns_journal.specs.Told.{is_signed, joined, rows_of, told, rows_in}
-use Rattle.dns_journal.specs.Crash.{MayLeave, IsGrownFrom}
+use Rattle.dns_journal.specs.Crash.{MayLeave}
 use Rattle.dns_journal.specs.Stored.{LeavesBatch}
 use Rattle.dns_journal.proofs.Order.{split, told_is, is_told, next_is}
 

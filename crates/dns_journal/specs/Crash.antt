@@ -1,13 +1,11 @@
 -- What a crash may leave of a journal.
-use Rattle.std.specs.Prelude.{◌≡◌, ℕ, pos, List, Option, Some, None}
+use Rattle.std.specs.Prelude.{◌≡◌, pos, List, Some}
 use Rattle.sqlite.specs.Tree.{Trees}
 use Rattle.sqlite.specs.Effect.{Database, IsDatabase}
 use Rattle.sqlite.specs.State.{State, HasCleanDisk}
 use Rattle.dns_sqlite.specs.Tables.{journal_schema}
 use Rattle.dns_sqlite.specs.Versions.{IsVersion}
-use Rattle.dns_wire.specs.declared.record.Record.{Record}
 use Rattle.dns_keeper.specs.declared.row.Row.{Row}
-use Rattle.dns_keeper.specs.Keeping.{HasBatch}
 use Rattle.dns_journal.specs.Told.{told}
 
 -- a database of version 1 with exactly these rows
@@ -27,6 +25,10 @@ pub record MayLeave (s : State) (rows : List Row) : Type 0 where
   pub left : s.may_leave db
   pub opens : LeftAs rows db
 
+-- the disk is clean, and a crash now may leave these rows
+abbrev pub MayLeaveClean : State → List Row → Type 0
+MayLeaveClean s rows = HasCleanDisk s × MayLeave s rows
+
 -- whatever rows a crash now may leave, this holds of them
 abbrev pub Leaves : State → (List Row → Type 0) → Type 0
 Leaves s P = HasCleanDisk s → (rows : List Row) → MayLeave s rows → P rows
@@ -34,8 +36,3 @@ Leaves s P = HasCleanDisk s → (rows : List Row) → MayLeave s rows → P rows
 -- whatever database a crash now may leave, this holds of it
 abbrev pub LeavesTrees : State → (Trees → Type 0) → Type 0
 LeavesTrees s P = HasCleanDisk s → (db : Trees) → s.may_leave db → P db
-
--- rows that are told, and a whole batch after them
-abbrev pub IsGrownFrom : Option (List Row) → ℕ → ℕ → ℕ → List Record → List Row → Type 0
-IsGrownFrom None client serial moment records rows = ⊥
-IsGrownFrom (Some before) client serial moment records rows = HasBatch before client serial moment records rows

@@ -7,9 +7,10 @@ ghost use Rattle.dns_io.specs.Edge.{Keeps, Rose, one_more};
 ghost use Rattle.dns_wire.specs.WireFormat.{record_bytes, IsShort, AreShort};
 ghost use Rattle.dns_keeper.specs.declared.keeper.KeepFault.TheVariants.{Failed, OutOfMemory as NoRoom};
 ghost use Rattle.dns_keeper.specs.Keeping.{GrowsByBatch, TellsAscending, IsRowFrom, IsFirstRow, HasCause};
+ghost use Rattle.dns_keeper.specs.Crash.{IsGrownFrom};
 ghost use Rattle.dns_journal.specs.Told.{told_rows};
 ghost use Rattle.dns_journal.specs.Reads.{FirstReadsAs};
-ghost use Rattle.dns_journal.specs.Crash.{MayLeave, Leaves, LeavesTrees, IsGrownFrom};
+ghost use Rattle.dns_journal.specs.Crash.{MayLeave, MayLeaveClean, Leaves, LeavesTrees};
 ghost use Rattle.dns_journal.specs.Records.{TellsFirstLong, RefusesBatch};
 ghost use Rattle.dns_journal.specs.Stored.{KeepsDatabase, PutsBatch, LeavesBatch, LeavesShown, ShowsRow};
 ghost use Rattle.dns_journal.specs.declared.error.PersistenceError.TheVariants.{Sqlite};
@@ -58,6 +59,7 @@ impl<S: Alter> Journal<S> {
         ensures grown { 0 < length records.now → OnOk result (PutsBatch client soa_serial moment records.now (state S.Store self.old.conn) (state S.Store self.new.conn)) }
         ensures untouched { OnErr result (KeepsDatabase (state S.Store self.old.conn) (state S.Store self.new.conn)) }
         ensures committed { 0 < length records.now → OnOk result (LeavesShown (state S.Store self.new.conn)) }
+        ensures falls { doubt (state S.Store self.old.conn).is_clean ≤ doubt (state S.Store self.new.conn).is_clean }
         ensures crash { LeavesBatch client soa_serial moment records.now (state S.Store self.old.conn) (state S.Store self.new.conn) }
         ensures empty { records.now ≡ [] → self.old.version ≡ pos 1 → self.new ≡ self.old }
         ensures alone { 0 < length records.now → OnOk result (Leaves (state S.Store self.new.conn) (λ rows. told_rows S.Store self.new ≡ Some rows)) }
@@ -88,6 +90,7 @@ impl<S: Alter> Journal<S> {
         ensures grown { OnOk result (PutsBatch 0 soa_serial moment (one.now ∷ []) (state S.Store self.old.conn) (state S.Store self.new.conn)) }
         ensures untouched { OnErr result (KeepsDatabase (state S.Store self.old.conn) (state S.Store self.new.conn)) }
         ensures committed { OnOk result (LeavesShown (state S.Store self.new.conn)) }
+        ensures falls { doubt (state S.Store self.old.conn).is_clean ≤ doubt (state S.Store self.new.conn).is_clean }
         ensures crash { LeavesBatch 0 soa_serial moment (one.now ∷ []) (state S.Store self.old.conn) (state S.Store self.new.conn) }
         ensures alone { OnOk result (Leaves (state S.Store self.new.conn) (λ rows. told_rows S.Store self.new ≡ Some rows)) }
         ensures left { Leaves (state S.Store self.new.conn) (λ rows. MayLeave (state S.Store self.old.conn) rows ⊎ IsGrownFrom (told_rows S.Store self.old) 0 soa_serial moment (one.now ∷ []) rows) }
@@ -117,6 +120,7 @@ impl<S: Alter> Journal<S> {
         ensures grown { 0 < length records.now → OnOk result (PutsBatch client soa_serial moment records.now (state S.Store self.old.conn) (state S.Store self.new.conn)) }
         ensures untouched { OnErr result (KeepsDatabase (state S.Store self.old.conn) (state S.Store self.new.conn)) }
         ensures committed { 0 < length records.now → OnOk result (LeavesShown (state S.Store self.new.conn)) }
+        ensures falls { doubt (state S.Store self.old.conn).is_clean ≤ doubt (state S.Store self.new.conn).is_clean }
         ensures crash { LeavesBatch client soa_serial moment records.now (state S.Store self.old.conn) (state S.Store self.new.conn) }
         ensures empty { records.now ≡ [] → self.old.version ≡ pos 1 → self.new ≡ self.old }
         ensures alone { 0 < length records.now → OnOk result (Leaves (state S.Store self.new.conn) (λ rows. told_rows S.Store self.new ≡ Some rows)) }
@@ -156,6 +160,8 @@ impl<S: Alter> Keeper for Journal<S> {
 
     ghost faults = { λ j. j.faults };
 
+    ghost may_leave = { λ j. MayLeaveClean (state S.Store j.conn) };
+
     fn append(
         &mut self,
         client: u32,
@@ -171,6 +177,7 @@ impl<S: Alter> Keeper for Journal<S> {
         ensures grown { 0 < length records.now → OnOk result (PutsBatch client serial moment records.now (state S.Store self.old.conn) (state S.Store self.new.conn)) }
         ensures untouched { OnErr result (KeepsDatabase (state S.Store self.old.conn) (state S.Store self.new.conn)) }
         ensures committed { 0 < length records.now → OnOk result (LeavesShown (state S.Store self.new.conn)) }
+        ensures falls { doubt (state S.Store self.old.conn).is_clean ≤ doubt (state S.Store self.new.conn).is_clean }
         ensures crash { LeavesBatch client serial moment records.now (state S.Store self.old.conn) (state S.Store self.new.conn) }
         ensures empty { records.now ≡ [] → self.old.version ≡ pos 1 → self.new ≡ self.old }
         ensures alone { 0 < length records.now → OnOk result (Leaves (state S.Store self.new.conn) (λ rows. told_rows S.Store self.new ≡ Some rows)) }

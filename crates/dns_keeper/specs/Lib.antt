@@ -1,3 +1,4 @@
 pub mod Rows
 pub mod Keeping
+pub mod Crash
 pub mod Memory

@@ -1,6 +1,6 @@
 //! What keeps the rows of a journal.
 
-ghost use Rattle.std.specs.Prelude.{◌≡◌, ◌<◌, ◌^◌, neg_ℤ, pos, ℕ, List, Option, OnOk, OnErr, IfOk, IsErrOf};
+ghost use Rattle.std.specs.Prelude.{◌≡◌, ◌<◌, ◌^◌, neg_ℤ, pos, ℕ, List, length, Option, OnOk, OnErr, IfOk, IsErrOf};
 ghost use Rattle.dns_wire.specs.WireFormat.{AreShort};
 ghost use Rattle.dns_keeper.specs.declared.keeper.KeepFault.TheVariants.{OutOfMemory as NoMemory};
 
@@ -50,6 +50,7 @@ pub trait Keeper {
     ghost use Rattle.dns_keeper.specs.declared.row.Row.{Row};
     ghost use Rattle.dns_io.specs.Edge.{Keeps};
     ghost use Rattle.dns_keeper.specs.Keeping.{GrowsByBatch, TellsAscending, IsRowFrom, IsFirstRow, HasCause};
+    ghost use Rattle.dns_keeper.specs.Crash.{LeavesTold, LeavesNoOther, LeavesWhole};
 
     /// The rows, where they are told. A keeper may stop telling them at any call, and then never tells them again.
     ghost rows: { Self → Option (List Row) };
@@ -57,9 +58,13 @@ pub trait Keeper {
     /// How often a call failed.
     ghost faults: { Self → ℕ };
 
+    /// A crash now may leave these rows. A keeper need not tell it: then this never holds.
+    ghost may_leave: { Self → List Row → Type 0 } = { λ _ rows. ⊥ };
+
     /// Adds one row a record, in order, all or none. Their ids follow the greatest id there is, 0 where there is no
     /// row. All bear this client, this serial, and the stamp of this moment, which is in milliseconds since 1970.
-    /// A lack of free ids is a fault.
+    /// A lack of free ids is a fault. Once rows were added a crash leaves just the rows; after a refusal, what it might
+    /// leave before, or the rows with all that were to be added.
     fn append(
         &mut self,
         client: u32,
@@ -72,6 +77,8 @@ pub trait Keeper {
         ensures ok { OnOk result (GrowsByBatch (rows self.old) (rows self.new) client serial moment records.now) }
         ensures err { OnErr result (Keeps (rows self.old) (rows self.new)) }
         ensures ascending { TellsAscending (rows self.new) }
+        ensures alone { 0 < length records.now → OnOk result (LeavesTold (rows self.new) (may_leave self.new)) }
+        ensures left { LeavesWhole (rows self.old) client serial moment records.now (may_leave self.old) (may_leave self.new) }
         ensures cause { HasCause (faults self.old) (faults self.new) result }
         ensures uncounted { IsErrOf result KeepFault.OutOfMemory → faults self.new ≡ faults self.old };
 
@@ -82,6 +89,7 @@ pub trait Keeper {
         ensures first { id ≡ neg_ℤ (pos (2 ^ 63)) → IfOk result (IsFirstRow (rows self.new)) }
         ensures ascending { TellsAscending (rows self.new) }
         ensures kept { Keeps (rows self.old) (rows self.new) }
+        ensures left { LeavesNoOther (may_leave self.old) (may_leave self.new) }
         ensures cause { HasCause (faults self.old) (faults self.new) result }
         ensures uncounted { IsErrOf result KeepFault.OutOfMemory → faults self.new ≡ faults self.old };
 

@@ -17,7 +17,7 @@ use dns_wire::Records;
 use std::alloc::Global;
 use std::marker::Model;
 
-/// A keeper in memory, which tells its rows always. Chosen calls of it can be made to fail.
+/// A keeper in memory, which tells its rows always, and not what a crash may leave. Chosen calls of it can be made to fail.
 #[derive(Drop)]
 pub struct MemoryKeeper {
     alloc: Global,

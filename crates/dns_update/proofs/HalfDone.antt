@@ -10,7 +10,7 @@ use Rattle.dns_update.specs.declared.verdict.Verdict.TheVariants.{Passes}
 use Rattle.dns_update.specs.declared.batch.Modified.{Modified}
 use Rattle.dns_zone_map.specs.Changes.{set_serial}
 use Rattle.dns_update.specs.Change.{fold_record, step, steps, change, makes_change, batch_of}
-use Rattle.dns_update.specs.Modified.{modified_of, modified_with, sum_of}
+use Rattle.dns_update.specs.Modified.{modified_with, sum_of}
 use Rattle.dns_update.specs.Verdict.{prescan_rule, prescan}
 use Rattle.dns_update.specs.Replay.{IsJournalledAsIs}
 use Rattle.dns_update.specs.UnderWay.{IsUnderWay}

@@ -1,16 +1,14 @@
 -- What an update does to the records of a zone, and which of its records are journalled (RFC 2136 3.4.2, 3.6).
-use Rattle.std.specs.Prelude.{ℕ, ◌+◌, ◌-◌, ◌%◌, ◌^◌, List, [], ◌∷◌, filter, map, length, Bool, true, false, ◌==◌, ◌&&◌, ◌||◌, not, nat_lt, nat_le, if◌then◌else◌}
+use Rattle.std.specs.Prelude.{ℕ, ◌+◌, ◌-◌, ◌%◌, ◌^◌, List, [], ◌∷◌, filter, length, Bool, ◌==◌, ◌&&◌, not, nat_lt, nat_le, if◌then◌else◌}
 use Rattle.std.specs.List.{list_any}
 use Rattle.std.specs.Cmp.Lexicographic.{pointwise}
 use Rattle.dns_name.specs.Name.{fold_of, is_same_name}
-use Rattle.dns_wire.specs.declared.rdata.Data.{Data}
-use Rattle.dns_wire.specs.declared.rdata.Data.TheVariants.{Soa}
 use Rattle.dns_wire.specs.declared.record.Record.{Record}
 use Rattle.dns_wire.specs.declared.class.TheConstants as class
 use Rattle.dns_wire.specs.declared.record_type.TheConstants as record_type
 use Rattle.dns_wire.specs.declared.record_type.TheConstants.{NS, CNAME, SOA}
 use Rattle.dns_zone_map.specs.Folds.{fold_data, lists_eq, data_eq}
-use Rattle.dns_zone_map.specs.Zone.{is_type, is_in_set, set_of, serial_or, serial_of, is_equal, is_rival}
+use Rattle.dns_zone_map.specs.Zone.{is_type, set_of, serial_or, serial_of, is_equal, is_rival}
 use Rattle.dns_zone_map.specs.Changes.{put_over, bears, is_taken_with_name, is_taken_with_set, set_serial}
 use Rattle.dns_zone_map.specs.Existence.{owns_type}
 

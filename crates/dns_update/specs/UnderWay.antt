@@ -9,7 +9,6 @@ use Rattle.dns_update.specs.declared.batch.Modified.{Modified}
 use Rattle.dns_update.specs.Change.{steps, batch_of}
 use Rattle.dns_update.specs.Modified.{modified_of}
 use Rattle.dns_update.specs.Verdict.{prescan}
-use Rattle.dns_update.specs.Replay.{IsJournalledAsIs}
 
 -- of the update records of a zone some are left to be done: the others made a batch, which led to the records that there are
 pub record IsUnderWay (before : Contents) (updates rest : List Record) (now : Contents) (batch : List Record) (modified : Modified) : Type 0 where

@@ -194,6 +194,7 @@ pub fn apply(
     ensures records { OnOk result (map.new.records ≡ applied map.old.origin map.old.records batch.now serial) }
     ensures origin { OnOk result (map.new.origin ≡ map.old.origin) }
     ensures zone { OnOk result (IsZone map.new.origin map.new.records) }
+    ensures before { map.new.before ≡ map.old.before }
 {
     apply_each(alloc, map, batch)?;
     set_serial(alloc, map, serial)?;
@@ -207,6 +208,7 @@ fn apply_each(alloc: Global, map: &mut ZoneMap, batch: &[Record]) -> Result<(), 
     ensures records { OnOk result (map.new.records ≡ steps map.old.origin map.old.records batch.now) }
     ensures origin { map.new.origin ≡ map.old.origin }
     ensures zone { IsZone map.new.origin map.new.records }
+    ensures before { map.new.before ≡ map.old.before }
 {
     for one in batch {
         step(alloc, map, one.copy()?)?;

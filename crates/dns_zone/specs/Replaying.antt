@@ -1,9 +1,7 @@
 -- The rows of a journal, taken one by one.
-use Rattle.std.specs.Prelude.{◌≡◌, ℤ, pos, List, [], length, Result, Ok, Err}
-use Rattle.dns_name.specs.Name.{fold_of}
+use Rattle.std.specs.Prelude.{◌≡◌, pos, List, [], length, Result, Ok, Err}
 use Rattle.dns_wire.specs.declared.record.Record.{Record}
 use Rattle.dns_keeper.specs.declared.row.Row.{Row}
-use Rattle.dns_zone_map.specs.Zone.{IsSoFar}
 use Rattle.dns_update.specs.Replay.{Refusal, RunsTo}
 use Rattle.dns_zone.specs.declared.replaying.ReplayFault.{ReplayFault}
 use Rattle.dns_zone.specs.declared.replaying.ReplayFault.TheVariants.{Refused, OutOfMemory}

@@ -9,8 +9,9 @@ ghost use Rattle.dns_update.specs.Change.{batch_of, serial_after, applied};
 ghost use Rattle.dns_update.specs.Verdict.{prescan, verdict_of};
 ghost use Rattle.dns_zone_map.specs.Zone.{IsZone};
 ghost use Rattle.dns_update.specs.Replay.{IsJournalledAsIs};
-ghost use Rattle.dns_zone.specs.Updates.{zone_after, IsBatchOf, Journals};
+ghost use Rattle.dns_zone.specs.Updates.{zone_after, IsBatchOf, Journals, LeavesBatchOf};
 ghost use Rattle.dns_keeper.specs.Keeping.{GrowsByBatch, HasCause};
+ghost use Rattle.dns_keeper.specs.Crash.{LeavesTold};
 ghost use Rattle.dns_io.specs.Edge.{Keeps};
 ghost use Rattle.dns_zone_map.specs.Mapped.{contents};
 
@@ -39,6 +40,7 @@ impl Zone {
 
     /// Does an update whose records pass the prescan (RFC 2136 3.4.1), and has its batch appended to the journal by one call,
     /// where it has records. The zone is as before where it has none, where the keeper refuses it, and where memory runs out.
+    /// A crash leaves the rows once the batch is appended, and after a refusal what it might leave before, or the rows with it.
     /// Takes time for the records of the update and those of their names; once the keeper was called it takes no memory.
     pub fn journal<K: Keeper>(
         &mut self,
@@ -58,6 +60,8 @@ impl Zone {
         ensures journalled { IfOk result (λ batch. AllByRecursion (IsJournalledAsIs self.old.origin) batch.records) }
         ensures err { OnErr result (self.new ≡ self.old) }
         ensures kept { OnErr result (Keeps (K.rows keeper.old) (K.rows keeper.new)) }
+        ensures alone { IfOk result (λ batch. 0 < length batch.records → LeavesTold (K.rows keeper.new) (K.may_leave keeper.new)) }
+        ensures left { LeavesBatchOf self.old updates.now (K.rows keeper.old) client moment (K.may_leave keeper.old) (K.may_leave keeper.new) }
         ensures cause { HasCause (K.faults keeper.old) (K.faults keeper.new) result }
         ensures uncounted { IsErrOf result KeepFault.OutOfMemory → K.faults keeper.new ≡ K.faults keeper.old }
         ensures some { IsErrOf result KeepFault.Failed → 0 < length (batch_of self.old.origin self.old.records updates.now) }
@@ -128,6 +132,8 @@ fn journalled<K: Keeper>(
     ensures idle { IfOk result (λ batch. length batch.records ≡ 0 → keeper.new ≡ keeper.old) }
     ensures journalled { IfOk result (λ batch. AllByRecursion (IsJournalledAsIs map.old.origin) batch.records) }
     ensures kept { OnErr result (Keeps (K.rows keeper.old) (K.rows keeper.new)) }
+    ensures alone { IfOk result (λ batch. 0 < length batch.records → LeavesTold (K.rows keeper.new) (K.may_leave keeper.new)) }
+    ensures left { LeavesBatchOf (contents map.old) updates.now (K.rows keeper.old) client moment (K.may_leave keeper.old) (K.may_leave keeper.new) }
     ensures cause { HasCause (K.faults keeper.old) (K.faults keeper.new) result }
     ensures uncounted { IsErrOf result KeepFault.OutOfMemory → K.faults keeper.new ≡ K.faults keeper.old }
     ensures some { IsErrOf result KeepFault.Failed → 0 < length (batch_of map.old.origin map.old.records updates.now) }

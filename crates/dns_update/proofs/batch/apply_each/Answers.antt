@@ -32,4 +32,5 @@ loop-one-preserved c =
           ap (λ (o : List (List ℕ)). steps o c.step.new.map.records rest) c.step.ensures.origin
           ∙ ap (λ (l : List Record). steps was.map.origin l rest) stepped
           ∙ steps_of was.map.origin was.map.records c.args.batch.now was.one-index c.one-item.result c.loop-one-test.true c.one-item.is ∙ was.invariant.made;
+      undo = c.step.ensures.before ∙ was.invariant.undo;
     }

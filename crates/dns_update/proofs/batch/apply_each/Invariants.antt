@@ -11,4 +11,5 @@ invariant-loop-one l = record {
   zone : IsZone l.map.origin l.map.records;
   left : AllByRecursion (IsJournalledAsIs l.map.origin) (drop l.one-index l.batch);
   made : steps l.map.origin l.map.records (drop l.one-index l.batch) ≡ steps l.fn.map.origin l.fn.map.records l.batch;
+  undo : l.map.before ≡ l.fn.map.before;
 }

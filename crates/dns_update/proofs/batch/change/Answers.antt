@@ -1,5 +1,4 @@
-use Rattle.std.proofs.Common.{◌≡◌, ◌∙◌, sym, ap, subst}
-use Rattle.dns_wire.specs.declared.record.Record.{Record}
+use Rattle.std.proofs.Common.{◌∙◌, sym, ap, subst}
 use Rattle.dns_zone_map.specs.Zone.{IsZone, IsSoFar}
 use Rattle.dns_zone_map.specs.Mapped.{contents}
 use Rattle.dns_update.specs.Change.{step}

@@ -1,11 +1,8 @@
-use Rattle.std.proofs.Common.{◌≡◌, ◌∙◌, ◌∷◌, [], sym, ap, subst, List, ℕ, Result, Ok, Err}
+use Rattle.std.proofs.Common.{◌∷◌, [], sym, subst, List, ℕ, Ok}
 use Rattle.dns_wire.specs.declared.record.Record.{Record}
 use Rattle.dns_keeper.specs.declared.row.Row.{Row}
 use Rattle.dns_zone_map.specs.Zone.{IsSoFar}
-use Rattle.dns_update.specs.declared.row_change.RowEffect.{RowEffect}
 use Rattle.dns_update.specs.declared.row_change.RowEffect.TheVariants.{Snapshot, Change, Refused}
-use Rattle.dns_zone_map.specs.Changes.{set_serial}
-use Rattle.dns_update.specs.Change.{step}
 use Rattle.dns_update.specs.Replay.{RunsTo, Does}
 use Rattle.dns_update.proofs.ReplayZones.{none_so_far}
 use Rattle.dns_zone.specs.Replaying.{TellsEnd}

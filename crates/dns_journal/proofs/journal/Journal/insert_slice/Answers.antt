@@ -6,8 +6,9 @@ use Rattle.dns_sqlite.specs.Versions.{IsAtVersion}
 use Rattle.dns_io.specs.Edge.{Keeps}
 use Rattle.dns_wire.specs.WireFormat.{record_bytes}
 use Rattle.dns_keeper.specs.Keeping.{IsStampFor}
+use Rattle.dns_keeper.specs.Crash.{IsGrownFrom}
 use Rattle.dns_journal.specs.Told.{rows_in}
-use Rattle.dns_journal.specs.Crash.{MayLeave, Leaves, IsGrownFrom}
+use Rattle.dns_journal.specs.Crash.{MayLeave, Leaves}
 use Rattle.dns_journal.specs.Stored.{PutsBatch, LeavesBatch}
 use Rattle.dns_journal.proofs.Telling.{stamp_for, grows_told, leaves_batch, keeps_told, left_of, one, tables_at, still_current, left_told}
 use Rattle.dns_journal.proofs.journal.Journal.insert_slice.Goals as goal

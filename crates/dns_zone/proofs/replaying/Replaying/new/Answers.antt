@@ -1,4 +1,4 @@
-use Rattle.std.proofs.Common.{◌≡◌, ◌∙◌, sym, ap, subst, List, ℕ}
+use Rattle.std.proofs.Common.{◌≡◌, ◌∙◌, sym, subst, List, ℕ}
 use Rattle.dns_name.specs.Name.{fold_of}
 use Rattle.dns_zone_map.specs.Zone.{IsSoFar}
 use Rattle.dns_update.proofs.ReplayZones.{none_so_far}
