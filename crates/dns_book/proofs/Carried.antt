@@ -93,6 +93,13 @@ Settles-carried rows faults access before ask found d outcome settled after stoo
       kept = kept;
     }
 
+-- it is settled by the decision that was made
+pub carried_by : {K : Type 0} (rows : K → Option (List Row)) (faults : K → ℕ) (access : Access) (before : SeenOf K) (ask : Ask) (found : Option Decision) (d : Decision) (outcome : Outcome) (settled : Settled) (after : SeenOf K)
+    (stood : IsKept rows before) (kept : IsKept rows after) (decided : Decides before.zone access ask found) (is : found ≡ Some d) (come : IsOutcome before.zone before.allow_update ask.protocol d outcome)
+    (done : CarriesOut rows faults before ask outcome settled after) → (Settles-carried rows faults access before ask found d outcome settled after stood kept decided is come done).reply.decision ≡ Some d
+unfolding Settles-carried
+carried_by rows faults access before ask found d outcome settled after stood kept decided is come done = refl
+
 -- a message that is owed no reply changes nothing
 pub Settles-silent : {K : Type 0} (rows : K → Option (List Row)) (faults : K → ℕ) (access : Access) (book : SeenOf K) (ask : Ask) (found : Option Decision) (settled : Settled)
     → IsKept rows book → Decides book.zone access ask found → found ≡ None → settled ≡ record { reply = None; length = book.row_count; receipt = None } → Settles rows faults access book ask settled book

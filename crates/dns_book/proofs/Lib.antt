@@ -1,5 +1,6 @@
 pub mod Opened
 pub mod Growing
+pub mod Leaving
 pub mod Codes
 pub mod Carried
 pub mod Failing

@@ -5,6 +5,7 @@ pub mod Cases
 pub mod Owed
 pub mod Counted
 pub mod Book
+pub mod Crash
 pub mod Outcome
 pub mod Opening
 pub mod Recovering

@@ -3,6 +3,7 @@
 ghost use Rattle.std.specs.Prelude.{◌≡◌, ◌≤◌, ◌<◌, ◌^◌, length, IfOk, OnOk, OnErr, None};
 ghost use Rattle.dns_zone_map.specs.Zone.{serial_of};
 ghost use Rattle.dns_book.specs.Book.{IsKept, Settles, IsLeft};
+ghost use Rattle.dns_book.specs.Crash.{SettlesLeaving, LeavesUnsettled};
 
 use crate::access::AccessControl;
 use crate::ask::{Ask, Settled};
@@ -41,13 +42,16 @@ impl<K: Keeper> Book<K> {
     /// Settles one message at its moment: gives the reply that it is owed, within its limit, where `access` says which
     /// sources are let in, and what it did to the journal. An update that passes and changes the zone is journalled by one
     /// append, and then the zone has changed; where the keeper fails, it has not, and the reply is ServFail. Where memory
-    /// ran out, nothing has changed.
+    /// ran out, nothing has changed. Once a batch is journalled a crash leaves just the rows; where that was refused it may
+    /// leave them with the whole batch too.
     pub fn settle(&mut self, access: &AccessControl, ask: &Ask) -> Result<Settled, OutOfMemory>
         requires moment { ask.now.at < 2 ^ 47 }
         requires bytes { length ask.now.bytes ≤ 65535 }
         ensures ok { IfOk result (λ settled. Settles K.rows K.faults access.now self.old ask.now settled self.new) }
         ensures book { IsKept K.rows self.new }
         ensures err { OnErr result (IsLeft K.rows K.faults self.old self.new) }
+        ensures left { IfOk result (λ settled. SettlesLeaving K.rows K.faults K.may_leave access.now self.old ask.now settled self.new) }
+        ensures left_unsettled { OnErr result (LeavesUnsettled K.rows K.may_leave access.now self.old ask.now self.new) }
     {
         let Some(decision) = decide(self.alloc, &self.zone, access, ask)? else {
             return Ok(self.unanswered());

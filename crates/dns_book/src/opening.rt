@@ -3,6 +3,8 @@
 ghost use Rattle.std.specs.Prelude.{◌≡◌, ◌≤◌, ◌<◌, ◌^◌, IfOk, IfErr, IfSome, IsSomeAnd, IsErrOf};
 ghost use Rattle.dns_io.specs.Edge.{Keeps};
 ghost use Rattle.dns_name.specs.Name.{fold_of};
+ghost use Rattle.dns_keeper.specs.Crash.{LeavesTold, LeavesNoOther};
+ghost use Rattle.dns_book.specs.Crash.{LeavesOpened, LeavesOpening, LeavesUnopened};
 ghost use Rattle.dns_book.specs.Opening.{HadNoRow, Begins, BeginsNot, BeginsNotWith, Recovers, RecoversNot, Opens, OpensNot, faults_of, faults_begun};
 
 use crate::book::Book;
@@ -67,6 +69,8 @@ impl<K: Keeper> Book<K> {
         ensures ok { IfOk result (Opens (K.rows keeper) K.rows origin zone allow_update moment) }
         ensures err { IfErr result (λ f. OpensNot (K.rows keeper) (K.rows f.keeper) (K.faults keeper) (K.faults f.keeper) origin zone f.kind) }
         ensures kept { IfErr result (λ f. Keeps (K.rows keeper) (K.rows f.keeper)) }
+        ensures left { IfOk result (λ book. LeavesOpened (K.may_leave keeper) (K.rows book.keeper) (K.may_leave book.keeper)) }
+        ensures left_unopened { IfErr result (λ f. LeavesUnopened (K.rows keeper) zone moment (K.may_leave keeper) (K.may_leave f.keeper)) }
         ensures later { K.faults keeper ≤ faults_of K.faults result }
     {
         match keeper.row_from(i64::MIN) {
@@ -91,6 +95,8 @@ impl<K: Keeper> Book<K> {
         ensures ok { IfOk result (Begins (K.rows keeper) K.rows zone allow_update moment) }
         ensures err { IfErr result (λ f. BeginsNot (K.faults keeper) (K.faults f.keeper) f.fault) }
         ensures kept { IfErr result (λ f. Keeps (K.rows keeper) (K.rows f.keeper)) }
+        ensures left { IfOk result (λ book. LeavesTold (K.rows book.keeper) (K.may_leave book.keeper)) }
+        ensures left_unopened { IfErr result (λ f. LeavesOpening (K.rows keeper) zone moment (K.may_leave keeper) (K.may_leave f.keeper)) }
         ensures later { K.faults keeper ≤ faults_begun K.faults result }
     {
         let Ok(records) = opening_of(alloc, &zone) else {
@@ -124,6 +130,8 @@ impl<K: Keeper> Book<K> {
         ensures ok { IfOk result (Recovers (K.rows keeper) K.rows origin.now allow_update) }
         ensures err { IfErr result (λ f. RecoversNot (K.rows keeper) (K.rows f.keeper) (K.faults keeper) (K.faults f.keeper) origin.now f.kind) }
         ensures kept { IfErr result (λ f. Keeps (K.rows keeper) (K.rows f.keeper)) }
+        ensures left { IfOk result (λ book. LeavesNoOther (K.may_leave keeper) (K.may_leave book.keeper)) }
+        ensures left_unopened { IfErr result (λ f. LeavesNoOther (K.may_leave keeper) (K.may_leave f.keeper)) }
         ensures later { K.faults keeper ≤ faults_of K.faults result }
     {
         match read_back(alloc, &mut keeper, origin) {
@@ -153,6 +161,8 @@ fn begin_with<K: Keeper>(
     ensures ok { IfOk result (λ book. IsSomeAnd zone (λ z. Begins (K.rows keeper) K.rows z allow_update moment book)) }
     ensures err { IfErr result (λ f. BeginsNotWith (K.faults keeper) (K.faults f.keeper) zone f.kind) }
     ensures kept { IfErr result (λ f. Keeps (K.rows keeper) (K.rows f.keeper)) }
+    ensures left { IfOk result (λ book. LeavesTold (K.rows book.keeper) (K.may_leave book.keeper)) }
+    ensures left_unopened { IfErr result (λ f. LeavesUnopened (K.rows keeper) zone moment (K.may_leave keeper) (K.may_leave f.keeper)) }
     ensures later { K.faults keeper ≤ faults_of K.faults result }
 {
     let Some(zone) = zone else {

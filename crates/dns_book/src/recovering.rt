@@ -4,6 +4,7 @@ ghost use Rattle.std.specs.Prelude.{◌≡◌, ◌≤◌, ◌++◌, ◌∷◌, �
 ghost use Rattle.std.specs.Int.{w64};
 ghost use Rattle.dns_name.specs.Name.{fold_of};
 ghost use Rattle.dns_io.specs.Edge.{Keeps};
+ghost use Rattle.dns_keeper.specs.Crash.{LeavesNoOther};
 ghost use Rattle.dns_keeper.specs.declared.row.Row.{Row as JournalRow};
 ghost use Rattle.dns_update.specs.Replay.{Replays};
 ghost use Rattle.dns_zone.specs.Replaying.{HasTaken};
@@ -45,6 +46,7 @@ pub(crate) fn read_back<K: Keeper>(
     ensures zone { IfOk result (λ back. StandFor (K.rows keeper.new) back.zone) }
     ensures err { IfErr result (RecoversNot (K.rows keeper.old) (K.rows keeper.new) (K.faults keeper.old) (K.faults keeper.new) origin.now) }
     ensures kept { Keeps (K.rows keeper.old) (K.rows keeper.new) }
+    ensures left { LeavesNoOther (K.may_leave keeper.old) (K.may_leave keeper.new) }
     ensures later { K.faults keeper.old ≤ K.faults keeper.new }
 {
     let Taken {
@@ -63,6 +65,7 @@ fn take_rows<K: Keeper>(alloc: Global, keeper: &mut K, origin: &Name) -> Result<
     ensures all { IfOk result (λ taken. IfSome (K.rows keeper.new) (AreTaken taken.replaying taken.row_count)) }
     ensures err { IfErr result (RecoversNot (K.rows keeper.old) (K.rows keeper.new) (K.faults keeper.old) (K.faults keeper.new) origin.now) }
     ensures kept { Keeps (K.rows keeper.old) (K.rows keeper.new) }
+    ensures left { LeavesNoOther (K.may_leave keeper.old) (K.may_leave keeper.new) }
     ensures later { K.faults keeper.old ≤ K.faults keeper.new }
 {
     let mut replaying = no_rows(alloc, origin)?;
@@ -111,6 +114,7 @@ fn first_row<K: Keeper>(keeper: &mut K) -> Result<Option<Row>, OpenKind>
     ensures found { IfOk result (λ found. IfSome (K.rows keeper.new) (IsFirst found)) }
     ensures err { IfErr result (ReadsNot (K.faults keeper.old) (K.faults keeper.new)) }
     ensures kept { Keeps (K.rows keeper.old) (K.rows keeper.new) }
+    ensures left { LeavesNoOther (K.may_leave keeper.old) (K.may_leave keeper.new) }
     ensures later { K.faults keeper.old ≤ K.faults keeper.new }
 {
     match keeper.row_from(i64::MIN) {
@@ -124,6 +128,7 @@ fn row_behind<K: Keeper>(keeper: &mut K, row: &Row) -> Result<Option<Row>, OpenK
     ensures found { IfOk result (λ found. IfSome (K.rows keeper.new) (IsFirstFrom (row.now.id +ℤ pos 1) found)) }
     ensures err { IfErr result (ReadsNot (K.faults keeper.old) (K.faults keeper.new)) }
     ensures kept { Keeps (K.rows keeper.old) (K.rows keeper.new) }
+    ensures left { LeavesNoOther (K.may_leave keeper.old) (K.may_leave keeper.new) }
     ensures later { K.faults keeper.old ≤ K.faults keeper.new }
 {
     // The ids of rows that were taken count them, and no journal has so many.

@@ -3,7 +3,8 @@
 ghost use Rattle.std.specs.Prelude.{◌≡◌, ◌<◌, ◌^◌, IfOk, OnErr, None, Some};
 ghost use Rattle.dns_counts.specs.Counters.{recorded, changed};
 ghost use Rattle.dns_book.specs.Book.{IsKept, IsLeft};
-ghost use Rattle.dns_book.specs.Outcome.{IsPassing, ArePassing, updates_in, Journals, CarriesOut};
+ghost use Rattle.dns_book.specs.Crash.{LeavesBatch, LeavesBy, receipt_in};
+ghost use Rattle.dns_book.specs.Outcome.{IsPassing, ArePassing, batch_in, updates_in, Journals, CarriesOut};
 ghost use Rattle.dns_update.specs.Change.{batch_of};
 
 use crate::ask::{Ask, Receipt, Settled};
@@ -25,6 +26,8 @@ impl<K: Keeper> Book<K> {
         ensures ok { IfOk result (λ settled. CarriesOut K.rows K.faults self.old ask.now outcome settled self.new) }
         ensures kept { IsKept K.rows self.new }
         ensures err { OnErr result (IsLeft K.rows K.faults self.old self.new) }
+        ensures left { IfOk result (λ settled. LeavesBy K.rows K.may_leave self.old ask.now (batch_in self.old.zone (updates_in outcome.change)) settled.receipt self.new) }
+        ensures left_unsettled { OnErr result (LeavesBatch K.rows K.may_leave self.old ask.now (batch_in self.old.zone (updates_in outcome.change)) self.new) }
     {
         let Outcome {
             asked,
@@ -49,6 +52,7 @@ impl<K: Keeper> Book<K> {
         requires passing { IsPassing self.old.zone updates.now }
         ensures is { Journals K.rows K.faults self.old ask.now (batch_of self.old.zone.origin self.old.zone.records updates.now) result self.new }
         ensures kept { IsKept K.rows self.new }
+        ensures left { LeavesBy K.rows K.may_leave self.old ask.now (batch_of self.old.zone.origin self.old.zone.records updates.now) (receipt_in result) self.new }
     {
         replays();
         batches();

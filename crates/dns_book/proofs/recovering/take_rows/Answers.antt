@@ -14,5 +14,6 @@ loop-row_count-preserved g c =
       read = goes_on was.replaying c.take_row.new.replaying was.row_count c.in-Some.row c.in_ok-next-2.next (g.K.Keeper.rows was.keeper) (g.K.Keeper.rows c.row_behind.new.keeper)
           c.row_behind.ensures.kept read c.in_ok-take_row.ensures.taken c.in_ok-next-2.ensures.found;
       kept = kept_on (g.K.Keeper.rows c.args.keeper.now) (g.K.Keeper.rows was.keeper) (g.K.Keeper.rows c.row_behind.new.keeper) was.invariant.kept c.row_behind.ensures.kept;
+      left = λ rows now. was.invariant.left rows (c.row_behind.ensures.left rows now);
       later = omega (arith, was.invariant.later, c.row_behind.ensures.later);
     }

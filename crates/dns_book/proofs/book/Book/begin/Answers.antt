@@ -1,4 +1,4 @@
-use Rattle.std.proofs.Common.{refl}
+use Rattle.std.proofs.Common.{refl, arith}
 use Rattle.dns_book.specs.Book.{SeenOf, IsKept}
 use Rattle.dns_book.proofs.Opened.{IsKept-begun, begins}
 use Rattle.dns_book.proofs.book.Book.begin.Goals as goal
@@ -16,3 +16,6 @@ returns-in-Ok-append-clause-ok g c =
     0 c.serial.result c.args.moment c.in-Ok.records c.requires.empty c.in-Ok-append.ensures.ok c.len.ensures c.serial.ensures c.in-Ok.ensures.replay in
     begins g.K.Keeper.rows (g.K.Keeper.rows c.args.keeper) c.args.zone c.args.allow_update c.args.moment c.serial.result c.in-Ok.records book c.requires.empty c.in-Ok-append.ensures.ok
     c.serial.ensures c.in-Ok.ensures.records refl refl c.len.ensures c.counts_of_zone.ensures kept
+
+pub returns-in-Ok-append-clause-left : goal.returns-in-Ok-append-clause-left
+returns-in-Ok-append-clause-left g c = c.in-Ok-append.ensures.alone (rw c.in-Ok.ensures.records (omega arith))
