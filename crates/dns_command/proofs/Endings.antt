@@ -180,6 +180,7 @@ module _ {K : Type 0} (rows : K → Option (List Row)) (faults : K → ℕ) (wor
 
   pub answers : (outs : List Out) (server : ServerOf (SeenOf K)) → SettlesAll rows faults keeper inputs moment outs server → left ≡ server.handler.keeper → IsKept rows server.handler
       → Answers rows faults world (lines_by inputs.options.drawn outs (serial_of server.handler.zone.records) server.handler.row_count (length server.kept.connections))
+  unfolding serves
   answers outs server s is kept = record {
     events = inputs.events.items;
     outs = outs;
