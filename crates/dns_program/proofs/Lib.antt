@@ -1,15 +1,1 @@
-mod Decimals
-mod EventWords
-mod Keys
-mod TextsRead
-mod TextsWritten
-mod Told
 mod SentJournal
-mod Settled
-mod Endings
-mod Completing
-mod Loops
-mod Crews
-mod Served
-mod ServeEndings
-mod RunEndings

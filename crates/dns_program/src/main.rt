@@ -2,28 +2,15 @@
 #![tactic(auto)]
 
 mod closed_journal;
-mod command_line;
-mod event_text;
 mod file_journal;
-mod help;
-mod lines;
-mod listening_words;
-mod network_text;
-mod opening;
-mod output;
-mod ports;
-mod run;
-mod run_list;
-mod status;
 
 use crate::closed_journal::ClosedJournal;
-use crate::command_line::{Action, JOURNAL, ZONE, action_of, path_of, unread_words};
 use crate::file_journal::FileJournal;
-use crate::help::{HELP, VERSION};
-use crate::listening_words::is_command;
-use crate::output::put_text;
-use crate::run::run;
-use crate::status::{Ended, Status, after_writing};
+use dns_command::run::run;
+use dns_command::{
+    Action, Ended, HELP, JOURNAL, Status, VERSION, ZONE, action_of, after_writing, is_command,
+    path_of, put_text, unread_words,
+};
 use dns_io::{FileSource, OutOfMemory, Reading, SystemClock, Writing};
 use dns_journal::PersistenceError;
 use dns_keeper::{Keeper, MemoryKeeper};

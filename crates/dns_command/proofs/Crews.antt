@@ -1,0 +1,107 @@
+-- Workers that are taken on, and ports that are opened and handed back.
+use Rattle.std.proofs.Common.{◌≡◌, ℕ, suc, ◌+◌, ◌≤◌, ◌<◌, List, [], ◌∷◌, ◌++◌, inl, inr, length, Option, Some, None, Ok, refl, sym, ap, subst, ◌∙◌, length-append, arith}
+use Rattle.std.specs.List.{AllByRecursion}
+use Rattle.dns_io.specs.Edge.{Rose}
+use Rattle.dns_io.proofs.ToldContents.{Keeps-more, Grows-more}
+use Rattle.dns_ports.specs.declared.hub.Opening.{Opening}
+use Rattle.dns_ticket_lock.specs.declared.view.Terms.{Terms}
+use Rattle.dns_ticket_lock.specs.Rule.{fresh}
+use Rattle.dns_ticket_lock.specs.Passes.{BookSeen, PassSeen, AreNew}
+use Rattle.dns_server.specs.declared.worker.Worker.{Worker}
+use Rattle.dns_server.specs.Servers.{ServerSeen, TakesOn, Matches, MatchesOnce, RoseAt, their_ports}
+use Rattle.dns_command.specs.Hubs.{HubAround, around_hub}
+use Rattle.dns_command.specs.Serving.{IsNewWorker}
+use Rattle.dns_command.specs.ServingParts.{IsManned, IsSameServer, Registers, OpensAll, AnyFault}
+
+-- ---- workers
+
+all_snoc : {X : Type 0} (P : X → Type 0) (xs : List X) (x : X) → AllByRecursion P xs → P x → AllByRecursion P (xs ++ x ∷ [])
+all_snoc P [] x h p = (p, tt)
+all_snoc P (y ∷ ys) x h p = (h.0, all_snoc P ys x h.1 p)
+
+-- what is known of a worker that was taken on
+record IsTaken {P : Type 0} (t : Terms) (limit : ℕ) (Fresh : P → Type 0) (free left : List PassSeen) (workers now : List (Worker P)) : Type 0 where
+  new : AreNew t left
+  each : AllByRecursion (IsNewWorker t limit Fresh) now
+  more : length now ≡ length workers + 1
+  fewer : length free ≡ length left + 1
+
+taken : {P : Type 0} (t : Terms) (limit : ℕ) (Fresh : P → Type 0) (port : P) (free left : List PassSeen) (workers now : List (Worker P))
+    → AreNew t free → AllByRecursion (IsNewWorker t limit Fresh) workers → Fresh port → TakesOn port limit free workers left now → IsTaken t limit Fresh free left workers now
+taken {P} t limit Fresh port free left workers now new each fresh_port takes =
+    let first = subst (λ (l : List PassSeen). AreNew t l) takes.first new in
+    let head = first 0 takes.pass refl in
+    let worker : Worker P = record { pass = takes.pass; port = port; limit = limit; answer = Ok tt } in
+    record {
+      new = λ k p is. first (suc k) p is;
+      each = subst (λ (l : List (Worker P)). AllByRecursion (IsNewWorker t limit Fresh) l) (sym takes.last)
+          (all_snoc (IsNewWorker t limit Fresh) workers worker each (record { terms = head.0; account = head.1; limit = refl; port = fresh_port }));
+      more = ap length takes.last ∙ length-append workers (worker ∷ []);
+      fewer = let h = ap length takes.first in omega (arith, h);
+    }
+
+-- a socket is registered
+pub socket_taken : {U T : Type 0} (F : U → Type 0) (G : T → Type 0) (limit : ℕ) (s t : ServerSeen U T) (port : U) → IsManned F G limit s → F port
+    → TakesOn port 0 s.free s.sockets t.free t.sockets → t.book ≡ s.book → t.listeners ≡ s.listeners → IsManned F G limit t × (length t.sockets ≡ length s.sockets + 1)
+socket_taken {T = T} F G limit s t port m fresh_port takes book others =
+    let k = taken s.book.terms 0 F port s.free t.free s.sockets t.sockets m.free m.sockets fresh_port takes in (
+      record {
+        free = subst (λ (b : BookSeen). AreNew b.terms t.free) (sym book) k.new;
+        seats = let a = k.more in let b = k.fewer in let c = ap length others in let d = m.seats in let e = ap (λ (b : BookSeen). b.terms.seats) book in omega (arith, a, b, c, d, e);
+        sockets = subst (λ (b : BookSeen). AllByRecursion (IsNewWorker b.terms 0 F) t.sockets) (sym book) k.each;
+        listeners = subst (λ (b : BookSeen). AllByRecursion (IsNewWorker b.terms limit G) t.listeners) (sym book)
+            (subst (λ (l : List (Worker T)). AllByRecursion (IsNewWorker s.book.terms limit G) l) (sym others) m.listeners);
+      },
+      k.more,
+    )
+
+-- a listener is
+pub listener_taken : {U T : Type 0} (F : U → Type 0) (G : T → Type 0) (limit : ℕ) (s t : ServerSeen U T) (port : T) → IsManned F G limit s → G port
+    → TakesOn port limit s.free s.listeners t.free t.listeners → t.book ≡ s.book → t.sockets ≡ s.sockets → IsManned F G limit t × (length t.listeners ≡ length s.listeners + 1)
+listener_taken {U = U} F G limit s t port m fresh_port takes book others =
+    let k = taken s.book.terms limit G port s.free t.free s.listeners t.listeners m.free m.listeners fresh_port takes in (
+      record {
+        free = subst (λ (b : BookSeen). AreNew b.terms t.free) (sym book) k.new;
+        seats = let a = k.more in let b = k.fewer in let c = ap length others in let d = m.seats in let e = ap (λ (b : BookSeen). b.terms.seats) book in omega (arith, a, b, c, d, e);
+        sockets = subst (λ (b : BookSeen). AllByRecursion (IsNewWorker b.terms 0 F) t.sockets) (sym book)
+            (subst (λ (l : List (Worker U)). AllByRecursion (IsNewWorker s.book.terms 0 F) l) (sym others) m.sockets);
+        listeners = subst (λ (b : BookSeen). AllByRecursion (IsNewWorker b.terms limit G) t.listeners) (sym book) k.each;
+      },
+      k.more,
+    )
+
+-- as many stand on both sides
+pub matches_length : {A B : Type 0} (R : A → B → Type 0) (xs : List A) (ys : List B) → Matches R xs ys → length xs ≡ length ys
+matches_length R [] [] m = refl
+matches_length R [] (y ∷ ys) m = absurd m
+matches_length R (x ∷ xs) [] m = absurd m
+matches_length R (x ∷ xs) (y ∷ ys) m = ap suc (matches_length R xs ys m.1)
+
+-- where a count rose that was 0 at first, a port has one above 0
+pub fault_found : {P : Type 0} (t : Terms) (limit : ℕ) (Fresh : P → Type 0) (faults : P → ℕ) (none : (port : P) → Fresh port → faults port ≡ 0) (xs ys : List (Worker P))
+    → AllByRecursion (IsNewWorker t limit Fresh) xs → MatchesOnce (RoseAt faults) xs ys → AnyFault faults (their_ports ys)
+fault_found t limit Fresh faults none [] ys new once = absurd once
+fault_found t limit Fresh faults none (x ∷ xs) [] new once = absurd once
+fault_found t limit Fresh faults none (x ∷ xs) (y ∷ ys) new (inl rose) = inl (let z = none x.port new.0.port in omega (arith, z, rose))
+fault_found t limit Fresh faults none (x ∷ xs) (y ∷ ys) new (inr once) = inr (fault_found t limit Fresh faults none xs ys new.1 once)
+
+-- ---- the hub
+
+module _ {H U T : Type 0} (opened : H → Option (List Opening)) (sockets : H → Option (List U)) (listeners : H → Option (List T)) (sockets_out listeners_out faults : H → ℕ) where
+  abbrev around : H → H → HubAround U T
+  around a b = around_hub opened sockets listeners sockets_out listeners_out faults a b
+
+  pub Registers-more : (a b c : H) (s t u : ServerSeen U T) → Registers (around a b) s t → Registers (around b c) t u → Registers (around a c) s u
+  Registers-more a b c s t u p q = record {
+    same = record { book = q.same.book ∙ p.same.book; access = q.same.access ∙ p.same.access };
+    sockets = let x = p.sockets in let y = q.sockets in omega (arith, x, y);
+    listeners = let x = p.listeners in let y = q.listeners in omega (arith, x, y);
+    later = let x = p.later in let y = q.later in omega (arith, x, y);
+  }
+
+  pub OpensAll-more : (a b c : H) (xs ys : List Opening) → OpensAll {U = U} {T = T} (around a b) xs → OpensAll {U = U} {T = T} (around b c) ys → OpensAll {U = U} {T = T} (around a c) (xs ++ ys)
+  OpensAll-more a b c xs ys p q = record {
+    opened = Grows-more (opened a) (opened b) (opened c) xs ys p.opened q.opened;
+    sockets = Keeps-more (sockets a) (sockets b) (sockets c) p.sockets q.sockets;
+    listeners = Keeps-more (listeners a) (listeners b) (listeners c) p.listeners q.listeners;
+  }

@@ -1,0 +1,15 @@
+mod Decimals
+mod EventWords
+mod Keys
+mod TextsRead
+mod TextsWritten
+mod Told
+mod Drawn
+mod Settled
+mod Endings
+mod Completing
+mod Loops
+mod Crews
+mod Served
+mod ServeEndings
+mod RunEndings

@@ -1,0 +1,18 @@
+use Rattle.std.proofs.lemmas.Result.{err_from_is_err_and}
+use Rattle.dns_command.proofs.TextsWritten.{Writes-stop, Writes-then, Whole-stop, Whole-flush}
+use Rattle.dns_command.proofs.output.put_output.Goals as goal
+
+pub returns-in_err-put_outs : goal.returns-in_err-put_outs
+returns-in_err-put_outs g c =
+    let p = err_from_is_err_and c.from_residual.result c.from_residual.ensures.1 in
+    rw (p.1, p.2) (Whole-stop _ _ _ (Writes-stop _ _ _ _ c.in_err-put_outs.ensures))
+
+pub returns-in_err-put_closing : goal.returns-in_err-put_closing
+returns-in_err-put_closing g c =
+    let p = err_from_is_err_and c.from_residual-in_err-put_closing.result c.from_residual-in_err-put_closing.ensures.1 in
+    rw (p.1, p.2) (Whole-stop _ _ _ (Writes-then _ _ _ _ _ _ _ _ _ _ _ _ c.in_ok-put_outs.ensures c.in_err-put_closing.ensures))
+
+pub returns : goal.returns
+returns g c =
+    let written = Writes-then _ _ _ _ _ _ _ _ _ _ _ _ c.in_ok-put_outs.ensures c.in_ok-put_closing.ensures in
+    Whole-flush _ _ _ _ _ _ _ _ _ _ _ written c.flush.ensures.kept c.flush.ensures.all c.flush.ensures.cause

@@ -1,0 +1,111 @@
+-- What the program does: the replies owed, and no other bytes.
+use Rattle.std.specs.Prelude.{◌≡◌, ◌≢◌, ℕ, List, length, take, Option, Some, None}
+use Rattle.dns_keeper.specs.declared.row.Row.{Row}
+use Rattle.dns_io.specs.Edge.{Keeps, Rose, GrowsByPrefix}
+use Rattle.dns_zone_map.specs.Zone.{serial_of}
+use Rattle.dns_server_core.specs.declared.event.Event.{Event}
+use Rattle.dns_server_core.specs.declared.event.Out.{Out}
+use Rattle.dns_book.specs.Book.{SeenOf, IsKept, Settles}
+use Rattle.dns_book.specs.Opening as book
+use Rattle.dns_server_core.specs.Valid.{Valid}
+use Rattle.dns_server_core.specs.Connections.{new_kept, done, after}
+use Rattle.dns_server_core.specs.Runs.{Completed, Run}
+use Rattle.dns_server_core.specs.Books.{failures, RoseBy}
+use Rattle.dns_command.specs.declared.status.Status.{Status}
+use Rattle.dns_command.specs.declared.status.Status.TheVariants as status
+use Rattle.dns_command.specs.declared.opening.Opening.{Opening}
+use Rattle.dns_command.specs.declared.opening.Opening.TheVariants.{Begin, Recover}
+use Rattle.dns_command.specs.declared.command_line.Options.{Options}
+use Rattle.dns_command.specs.CommandLine.{options_of, access_of}
+use Rattle.dns_command.specs.Lines.{lines_by}
+use Rattle.dns_command.specs.Status.{refusal_line}
+use Rattle.dns_command.specs.World.{World, IsUnwritten, IsWritten}
+use Rattle.dns_command.specs.Steps.{FindsBy, HearsBy, IsRefused}
+
+-- how the journal was opened, by the options: one without rows was begun with the zone that was found at this moment, and
+-- one with rows was read back; either way its rows stand for its zone
+abbrev pub IsOpened : {K : Type 0} → Option (List Row) → (K → Option (List Row)) → Options → ℕ → Opening → SeenOf K → Type 0
+IsOpened before rows options moment (Begin zone) first = book.Begins before rows zone options.allow_update moment first
+IsOpened before rows options moment Recover first = book.Recovers before rows options.origin options.allow_update first
+
+-- the words are legal, these are the events of the event text or those that are drawn, and the journal was opened at the clock's
+-- last reading
+pub record Begins {K : Type 0} (rows : K → Option (List Row)) (w : World) (options : Options) (events : List Event) (first : SeenOf K) : Type 0 where
+  pub opening : Opening
+  pub legal : options_of w.words ≡ Some options
+  pub found : FindsBy w.journal w.zone options opening
+  pub heard : HearsBy w.events options events
+  pub opened : IsOpened w.journal.before rows options w.moment opening first
+
+-- Messages were settled on the journal that was opened: of those that a valid list of events completes, the ones that are
+-- picked. Each message in turn was settled on the zone that the rows then stood for, where the words say who is let in and
+-- whether updates are; the rows grew by the records of each update that was answered NoError; and no more updates got ServFail
+-- than the journal's count of faults rose, unless that stands at its last value.
+pub record Serves {K : Type 0} (rows : K → Option (List Row)) (faults : K → ℕ) (w : World) (picked : List Completed → List Completed) (events : List Event) (outs : List Out) (last : SeenOf K) : Type 0 where
+  pub options : Options
+  pub first : SeenOf K
+  pub begun : Begins rows w options events first
+  pub valid : Valid new_kept events
+  pub ran : Run (Settles rows faults (access_of options)) first (picked (done new_kept events)) outs last
+  pub few : RoseBy (failures rows faults (access_of options) first (picked (done new_kept events)) outs last ran) w.journal.faults_before w.journal.faults_after
+
+-- the list of events is not valid: the journal was opened, and nothing was settled. It is that of the event text: one that is drawn
+-- is always valid
+pub record Rejects {K : Type 0} (rows : K → Option (List Row)) (w : World) : Type 0 where
+  pub options : Options
+  pub events : List Event
+  pub first : SeenOf K
+  pub begun : Begins rows w options events first
+  pub undrawn : options.drawn ≡ None
+  pub invalid : Valid new_kept events → ⊥
+  pub left : rows first.keeper ≡ w.journal.after
+
+abbrev pub all : List Completed → List Completed
+all asks = asks
+
+-- every message was settled, and this is the output: a line a reply, or for a drawn list what is told of the replies; then the
+-- serial of the zone that the rows now stand for, the number of rows, and how many connections are open
+pub record Answers {K : Type 0} (rows : K → Option (List Row)) (faults : K → ℕ) (w : World) (written : List ℕ) : Type 0 where
+  pub events : List Event
+  pub outs : List Out
+  pub last : SeenOf K
+  pub served : Serves rows faults w all events outs last
+  pub left : rows last.keeper ≡ w.journal.after
+  pub kept : IsKept rows last
+  pub text : written ≡ lines_by served.options.drawn outs (serial_of last.zone.records) last.row_count (length (after new_kept events).connections)
+
+-- memory ran out among the messages: some of the first ones were settled, and the rows are as the last of these left them
+pub record Breaks {K : Type 0} (rows : K → Option (List Row)) (faults : K → ℕ) (w : World) : Type 0 where
+  pub count : ℕ
+  pub events : List Event
+  pub outs : List Out
+  pub last : SeenOf K
+  pub served : Serves rows faults w (take count) events outs last
+  pub left : Keeps (rows last.keeper) w.journal.after
+
+-- the output took a front of this text, where it is told afterwards
+abbrev pub TookFront : World → List ℕ → Type 0
+TookFront w text = (rest : List ℕ) × GrowsByPrefix w.output.before w.output.after text rest
+
+-- a refusal: its cause, and a journal that is as it was
+pub record Refuses (w : World) (s : Status) : Type 0 where
+  pub cause : IsRefused w.words w.zone w.events w.journal s
+  pub kept : Keeps w.journal.before w.journal.after
+
+-- Some of the bytes were not written, or not handed on: of the line of a refusal, of the line that says that the list is not
+-- valid, or of the output.
+pub data IsCut {K : Type 0} (rows : K → Option (List Row)) (faults : K → ℕ) (w : World) : Type 0 where
+  in_refusal : (s : Status) → s ≢ status.OutOfMemory → Refuses w s → TookFront w (refusal_line s) → IsCut rows faults w
+  in_rejection : Rejects rows w → TookFront w (refusal_line status.NotValid) → IsCut rows faults w
+  in_answers : (text : List ℕ) → Answers rows faults w text → TookFront w text → IsCut rows faults w
+
+-- What each status means. Status 0 and each status with a line say that the output took all the bytes, and handed on all
+-- that it took.
+pub data Ends {K : Type 0} (rows : K → Option (List Row)) (faults : K → ℕ) (w : World) : Status → Type 0 where
+  with_answers : (text : List ℕ) → Answers rows faults w text → IsWritten w.output text → Ends rows faults w status.Ok
+  with_refusal : {s : Status} → s ≢ status.OutOfMemory → Refuses w s → IsWritten w.output (refusal_line s) → Ends rows faults w s
+  with_rejection : Rejects rows w → IsWritten w.output (refusal_line status.NotValid) → Ends rows faults w status.NotValid
+  with_write_fault : Rose w.output.faults_before w.output.faults_after → IsCut rows faults w → Ends rows faults w status.WriteFault
+  cut_for_memory : IsCut rows faults w → Ends rows faults w status.OutOfMemory
+  refused_for_memory : Refuses w status.OutOfMemory → IsUnwritten w.output → Ends rows faults w status.OutOfMemory
+  broken_for_memory : Breaks rows faults w → IsUnwritten w.output → Ends rows faults w status.OutOfMemory

@@ -1,0 +1,66 @@
+-- How a run of the program ends, and the line that a refusal writes.
+use Rattle.std.specs.Prelude.{ℕ, ◌++◌, List, [], codes}
+use Rattle.std.specs.Fmt.{decimal, signed_decimal}
+use Rattle.dns_zone.specs.declared.zone_text.ZoneTextKind.{ZoneTextKind}
+use Rattle.dns_zone.specs.declared.zone_text.ZoneTextKind.TheVariants as zone
+use Rattle.dns_update.specs.declared.replay_kind.ReplayKind.{ReplayKind}
+use Rattle.dns_update.specs.declared.replay_kind.ReplayKind.TheVariants as replay
+use Rattle.dns_io.specs.declared.to_end.ReadFault.{ReadFault}
+use Rattle.dns_io.specs.declared.to_end.ReadFault.TheVariants as read
+use Rattle.dns_command.specs.declared.status.Status.{Status}
+use Rattle.dns_command.specs.declared.status.Status.TheVariants as status
+
+-- the status that the process ends with
+abbrev pub status_number : Status → ℕ
+status_number status.Ok = 0
+status_number status.Usage = 1
+status_number (status.ZoneText line kind) = 2
+status_number (status.EventLine line) = 3
+status_number status.NotValid = 4
+status_number (status.Recovery row kind) = 5
+status_number status.ReadFault = 6
+status_number status.WriteFault = 7
+status_number status.KeeperFault = 8
+status_number status.TooLong = 9
+status_number status.OutOfMemory = 10
+status_number status.PortFault = 11
+
+-- what is wrong with a line of a zone text
+abbrev pub zone_kind_text : ZoneTextKind → List ℕ
+zone_kind_text zone.Paren = codes "Paren"
+zone_kind_text zone.Quote = codes "Quote"
+zone_kind_text zone.Directive = codes "Directive"
+zone_kind_text zone.Name = codes "Name"
+zone_kind_text zone.Ttl = codes "Ttl"
+zone_kind_text zone.RecordType = codes "Type"
+zone_kind_text zone.Data = codes "Data"
+zone_kind_text zone.OutOfZone = codes "OutOfZone"
+zone_kind_text zone.NotOneSoa = codes "NotOneSoa"
+zone_kind_text zone.AliasBesideOther = codes "AliasBesideOther"
+
+-- why the rows of a journal are refused
+abbrev pub replay_kind_text : ReplayKind → List ℕ
+replay_kind_text replay.NoRecord = codes "row is no record"
+replay_kind_text replay.OutOfPlace = codes "row out of place"
+replay_kind_text replay.NotOneSoa = codes "not one SOA"
+
+-- the line that a run which ends so writes in place of its output; none after a fault of the output or want of memory
+abbrev pub refusal_line : Status → List ℕ
+refusal_line status.Ok = []
+refusal_line status.Usage = codes "usage\n"
+refusal_line (status.ZoneText line kind) = codes "zone text line " ++ (decimal line ++ (codes ": " ++ (zone_kind_text kind ++ codes "\n")))
+refusal_line (status.EventLine line) = codes "event line " ++ (decimal line ++ codes "\n")
+refusal_line status.NotValid = codes "not valid\n"
+refusal_line (status.Recovery row kind) = codes "journal row " ++ (signed_decimal row ++ (codes ": " ++ (replay_kind_text kind ++ codes "\n")))
+refusal_line status.ReadFault = codes "read fault\n"
+refusal_line status.WriteFault = []
+refusal_line status.KeeperFault = codes "keeper fault\n"
+refusal_line status.TooLong = codes "too long\n"
+refusal_line status.OutOfMemory = []
+refusal_line status.PortFault = codes "port fault\n"
+
+-- the status of a source that was not read to its end
+abbrev pub read_status : ReadFault → Status
+read_status read.Failed = status.ReadFault
+read_status read.TooLong = status.TooLong
+read_status read.OutOfMemory = status.OutOfMemory

@@ -1,0 +1,39 @@
+-- Writing the output, and how the program ends by it.
+use Rattle.std.specs.Prelude.{◌≡◌, ◌≢◌, ℕ, List, Result, Ok, Err, OnOk, OnErr}
+use Rattle.dns_io.specs.Around.{SinkAround}
+use Rattle.dns_io.specs.Edge.{HasCause, Grows, GrowsByPrefix, IsHandedOn}
+use Rattle.dns_io.specs.declared.edge.IoFault.{IoFault}
+use Rattle.dns_io.specs.declared.edge.IoFault.TheVariants.{Failed, OutOfMemory}
+use Rattle.dns_command.specs.declared.status.Status.{Status}
+use Rattle.dns_command.specs.declared.status.Status.TheVariants as status
+use Rattle.dns_command.specs.Status.{refusal_line}
+use Rattle.dns_command.specs.World.{IsUnwritten}
+
+-- writing a text: on Ok all of it was taken, after an error a front of it; the count of faults never falls, and `Failed`
+-- comes only where it rose
+pub record Writes (output : SinkAround) (text : List ℕ) (result : Result (Unit {0}) IoFault) : Type 0 where
+  pub ok : OnOk result (Grows output.before output.after text)
+  pub err : OnErr result ((rest : List ℕ) × GrowsByPrefix output.before output.after text rest)
+  pub cause : HasCause output.faults_before output.faults_after result
+
+-- writing a text that is the whole output: on Ok all that was taken was handed on, too
+pub record WritesWhole (output : SinkAround) (text : List ℕ) (result : Result (Unit {0}) IoFault) : Type 0 where
+  pub written : Writes output text result
+  pub flushed : OnOk result (IsHandedOn output.after output.flushed_after)
+
+-- a status that was meant, where the text was written to its end
+abbrev pub after_writing : Status → Result (Unit {0}) IoFault → Status
+after_writing meant (Ok done) = meant
+after_writing meant (Err Failed) = status.WriteFault
+after_writing meant (Err OutOfMemory) = status.OutOfMemory
+
+-- the end of a call that writes a text and means to end with a status
+pub record EndsWriting (output : SinkAround) (text : List ℕ) (meant s : Status) : Type 0 where
+  pub result : Result (Unit {0}) IoFault
+  pub written : WritesWhole output text result
+  pub status : s ≡ after_writing meant result
+
+-- the end of a refusal: want of memory is told by nothing more, any other by its line
+pub data EndsRefusing (output : SinkAround) (meant s : Status) : Type 0 where
+  silent : meant ≡ status.OutOfMemory → s ≡ status.OutOfMemory → IsUnwritten output → EndsRefusing output meant s
+  by_line : meant ≢ status.OutOfMemory → EndsWriting output (refusal_line meant) meant s → EndsRefusing output meant s

@@ -1,0 +1,390 @@
+//! What the words of the command line ask for. The program's name is not among them.
+
+ghost use Rattle.std.specs.Prelude.{◌≡◌, ◌≤◌, ◌↔◌, IsErr, ◌++◌, ◌∷◌, [], IfOk, IfSome, OnOk, map, length, drop, count_by, string_bytes};
+ghost use Rattle.std.specs.List.{list_all, list_any};
+ghost use Rattle.std.specs.Option.{option_map};
+ghost use Rattle.dns_name.specs.Name.{fold_of};
+ghost use Rattle.dns_name.specs.NameText.{name_of};
+ghost use Rattle.dns_command.specs.CommandLine.{behind, first_behind, path_of, action_of_word, action_of, is_path_word, is_update_word, net_behind, nets_behind, is_option, has_no_double, are_options, options_for, options_behind, drawn_by, load_options, options_of};
+
+use crate::event_text::decimal_of;
+use crate::network_text::network_of;
+use dns_book::IpNet;
+use dns_generator::origin_name;
+use dns_io::OutOfMemory;
+use dns_name::name_laws::folded_names;
+use dns_name::{Name, ProtoError};
+use std::alloc::Global;
+use std::io::ErrorKind;
+use std::marker::Model;
+
+/// The key of the zone text's path.
+pub const ZONE: &str = "--zone=";
+
+/// The key of the journal's path.
+pub const JOURNAL: &str = "--journal=";
+
+/// The word by which updates are let in.
+const UPDATE: &str = "--update";
+
+/// The key of a network whose sources are shut out.
+const DENY: &str = "--deny=";
+
+/// The key of a network whose sources are let in.
+const ALLOW: &str = "--allow=";
+
+/// Networks, in the order of their words.
+#[derive(Debug, Drop)]
+pub struct Networks {
+    nets: Vec<IpNet>,
+}
+
+impl Model for Networks {
+    ghost use Rattle.std.specs.Prelude.{List};
+    ghost use Rattle.dns_book.specs.declared.access.IpNet.{IpNet};
+
+    ghost Value = { List IpNet };
+
+    ghost view = { λ n. n.nets.items };
+}
+
+impl Networks {
+    /// No network. Takes no memory.
+    fn new(alloc: Global) -> Networks
+        ensures { result ≡ [] }
+    {
+        Networks {
+            nets: Vec::new(alloc),
+        }
+    }
+
+    /// Adds one at the end.
+    fn push(&mut self, net: IpNet) -> Result<(), OutOfMemory>
+        ensures { OnOk result (self.new ≡ self.old ++ net ∷ []) }
+    {
+        self.nets.push(net)?;
+        Ok(())
+    }
+
+    /// The networks. Takes no memory.
+    pub fn into_vec(self) -> Vec<IpNet>
+        ensures { result.items ≡ self }
+    {
+        self.nets
+    }
+}
+
+/// What the words of a command ask for, where it listens aside.
+#[derive(Debug, Drop)]
+pub struct Options {
+    /// The zone's origin, folded.
+    pub origin: Name,
+    /// Whether updates are let in (RFC 2136 3.3).
+    pub allow_update: bool,
+    /// The networks whose sources are shut out.
+    pub denied: Networks,
+    /// The networks whose sources are let in.
+    pub allowed: Networks,
+    /// The list of events that is drawn, where no event text is read.
+    pub drawn: Option<Drawn>,
+}
+
+/// A list of events that is drawn.
+#[derive(Clone, Copy, Debug, PartialEq, Eq)]
+pub struct Drawn {
+    /// What it is drawn from.
+    pub seed: u64,
+    /// How many messages it has, from 1 to 100,000.
+    pub count: u32,
+}
+
+/// What the words ask for: `load SEED COUNT`, as [`load_options`] says; or `events ORIGIN`, and behind it options in any
+/// order: at most one `--update`, at most one `--zone=PATH` and one `--journal=PATH`, where PATH is not empty, and any number
+/// of `--deny=IP/PREFIX` and `--allow=IP/PREFIX`. ORIGIN is a name's text (RFC 1035 5.1), whatever word stands there. Any other
+/// words are no command, and give None.
+#[tactic(auto, unfolding(crate::specs::CommandLine::options_of))]
+pub fn options_of(alloc: Global, words: &[String]) -> Result<Option<Options>, OutOfMemory>
+    ensures is { IfOk result (λ options. options ≡ options_of (map string_bytes words.now)) }
+    ensures folded { IfOk result (λ options. IfSome options (λ o. fold_of o.origin ≡ o.origin)) }
+    ensures few { IfOk result (λ options. IfSome options (λ o. IfSome o.drawn (λ drawn. drawn.count ≤ 100000))) }
+{
+    let [command, origin, words @ ..] = words else {
+        return Ok(None);
+    };
+    if command.as_str() == "load" {
+        return load_options(alloc, origin.as_str(), words);
+    }
+    if command.as_str() != "events" {
+        return Ok(None);
+    }
+    if !are_options(words) {
+        return Ok(None);
+    }
+    options_behind(alloc, origin.as_str(), words)
+}
+
+/// What an origin and the options behind it ask for. None where the origin is no name's text.
+pub fn options_behind(
+    alloc: Global,
+    origin: &str,
+    words: &[String],
+) -> Result<Option<Options>, OutOfMemory>
+    ensures is { IfOk result (λ options. options ≡ options_behind origin.now (map string_bytes words.now)) }
+    ensures folded { IfOk result (λ options. IfSome options (λ o. fold_of o.origin ≡ o.origin)) }
+    ensures few { IfOk result (λ options. IfSome options (λ o. IfSome o.drawn (λ drawn. drawn.count ≤ 100000))) }
+{
+    let denied = nets_behind(alloc, words, DENY)?;
+    let allowed = nets_behind(alloc, words, ALLOW)?;
+    options_for(alloc, origin, has_update(words), denied, allowed)
+}
+
+/// What the words of `load` ask for: a seed below 2^64, and behind it a count of messages from 1 to 100,000, both in decimal. The
+/// zone is example.com, and updates are let in, from everybody.
+fn load_options(alloc: Global, seed: &str, words: &[String]) -> Result<Option<Options>, OutOfMemory>
+    ensures is { IfOk result (λ options. options ≡ load_options seed.now (map string_bytes words.now)) }
+    ensures folded { IfOk result (λ options. IfSome options (λ o. fold_of o.origin ≡ o.origin)) }
+    ensures few { IfOk result (λ options. IfSome options (λ o. IfSome o.drawn (λ drawn. drawn.count ≤ 100000))) }
+{
+    let [count] = words else {
+        return Ok(None);
+    };
+    match drawn_by(seed, count.as_str()) {
+        None => Ok(None),
+        Some(drawn) => Ok(Some(Options {
+            origin: origin_name(alloc)?,
+            allow_update: true,
+            denied: Networks::new(alloc),
+            allowed: Networks::new(alloc),
+            drawn: Some(drawn),
+        })),
+    }
+}
+
+/// A seed and a count of messages.
+fn drawn_by(seed: &str, count: &str) -> Option<Drawn>
+    ensures is { result ≡ drawn_by seed.now count.now }
+    ensures few { IfSome result (λ drawn. drawn.count ≤ 100000) }
+{
+    let seed = decimal_of(u64::MAX as u128 + 1, seed.as_bytes())?;
+    let count = decimal_of(100_001, count.as_bytes())?;
+    if count == 0 {
+        return None;
+    }
+    Some(Drawn {
+        seed,
+        count: count as u32,
+    })
+}
+
+/// The path that a key names, as `--zone=`: what follows it in the first word that begins with it. The first two words,
+/// which are the command and the origin, are passed over.
+pub fn path_of<'a>(words: &'a [String], key: &str) -> Option<&'a str>
+    ensures { option_map (λ path. path.now) result ≡ path_of key.now (map string_bytes words.now) }
+{
+    match words {
+        [_, _, words @ ..] => first_behind(words, key),
+        _ => None,
+    }
+}
+
+/// The words of a command line that could not be read, for this kind of error: where one of them is not UTF-8 there is no
+/// command, as where there is no word.
+pub fn unread_words(alloc: Global, kind: ErrorKind) -> Result<Vec<String>, OutOfMemory>
+    ensures none { IfOk result (λ words. words.items ≡ []) }
+    ensures memory { IsErr result ↔ (kind ≡ ErrorKind.OutOfMemory) }
+{
+    match kind {
+        ErrorKind::OutOfMemory => Err(OutOfMemory),
+        _ => Ok(Vec::new(alloc)),
+    }
+}
+
+/// What the program is asked to do.
+#[derive(Clone, Copy, Debug, PartialEq, Eq)]
+pub enum Action {
+    /// To say how it is used.
+    Help,
+    /// To say which version it is.
+    Version,
+    /// To do what a command says, if the words are one.
+    Command,
+}
+
+/// What the words ask for: help where `--help` is the only word, the version where `--version` is, and else a command.
+#[tactic(auto, unfolding(crate::specs::CommandLine::action_of))]
+pub fn action_of(words: &[String]) -> Action
+    ensures { result ≡ action_of (map string_bytes words.now) }
+{
+    match words {
+        [word] => action_of_word(word.as_str()),
+        _ => Action::Command,
+    }
+}
+
+fn action_of_word(word: &str) -> Action
+    ensures { result ≡ action_of_word word.now }
+{
+    if word == "--help" {
+        return Action::Help;
+    }
+    if word == "--version" {
+        return Action::Version;
+    }
+    Action::Command
+}
+
+fn options_for(
+    alloc: Global,
+    origin: &str,
+    allow_update: bool,
+    denied: Networks,
+    allowed: Networks,
+) -> Result<Option<Options>, OutOfMemory>
+    ensures is { IfOk result (λ options. options ≡ options_for (name_of origin.now) allow_update denied allowed) }
+    ensures folded { IfOk result (λ options. IfSome options (λ o. fold_of o.origin ≡ o.origin)) }
+    ensures few { IfOk result (λ options. IfSome options (λ o. IfSome o.drawn (λ drawn. drawn.count ≤ 100000))) }
+{
+    folded_names();
+    match Name::parse(alloc, origin) {
+        Ok(name) => {
+            let origin = name.folded(alloc)?;
+            Ok(Some(Options {
+                origin,
+                allow_update,
+                denied,
+                allowed,
+                drawn: None,
+            }))
+        }
+        Err(ProtoError::OutOfMemory) => Err(OutOfMemory),
+        Err(_) => Ok(None),
+    }
+}
+
+fn are_options(words: &[String]) -> bool
+    ensures { result ≡ are_options (map string_bytes words.now) }
+{
+    are_each_option(words) && has_no_double(words)
+}
+
+/// Whether `--update`, `--zone=` and `--journal=` stand at most once each.
+pub fn has_no_double(words: &[String]) -> bool
+    ensures { result ≡ has_no_double (map string_bytes words.now) }
+{
+    update_words(words) <= 1 && path_words(words, ZONE) <= 1 && path_words(words, JOURNAL) <= 1
+}
+
+fn are_each_option(words: &[String]) -> bool
+    ensures { result ≡ list_all is_option (map string_bytes words.now) }
+{
+    for word in words {
+        if !is_option(word.as_str()) {
+            return false;
+        }
+    }
+    true
+}
+
+/// How many words let updates in.
+fn update_words(words: &[String]) -> usize
+    ensures { result ≡ count_by is_update_word (map string_bytes words.now) }
+{
+    let mut count = 0;
+    for word in words {
+        if is_update_word(word.as_str()) {
+            count += 1;
+        }
+    }
+    count
+}
+
+fn has_update(words: &[String]) -> bool
+    ensures { result ≡ list_any is_update_word (map string_bytes words.now) }
+{
+    for word in words {
+        if is_update_word(word.as_str()) {
+            return true;
+        }
+    }
+    false
+}
+
+/// How many words are this key and a path.
+fn path_words(words: &[String], key: &str) -> usize
+    ensures { result ≡ count_by (is_path_word key.now) (map string_bytes words.now) }
+{
+    let mut count = 0;
+    for word in words {
+        if is_path_word(word.as_str(), key) {
+            count += 1;
+        }
+    }
+    count
+}
+
+/// Whether a word is an option of `events`, and so of `serve`.
+pub fn is_option(word: &str) -> bool
+    ensures { result ≡ is_option word.now }
+{
+    is_update_word(word)
+        || is_path_word(word, ZONE)
+        || is_path_word(word, JOURNAL)
+        || net_behind(word, DENY).is_some()
+        || net_behind(word, ALLOW).is_some()
+}
+
+fn is_update_word(word: &str) -> bool
+    ensures { result ≡ is_update_word word.now }
+{
+    word == UPDATE
+}
+
+fn is_path_word(word: &str, key: &str) -> bool
+    ensures { result ≡ is_path_word key.now word.now }
+{
+    match behind(word, key) {
+        Some(path) => path.len() > 0,
+        None => false,
+    }
+}
+
+fn nets_behind(alloc: Global, words: &[String], key: &str) -> Result<Networks, OutOfMemory>
+    ensures { IfOk result (λ nets. nets ≡ nets_behind key.now (map string_bytes words.now)) }
+{
+    let mut nets = Networks::new(alloc);
+    for word in words {
+        let Some(net) = net_behind(word.as_str(), key) else {
+            continue;
+        };
+        nets.push(net)?;
+    }
+    Ok(nets)
+}
+
+fn net_behind(word: &str, key: &str) -> Option<IpNet>
+    ensures { result ≡ net_behind key.now word.now }
+{
+    match behind(word, key) {
+        Some(text) => network_of(text.as_bytes()),
+        None => None,
+    }
+}
+
+/// What follows a key in the first word that begins with it.
+pub fn first_behind<'a>(words: &'a [String], key: &str) -> Option<&'a str>
+    ensures { option_map (λ path. path.now) result ≡ first_behind key.now (map string_bytes words.now) }
+{
+    for word in words {
+        if let Some(path) = behind(word.as_str(), key) {
+            return Some(path);
+        }
+    }
+    None
+}
+
+/// What follows a key at the beginning of a word.
+pub fn behind<'a>(word: &'a str, key: &str) -> Option<&'a str>
+    ensures { option_map (λ rest. rest.now) result ≡ behind key.now word.now }
+{
+    word.strip_prefix(key)
+}

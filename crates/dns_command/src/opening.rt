@@ -1,0 +1,203 @@
+//! Opening the journal: with the zone of the zone text, or by the rows that it has.
+
+ghost use Rattle.std.specs.Prelude.{◌≡◌, ◌<◌, ◌≤◌, ◌^◌, IfOk, IfErr, true, false};
+ghost use Rattle.dns_io.specs.Around.{around};
+ghost use Rattle.dns_io.specs.Edge.{Keeps};
+ghost use Rattle.dns_name.specs.Name.{fold_of};
+ghost use Rattle.dns_book.specs.Opening.{HadNoRow, HadRows};
+ghost use Rattle.dns_command.specs.Steps.{ReadsZone, ReadsNoZone, Finds, SeesNoRow, FindsNot, FindsBy, FindsNotBy, FindsExample, IsExample, OpensNot};
+ghost use Rattle.dns_command.specs.Parts.{IsReady, OpensBook, unopened, unkept};
+
+use crate::command_line::Options;
+use crate::example::EXAMPLE;
+use crate::status::Status;
+use dns_book::{Book, OpenKind};
+use dns_generator::origin_name;
+use dns_io::{OutOfMemory, Source, read_to_end};
+use dns_keeper::{KeepFault, Keeper};
+use dns_name::Name;
+use dns_zone::{Zone, ZoneTextFault, read_zone};
+use std::alloc::Global;
+
+/// The greatest length of a zone text, in bytes.
+const ZONE_BOUND: usize = 16_777_216;
+
+/// How the journal is opened.
+#[derive(Drop)]
+pub enum Opening {
+    /// It has no row, and is begun with the zone of the zone text.
+    Begin(Zone),
+    /// It has rows, which are to be read back.
+    Recover,
+}
+
+/// Why the work went no further, and the keeper.
+#[derive(Drop)]
+pub struct Refusal<K> {
+    /// How the program ends.
+    pub status: Status,
+    /// The keeper of the journal.
+    pub keeper: K,
+}
+
+/// How the journal is to be opened: with the zone of the zone text, or, where it has rows, by those. The zone text is read
+/// only where the journal has no row.
+pub fn find_opening<Z: Source, K: Keeper>(
+    alloc: Global,
+    origin: &Name,
+    source: &mut Z,
+    keeper: &mut K,
+) -> Result<Opening, Status>
+    requires { fold_of origin.now ≡ origin.now }
+    ensures ok { IfOk result (Finds
+        (around K.rows K.faults keeper.old keeper.new) (around Z.left Z.faults source.old source.new) origin.now) }
+    ensures err { IfErr result (FindsNot
+        (around K.rows K.faults keeper.old keeper.new) (around Z.left Z.faults source.old source.new) origin.now) }
+    ensures ready { IfOk result (λ opening. IsReady opening (K.rows keeper.new)) }
+    ensures kept { Keeps (K.rows keeper.old) (K.rows keeper.new) }
+    ensures later { K.faults keeper.old ≤ K.faults keeper.new }
+    ensures later_source { Z.faults source.old ≤ Z.faults source.new }
+{
+    if has_rows(keeper)? {
+        return Ok(Opening::Recover);
+    }
+    let zone = read_zone_text(alloc, origin, source)?;
+    Ok(Opening::Begin(zone))
+}
+
+/// How the journal is to be opened for what the words ask: as [`find_opening`] says, or, where a list of events is drawn, with the
+/// zone of that list.
+pub fn find_opening_by<Z: Source, K: Keeper>(
+    alloc: Global,
+    options: &Options,
+    source: &mut Z,
+    keeper: &mut K,
+) -> Result<Opening, Status>
+    requires { fold_of options.now.origin ≡ options.now.origin }
+    ensures ok { IfOk result (FindsBy
+        (around K.rows K.faults keeper.old keeper.new) (around Z.left Z.faults source.old source.new) options.now) }
+    ensures err { IfErr result (FindsNotBy
+        (around K.rows K.faults keeper.old keeper.new) (around Z.left Z.faults source.old source.new) options.now) }
+    ensures ready { IfOk result (λ opening. IsReady opening (K.rows keeper.new)) }
+    ensures kept { Keeps (K.rows keeper.old) (K.rows keeper.new) }
+    ensures later { K.faults keeper.old ≤ K.faults keeper.new }
+    ensures later_source { Z.faults source.old ≤ Z.faults source.new }
+{
+    match options.drawn {
+        None => find_opening(alloc, &options.origin, source, keeper),
+        Some(_) => find_example(alloc, keeper),
+    }
+}
+
+/// How the journal is to be opened for a drawn list of events.
+fn find_example<K: Keeper>(alloc: Global, keeper: &mut K) -> Result<Opening, Status>
+    ensures ok { IfOk result (FindsExample (around K.rows K.faults keeper.old keeper.new)) }
+    ensures err { IfErr result (SeesNoRow (around K.rows K.faults keeper.old keeper.new)) }
+    ensures ready { IfOk result (λ opening. IsReady opening (K.rows keeper.new)) }
+    ensures kept { Keeps (K.rows keeper.old) (K.rows keeper.new) }
+    ensures later { K.faults keeper.old ≤ K.faults keeper.new }
+{
+    if has_rows(keeper)? {
+        return Ok(Opening::Recover);
+    }
+    match example(alloc) {
+        Ok(zone) => Ok(Opening::Begin(zone)),
+        Err(OutOfMemory) => Err(Status::OutOfMemory),
+    }
+}
+
+/// The zone of a drawn list of events.
+fn example(alloc: Global) -> Result<Zone, OutOfMemory>
+    ensures { IfOk result IsExample }
+{
+    let origin = origin_name(alloc)?;
+    match read_zone(alloc, EXAMPLE.as_bytes(), &origin) {
+        Ok(zone) => Ok(zone),
+        // The text is a zone's, so only memory can be wanting.
+        Err(_) => Err(OutOfMemory),
+    }
+}
+
+/// Whether the journal has a row.
+fn has_rows<K: Keeper>(keeper: &mut K) -> Result<bool, Status>
+    ensures some { IfOk result (λ has. has ≡ true → HadRows (K.rows keeper.old) (K.rows keeper.new)) }
+    ensures none { IfOk result (λ has. has ≡ false → HadNoRow (K.rows keeper.old) (K.rows keeper.new)) }
+    ensures err { IfErr result (SeesNoRow (around K.rows K.faults keeper.old keeper.new)) }
+    ensures kept { Keeps (K.rows keeper.old) (K.rows keeper.new) }
+    ensures later { K.faults keeper.old ≤ K.faults keeper.new }
+{
+    match keeper.row_from(i64::MIN) {
+        Ok(Some(_)) => Ok(true),
+        Ok(None) => Ok(false),
+        Err(fault) => Err(unkept(fault)),
+    }
+}
+
+/// The status of a journal that failed, or for which memory ran out.
+fn unkept(fault: KeepFault) -> Status
+    ensures { result ≡ unkept fault }
+{
+    match fault {
+        KeepFault::Failed => Status::KeeperFault,
+        KeepFault::OutOfMemory => Status::OutOfMemory,
+    }
+}
+
+/// The zone of a text, which is read to its end.
+fn read_zone_text<Z: Source>(alloc: Global, origin: &Name, source: &mut Z) -> Result<Zone, Status>
+    requires { fold_of origin.now ≡ origin.now }
+    ensures ok { IfOk result (ReadsZone (around Z.left Z.faults source.old source.new) origin.now) }
+    ensures err { IfErr result (ReadsNoZone (around Z.left Z.faults source.old source.new) origin.now) }
+    ensures later { Z.faults source.old ≤ Z.faults source.new }
+{
+    let text = read_to_end(alloc, source, ZONE_BOUND)?;
+    match read_zone(alloc, text.as_slice(), origin) {
+        Ok(zone) => Ok(zone),
+        Err(ZoneTextFault::Refused { line, kind }) => Err(Status::ZoneText { line, kind }),
+        Err(ZoneTextFault::OutOfMemory) => Err(Status::OutOfMemory),
+    }
+}
+
+/// Opens the journal at this moment: begins it with the zone, or reads it back.
+pub fn open_book<K: Keeper>(
+    alloc: Global,
+    options: &Options,
+    opening: Opening,
+    keeper: K,
+    moment: u64,
+) -> Result<Book<K>, Refusal<K>>
+    requires moment { moment < 2 ^ 47 }
+    requires ready { IsReady opening (K.rows keeper) }
+    ensures ok { IfOk result (OpensBook K.rows K.faults keeper options.now opening moment) }
+    ensures err { IfErr result (λ fault. OpensNot (around K.rows K.faults keeper fault.keeper) options.now.origin opening fault.status) }
+    ensures kept { IfErr result (λ fault. Keeps (K.rows keeper) (K.rows fault.keeper)) }
+{
+    let allow_update = options.allow_update;
+    match opening {
+        Opening::Begin(zone) => match Book::begin(alloc, keeper, allow_update, moment, zone) {
+            Ok(book) => Ok(book),
+            Err(fault) => Err(Refusal {
+                status: unkept(fault.fault),
+                keeper: fault.keeper,
+            }),
+        },
+        Opening::Recover => match Book::recover(alloc, keeper, &options.origin, allow_update) {
+            Ok(book) => Ok(book),
+            Err(fault) => Err(Refusal {
+                status: unopened(fault.kind),
+                keeper: fault.keeper,
+            }),
+        },
+    }
+}
+
+/// The status of a journal that was not read back. No zone is asked for then, so `NoZone` does not come.
+fn unopened(kind: OpenKind) -> Status
+    ensures { result ≡ unopened kind }
+{
+    match kind {
+        OpenKind::Recovery { row, kind } => Status::Recovery { row, kind },
+        OpenKind::KeeperFault => Status::KeeperFault,
+        OpenKind::NoZone | OpenKind::OutOfMemory => Status::OutOfMemory,
+    }
+}

@@ -1,0 +1,299 @@
+//! The ports of the command `serve`: they are opened, served, and handed back.
+
+ghost use Rattle.std.specs.Prelude.{◌≡◌, ◌<◌, ◌≤◌, ◌+◌, ◌^◌, [], ◌++◌, length, All, Some, None, IsSome, IfSome, OnOk, IfErr, true, false};
+ghost use Rattle.dns_io.specs.Around.{around};
+ghost use Rattle.dns_io.specs.Edge.{Keeps, Grows, Rose};
+ghost use Rattle.dns_ports.specs.Ports.{IsFresh};
+ghost use Rattle.dns_command.specs.declared.status.Status.TheVariants as status;
+ghost use Rattle.dns_command.specs.Hubs.{around_hub, socket_by, listener_by};
+ghost use Rattle.dns_command.specs.ListeningWords.{count_at, sockets_of, listeners_of, seats_of};
+ghost use Rattle.dns_command.specs.Serving.{IsPortCause, opening_at, listening_at, openings_of};
+ghost use Rattle.dns_command.specs.ServingParts.{IsManned, IsSameServer, Registers, OpensAll, AnyFault, HasFaultyPort, IsCalm, IsCauseSoFar, port_status, TakesBack, emptied, ServesWell};
+
+use crate::listening_words::Listening;
+use crate::status::Status;
+use dns_io::{IoFault, Peer, Source};
+use dns_keeper::Keeper;
+use dns_ports::{Hub, TcpPort, UdpPort};
+use dns_server::{RegisterFault, ThreadServer};
+use dns_transport::NetError;
+use std::sync::Wait;
+use std::thread::Threads;
+
+/// The size of a listener's buffer for replies, which limits nothing.
+const BUFFER: usize = 0;
+
+/// Opens the ports that the words name, and serves them until the source ends or fails. Ports that were opened stay with the
+/// server, whatever comes.
+pub fn serve_ports<R: Threads + Wait + Sync, E: Source, K: Keeper + Send, H: Hub>(
+    rt: &R,
+    server: &mut ThreadServer<K, H::Udp, H::Tcp>,
+    listening: &Listening,
+    until: &mut E,
+    hub: &mut H,
+) -> Result<(), Status>
+where
+    H::Udp: Send,
+    H::Tcp: Send,
+    <H::Tcp as TcpPort>::In: Send,
+    <H::Tcp as TcpPort>::Out: Send,
+    <H::Tcp as TcpPort>::Time: Send,
+    requires manned { IsManned (IsFresh H.Udp.received H.Udp.taken H.Udp.faults) (IsFresh H.Tcp.accepted H.Tcp.ended H.Tcp.faults) listening.now.limit server.old }
+    requires empty { (server.old.sockets ≡ []) × (server.old.listeners ≡ []) }
+    requires seats { server.old.book.terms.seats ≡ seats_of listening.now }
+    requires limit { listening.now.limit < 2 ^ 47 }
+    ensures ok { OnOk result (ServesWell K.rows K.faults (socket_by H.Udp.left H.Udp.received H.Udp.taken H.Udp.faults)
+        (listener_by H.Tcp.left H.Tcp.accepted H.Tcp.ended H.Tcp.faults H.Tcp.In.left H.Tcp.In.faults H.Tcp.Out.taken H.Tcp.Out.flushed H.Tcp.Out.faults H.Tcp.Time.last)
+        (around_hub H.openings H.closed_udp H.closed_tcp H.lent_udp H.lent_tcp H.faults hub.old hub.new) (around E.left E.faults until.old until.new) listening.now server.old server.new) }
+    ensures err { IfErr result (IsCauseSoFar (H.faults hub.old) (H.faults hub.new) (HasFaultyPort H.Udp.faults H.Tcp.faults server.new)) }
+    ensures registers { Registers (around_hub H.openings H.closed_udp H.closed_tcp H.lent_udp H.lent_tcp H.faults hub.old hub.new) server.old server.new }
+    ensures later { E.faults until.old ≤ E.faults until.new }
+{
+    open_ports(server, listening, hub)?;
+    match server.serve_until(rt, until) {
+        Ok(()) => Ok(()),
+        Err(NetError::Io) => Err(Status::PortFault),
+        Err(_) => Err(Status::OutOfMemory),
+    }
+}
+
+/// Opens the ports that the words name, and registers each of them.
+fn open_ports<K: Keeper, H: Hub>(
+    server: &mut ThreadServer<K, H::Udp, H::Tcp>,
+    listening: &Listening,
+    hub: &mut H,
+) -> Result<(), Status>
+    requires manned { IsManned (IsFresh H.Udp.received H.Udp.taken H.Udp.faults) (IsFresh H.Tcp.accepted H.Tcp.ended H.Tcp.faults) listening.now.limit server.old }
+    requires limit { listening.now.limit < 2 ^ 47 }
+    ensures manned { IsManned (IsFresh H.Udp.received H.Udp.taken H.Udp.faults) (IsFresh H.Tcp.accepted H.Tcp.ended H.Tcp.faults) listening.now.limit server.new }
+    ensures ok { OnOk result (OpensAll (around_hub H.openings H.closed_udp H.closed_tcp H.lent_udp H.lent_tcp H.faults hub.old hub.new) (openings_of listening.now)) }
+    ensures sockets { OnOk result (length server.new.sockets ≡ length server.old.sockets + sockets_of listening.now) }
+    ensures listeners { OnOk result (length server.new.listeners ≡ length server.old.listeners + listeners_of listening.now) }
+    ensures err { IfErr result (IsPortCause (H.faults hub.old) (H.faults hub.new)) }
+    ensures registers { Registers (around_hub H.openings H.closed_udp H.closed_tcp H.lent_udp H.lent_tcp H.faults hub.old hub.new) server.old server.new }
+{
+    open_socket(server, listening.udp, listening.limit, hub)?;
+    open_listeners(
+        server,
+        listening.tcp,
+        listening.limit,
+        listening.workers,
+        hub,
+    )
+}
+
+/// Opens a socket at this address, if there is one, and registers it.
+fn open_socket<K: Keeper, H: Hub>(
+    server: &mut ThreadServer<K, H::Udp, H::Tcp>,
+    at: Option<Peer>,
+    limit: u64,
+    hub: &mut H,
+) -> Result<(), Status>
+    requires manned { IsManned (IsFresh H.Udp.received H.Udp.taken H.Udp.faults) (IsFresh H.Tcp.accepted H.Tcp.ended H.Tcp.faults) limit server.old }
+    ensures manned { IsManned (IsFresh H.Udp.received H.Udp.taken H.Udp.faults) (IsFresh H.Tcp.accepted H.Tcp.ended H.Tcp.faults) limit server.new }
+    ensures ok { OnOk result (OpensAll (around_hub H.openings H.closed_udp H.closed_tcp H.lent_udp H.lent_tcp H.faults hub.old hub.new) (opening_at at)) }
+    ensures sockets { OnOk result (length server.new.sockets ≡ length server.old.sockets + count_at 1 at) }
+    ensures listeners { server.new.listeners ≡ server.old.listeners }
+    ensures err { IfErr result (IsPortCause (H.faults hub.old) (H.faults hub.new)) }
+    ensures registers { Registers (around_hub H.openings H.closed_udp H.closed_tcp H.lent_udp H.lent_tcp H.faults hub.old hub.new) server.old server.new }
+{
+    let Some(at) = at else {
+        return Ok(());
+    };
+    let socket = match hub.open_udp(at, server.shutdown_token()) {
+        Ok(socket) => socket,
+        Err(fault) => return Err(port_status(fault)),
+    };
+    match registered_socket(server, socket, limit) {
+        None => Ok(()),
+        Some(socket) => {
+            hub.close_udp(socket);
+            Err(Status::OutOfMemory)
+        }
+    }
+}
+
+/// The status of ports that could not be opened.
+fn port_status(fault: IoFault) -> Status
+    ensures { result ≡ port_status fault }
+{
+    match fault {
+        IoFault::Failed => Status::PortFault,
+        IoFault::OutOfMemory => Status::OutOfMemory,
+    }
+}
+
+/// Registers a socket, or gives it back for want of memory.
+fn registered_socket<K: Keeper, U: UdpPort + Drop, T: TcpPort + Drop>(
+    server: &mut ThreadServer<K, U, T>,
+    socket: U,
+    limit: u64,
+) -> Option<U>
+    requires manned { IsManned (IsFresh U.received U.taken U.faults) (IsFresh T.accepted T.ended T.faults) limit server.old }
+    requires fresh { IsFresh U.received U.taken U.faults socket }
+    ensures manned { IsManned (IsFresh U.received U.taken U.faults) (IsFresh T.accepted T.ended T.faults) limit server.new }
+    ensures same { IsSameServer server.old server.new }
+    ensures listeners { server.new.listeners ≡ server.old.listeners }
+    ensures taken { result ≡ None → length server.new.sockets ≡ length server.old.sockets + 1 }
+    ensures back { IfSome result (λ given. (given ≡ socket) × (server.new ≡ server.old)) }
+{
+    match server.register_socket(socket) {
+        Ok(()) => None,
+        Err(RegisterFault::Full(socket) | RegisterFault::OutOfMemory(socket)) => Some(socket),
+    }
+}
+
+/// Opens so many listeners at this address, if there is one, and registers them.
+fn open_listeners<K: Keeper, H: Hub>(
+    server: &mut ThreadServer<K, H::Udp, H::Tcp>,
+    at: Option<Peer>,
+    limit: u64,
+    workers: u32,
+    hub: &mut H,
+) -> Result<(), Status>
+    requires manned { IsManned (IsFresh H.Udp.received H.Udp.taken H.Udp.faults) (IsFresh H.Tcp.accepted H.Tcp.ended H.Tcp.faults) limit server.old }
+    requires limit { limit < 2 ^ 47 }
+    ensures manned { IsManned (IsFresh H.Udp.received H.Udp.taken H.Udp.faults) (IsFresh H.Tcp.accepted H.Tcp.ended H.Tcp.faults) limit server.new }
+    ensures ok { OnOk result (OpensAll (around_hub H.openings H.closed_udp H.closed_tcp H.lent_udp H.lent_tcp H.faults hub.old hub.new) (listening_at at limit workers)) }
+    ensures listeners { OnOk result (length server.new.listeners ≡ length server.old.listeners + count_at workers at) }
+    ensures sockets { server.new.sockets ≡ server.old.sockets }
+    ensures err { IfErr result (IsPortCause (H.faults hub.old) (H.faults hub.new)) }
+    ensures registers { Registers (around_hub H.openings H.closed_udp H.closed_tcp H.lent_udp H.lent_tcp H.faults hub.old hub.new) server.old server.new }
+{
+    let Some(at) = at else {
+        return Ok(());
+    };
+    let listeners = match hub.open_tcp(at, limit, workers, server.shutdown_token()) {
+        Ok(listeners) => listeners,
+        Err(fault) => return Err(port_status(fault)),
+    };
+    register_listeners(server, listeners, limit, hub)
+}
+
+/// Registers listeners in order. From the first that is refused on, for want of memory, each is handed back.
+fn register_listeners<K: Keeper, H: Hub>(
+    server: &mut ThreadServer<K, H::Udp, H::Tcp>,
+    listeners: Vec<H::Tcp>,
+    limit: u64,
+    hub: &mut H,
+) -> Result<(), Status>
+    requires manned { IsManned (IsFresh H.Udp.received H.Udp.taken H.Udp.faults) (IsFresh H.Tcp.accepted H.Tcp.ended H.Tcp.faults) limit server.old }
+    requires limit { limit < 2 ^ 47 }
+    requires fresh { All (IsFresh H.Tcp.accepted H.Tcp.ended H.Tcp.faults) listeners.items }
+    requires out { length listeners.items ≤ H.lent_tcp hub.old }
+    ensures manned { IsManned (IsFresh H.Udp.received H.Udp.taken H.Udp.faults) (IsFresh H.Tcp.accepted H.Tcp.ended H.Tcp.faults) limit server.new }
+    ensures same { IsSameServer server.old server.new }
+    ensures sockets { server.new.sockets ≡ server.old.sockets }
+    ensures listeners { OnOk result (length server.new.listeners ≡ length server.old.listeners + length listeners.items) }
+    ensures out { H.lent_tcp hub.new + (length server.old.listeners + length listeners.items) ≡ H.lent_tcp hub.old + length server.new.listeners }
+    ensures ok { OnOk result (Keeps (H.closed_tcp hub.old) (H.closed_tcp hub.new)) }
+    ensures err { IfErr result (λ s. s ≡ status.OutOfMemory) }
+    ensures calm { IsCalm (around_hub H.openings H.closed_udp H.closed_tcp H.lent_udp H.lent_tcp H.faults hub.old hub.new) }
+{
+    let mut is_refused = false;
+    for listener in listeners {
+        if !register_listener(server, listener, limit, is_refused, hub) {
+            is_refused = true;
+        }
+    }
+    if is_refused {
+        return Err(Status::OutOfMemory);
+    }
+    Ok(())
+}
+
+/// Registers a listener, if none was refused before; else, or where memory runs out, it is handed back. Whether it was registered.
+fn register_listener<K: Keeper, H: Hub>(
+    server: &mut ThreadServer<K, H::Udp, H::Tcp>,
+    listener: H::Tcp,
+    limit: u64,
+    is_refused: bool,
+    hub: &mut H,
+) -> bool
+    requires manned { IsManned (IsFresh H.Udp.received H.Udp.taken H.Udp.faults) (IsFresh H.Tcp.accepted H.Tcp.ended H.Tcp.faults) limit server.old }
+    requires limit { limit < 2 ^ 47 }
+    requires fresh { IsFresh H.Tcp.accepted H.Tcp.ended H.Tcp.faults listener }
+    requires out { 0 < H.lent_tcp hub.old }
+    ensures manned { IsManned (IsFresh H.Udp.received H.Udp.taken H.Udp.faults) (IsFresh H.Tcp.accepted H.Tcp.ended H.Tcp.faults) limit server.new }
+    ensures same { IsSameServer server.old server.new }
+    ensures sockets { server.new.sockets ≡ server.old.sockets }
+    ensures yes { result ≡ true → (length server.new.listeners ≡ length server.old.listeners + 1) × (hub.new ≡ hub.old) × (is_refused ≡ false) }
+    ensures no { result ≡ false → (server.new ≡ server.old) × (H.lent_tcp hub.new + 1 ≡ H.lent_tcp hub.old) }
+    ensures calm { IsCalm (around_hub H.openings H.closed_udp H.closed_tcp H.lent_udp H.lent_tcp H.faults hub.old hub.new) }
+{
+    if is_refused {
+        hub.close_tcp(listener);
+        return false;
+    }
+    match registered_listener(server, listener, limit) {
+        None => true,
+        Some(listener) => {
+            hub.close_tcp(listener);
+            false
+        }
+    }
+}
+
+/// Registers a listener, or gives it back for want of memory.
+fn registered_listener<K: Keeper, U: UdpPort + Drop, T: TcpPort + Drop>(
+    server: &mut ThreadServer<K, U, T>,
+    listener: T,
+    limit: u64,
+) -> Option<T>
+    requires manned { IsManned (IsFresh U.received U.taken U.faults) (IsFresh T.accepted T.ended T.faults) limit server.old }
+    requires limit { limit < 2 ^ 47 }
+    requires fresh { IsFresh T.accepted T.ended T.faults listener }
+    ensures manned { IsManned (IsFresh U.received U.taken U.faults) (IsFresh T.accepted T.ended T.faults) limit server.new }
+    ensures same { IsSameServer server.old server.new }
+    ensures sockets { server.new.sockets ≡ server.old.sockets }
+    ensures taken { result ≡ None → length server.new.listeners ≡ length server.old.listeners + 1 }
+    ensures back { IfSome result (λ given. (given ≡ listener) × (server.new ≡ server.old)) }
+{
+    match server.register_listener(listener, limit, BUFFER) {
+        Ok(()) => None,
+        Err(RegisterFault::Full(listener) | RegisterFault::OutOfMemory(listener)) => Some(listener),
+    }
+}
+
+/// Hands each port of the server back to the hub.
+pub fn take_back<K: Keeper, H: Hub>(server: &mut ThreadServer<K, H::Udp, H::Tcp>, hub: &mut H)
+    requires sockets { length server.old.sockets ≤ H.lent_udp hub.old }
+    requires listeners { length server.old.listeners ≤ H.lent_tcp hub.old }
+    ensures back { TakesBack (around_hub H.openings H.closed_udp H.closed_tcp H.lent_udp H.lent_tcp H.faults hub.old hub.new) server.old (HasFaultyPort H.Udp.faults H.Tcp.faults server.old) }
+    ensures after { server.new ≡ emptied server.old }
+{
+    close_sockets(hub, server.sockets());
+    close_listeners(hub, server.listeners());
+}
+
+/// Hands sockets back to the hub, in order.
+fn close_sockets<H: Hub>(hub: &mut H, sockets: Vec<H::Udp>)
+    requires { length sockets.items ≤ H.lent_udp hub.old }
+    ensures back { Grows (H.closed_udp hub.old) (H.closed_udp hub.new) sockets.items }
+    ensures out { H.lent_udp hub.new + length sockets.items ≡ H.lent_udp hub.old }
+    ensures opened { Keeps (H.openings hub.old) (H.openings hub.new) }
+    ensures listeners { Keeps (H.closed_tcp hub.old) (H.closed_tcp hub.new) }
+    ensures listeners_out { H.lent_tcp hub.new ≡ H.lent_tcp hub.old }
+    ensures later { H.faults hub.old ≤ H.faults hub.new }
+    ensures raised { AnyFault H.Udp.faults sockets.items → Rose (H.faults hub.old) (H.faults hub.new) }
+{
+    for socket in sockets {
+        hub.close_udp(socket);
+    }
+}
+
+/// Hands listeners back to the hub, in order.
+fn close_listeners<H: Hub>(hub: &mut H, listeners: Vec<H::Tcp>)
+    requires { length listeners.items ≤ H.lent_tcp hub.old }
+    ensures back { Grows (H.closed_tcp hub.old) (H.closed_tcp hub.new) listeners.items }
+    ensures out { H.lent_tcp hub.new + length listeners.items ≡ H.lent_tcp hub.old }
+    ensures opened { Keeps (H.openings hub.old) (H.openings hub.new) }
+    ensures sockets { Keeps (H.closed_udp hub.old) (H.closed_udp hub.new) }
+    ensures sockets_out { H.lent_udp hub.new ≡ H.lent_udp hub.old }
+    ensures later { H.faults hub.old ≤ H.faults hub.new }
+    ensures raised { AnyFault H.Tcp.faults listeners.items → Rose (H.faults hub.old) (H.faults hub.new) }
+{
+    for listener in listeners {
+        hub.close_tcp(listener);
+    }
+}

@@ -1,0 +1,168 @@
+//! How a run of the program ends.
+
+ghost use Rattle.std.specs.Prelude.{◌≡◌, IfOk, string_bytes};
+ghost use Rattle.std.specs.Process.{exit_status};
+ghost use Rattle.dns_command.specs.Status.{status_number, zone_kind_text, replay_kind_text, refusal_line, read_status};
+ghost use Rattle.dns_command.specs.Writing.{after_writing};
+
+use dns_io::{IoFault, OutOfMemory, ReadFault};
+use dns_zone::{ReplayKind, ZoneTextKind};
+use std::alloc::Global;
+use std::process::ExitCode;
+
+/// How a run ended. Of several causes the first in the order of the work is told: the words, the first look at the
+/// journal, the zone text, the event text, the opening of the journal, the list of events or the sockets, the output.
+#[derive(Clone, Copy, Debug, PartialEq, Eq)]
+pub enum Status {
+    /// The output was written, and handed on.
+    Ok,
+    /// The words of the command line are no command.
+    Usage,
+    /// The zone text is no zone.
+    ZoneText {
+        /// The line on which the faulty entry begins, from 1, or 0 at the end of the text.
+        line: u64,
+        /// What is wrong.
+        kind: ZoneTextKind,
+    },
+    /// The event text has a line that is no event line.
+    EventLine {
+        /// The first such line, from 1.
+        line: u64,
+    },
+    /// The events are no valid list. The journal was opened, and nothing else was done.
+    NotValid,
+    /// The rows of the journal are no zone's.
+    Recovery {
+        /// The id of the first row that is refused.
+        row: i64,
+        /// Why it is.
+        kind: ReplayKind,
+    },
+    /// The zone text or the event text could not be read.
+    ReadFault,
+    /// The output could not be written, or not handed on.
+    WriteFault,
+    /// The journal could not be read or opened.
+    KeeperFault,
+    /// The zone text or the event text is longer than allowed.
+    TooLong,
+    /// Memory ran out.
+    OutOfMemory,
+    /// A socket could not be opened, or failed.
+    PortFault,
+}
+
+impl Status {
+    /// The status that the process ends with, from 0 to 11.
+    pub fn number(&self) -> u8
+        ensures { result ≡ status_number self.now }
+    {
+        match self {
+            Status::Ok => 0,
+            Status::Usage => 1,
+            Status::ZoneText { .. } => 2,
+            Status::EventLine { .. } => 3,
+            Status::NotValid => 4,
+            Status::Recovery { .. } => 5,
+            Status::ReadFault => 6,
+            Status::WriteFault => 7,
+            Status::KeeperFault => 8,
+            Status::TooLong => 9,
+            Status::OutOfMemory => 10,
+            Status::PortFault => 11,
+        }
+    }
+
+    /// What the process ends with: the status's number.
+    pub fn exit_code(&self) -> ExitCode
+        ensures { exit_status result ≡ status_number self.now }
+    {
+        ExitCode::from(self.number())
+    }
+}
+
+impl From<ReadFault> for Status {
+    ghost from_gives = { λ fault status. status ≡ read_status fault };
+
+    fn from(fault: ReadFault) -> Status {
+        match fault {
+            ReadFault::Failed => Status::ReadFault,
+            ReadFault::TooLong => Status::TooLong,
+            ReadFault::OutOfMemory => Status::OutOfMemory,
+        }
+    }
+}
+
+/// The status that was meant, where writing the output came to its end.
+pub fn after_writing(meant: Status, outcome: Result<(), IoFault>) -> Status
+    ensures { result ≡ after_writing meant outcome }
+{
+    match outcome {
+        Ok(()) => meant,
+        Err(IoFault::Failed) => Status::WriteFault,
+        Err(IoFault::OutOfMemory) => Status::OutOfMemory,
+    }
+}
+
+/// What a run leaves.
+#[derive(Debug, Drop)]
+pub struct Ended<K> {
+    /// How it ended.
+    pub status: Status,
+    /// The keeper of the journal that it was handed.
+    pub keeper: Option<K>,
+}
+
+/// The line that a refusal writes, with its line end. It is empty where the run was not refused, where the output
+/// failed, and where memory ran out.
+pub fn refusal_line(alloc: Global, status: &Status) -> Result<String, OutOfMemory>
+    ensures { IfOk result (λ line. string_bytes line ≡ refusal_line status.now) }
+{
+    let line = match status {
+        Status::Ok | Status::WriteFault | Status::OutOfMemory => String::new(alloc),
+        Status::Usage => String::from_str(alloc, "usage\n")?,
+        Status::ZoneText { line, kind } => {
+            let kind = zone_kind_text(*kind);
+            format!(in alloc; "zone text line {line}: {kind}\n")?
+        }
+        Status::EventLine { line } => format!(in alloc; "event line {line}\n")?,
+        Status::NotValid => String::from_str(alloc, "not valid\n")?,
+        Status::Recovery { row, kind } => {
+            let kind = replay_kind_text(*kind);
+            format!(in alloc; "journal row {row}: {kind}\n")?
+        }
+        Status::ReadFault => String::from_str(alloc, "read fault\n")?,
+        Status::KeeperFault => String::from_str(alloc, "keeper fault\n")?,
+        Status::TooLong => String::from_str(alloc, "too long\n")?,
+        Status::PortFault => String::from_str(alloc, "port fault\n")?,
+    };
+    Ok(line)
+}
+
+fn zone_kind_text(kind: ZoneTextKind) -> &'static str
+    ensures { result.now ≡ zone_kind_text kind }
+{
+    match kind {
+        ZoneTextKind::Paren => "Paren",
+        ZoneTextKind::Quote => "Quote",
+        ZoneTextKind::Directive => "Directive",
+        ZoneTextKind::Name => "Name",
+        ZoneTextKind::Ttl => "Ttl",
+        ZoneTextKind::RecordType => "Type",
+        ZoneTextKind::Data => "Data",
+        ZoneTextKind::OutOfZone => "OutOfZone",
+        ZoneTextKind::NotOneSoa => "NotOneSoa",
+        ZoneTextKind::AliasBesideOther => "AliasBesideOther",
+    }
+}
+
+fn replay_kind_text(kind: ReplayKind) -> &'static str
+    ensures { result.now ≡ replay_kind_text kind }
+{
+    match kind {
+        ReplayKind::NoRecord => "row is no record",
+        ReplayKind::OutOfPlace => "row out of place",
+        ReplayKind::NotOneSoa => "not one SOA",
+    }
+}

@@ -1,6 +1,0 @@
--- What stripping the key answers is what follows it.
-use Rattle.dns_program.proofs.Keys.{behind-answer}
-use Rattle.dns_program.proofs.command_line.behind.Goals as goal
-
-pub returns : goal.returns
-returns c = behind-answer _ _ _ c.strip_prefix.ensures.cases
