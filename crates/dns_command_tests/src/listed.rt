@@ -33,14 +33,14 @@ fn run(
 }
 
 /// It ended so, and the journal has so many rows.
-fn ended(rt: &impl Abort, ended: Ended<MemoryKeeper>, status: Status, rows: i64) {
+fn ended(rt: &impl Abort, ended: Ended<MemoryKeeper>, status: Status, rows: u32) {
     let Ended {
         status: found,
         keeper,
     } = ended;
     assert_eq!(rt; found, status);
     let mut keeper = keeper.expect(rt, "a keeper");
-    has_rows(rt, &mut keeper, rows.min(50));
+    has_rows(rt, &mut keeper, rows);
 }
 
 /// Runs a query over an output whose write with this number fails: so many bytes of what is due are taken.
@@ -103,7 +103,7 @@ fn is_heard(
     failing: u64,
     status: Status,
     written: &str,
-    rows: i64,
+    rows: u32,
 ) {
     let words = words_of(rt, alloc, "events example.com.");
     let mut zone = source(rt, alloc, ZONE, 0);
