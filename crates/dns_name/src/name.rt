@@ -163,6 +163,18 @@ impl Name {
         Ok(self.clone()?)
     }
 
+    /// Becomes the name whose labels these bytes are, each behind its length, without the zero byte at the end. The room that
+    /// the name has is used again; where memory runs out it is the root.
+    pub fn refill(&mut self, wire: &[u8]) -> Result<(), OutOfMemory>
+        requires { IsWire wire.now }
+        ensures ok { OnOk result (self.new ≡ labels_of wire.now) }
+        ensures err { OnErr result (self.new ≡ []) }
+    {
+        self.wire.clear();
+        self.wire.extend_from_slice(wire)?;
+        Ok(())
+    }
+
     /// Adds a label at the end, next to the root. [`Name::len`] tells whether there is room for it.
     pub fn push(&mut self, label: &[u8]) -> Result<(), OutOfMemory>
         requires label { IsLabel label.now }
@@ -183,6 +195,25 @@ impl Name {
         out.push(0)?;
         Ok(())
     }
+
+    /// Writes the name at the end of a message, without pointers and with ASCII capitals made small (RFC 1035 2.3.3, 3.1).
+    pub fn write_folded(&self, out: &mut Vec<u8>) -> Result<(), OutOfMemory>
+        ensures { OnOk result (out.new.items ≡ out.old.items ++ name_bytes (fold_of self.now)) }
+    {
+        put_folded(out, &self.wire)?;
+        out.push(0)?;
+        Ok(())
+    }
+}
+
+/// Writes bytes at the end, with ASCII capitals made small.
+fn put_folded(out: &mut Vec<u8>, bytes: &[u8]) -> Result<(), OutOfMemory>
+    ensures { OnOk result (out.new.items ≡ out.old.items ++ map to_ascii_lowercase bytes.now) }
+{
+    let start = out.len();
+    out.extend_from_slice(bytes)?;
+    out[start..].make_ascii_lowercase();
+    Ok(())
 }
 
 impl Clone for Name {
@@ -276,7 +307,7 @@ fn is_at_or_below(bytes: &[u8], other: &[u8]) -> bool
 fn are_alike(bytes: &[u8], other: &[u8]) -> bool
     ensures { IsTrue result ↔ (map to_ascii_lowercase bytes.now ≡ map to_ascii_lowercase other.now) }
 {
-    bytes.eq_ignore_ascii_case(other)
+    bytes == other || bytes.eq_ignore_ascii_case(other)
 }
 
 fn push_label(bytes: &mut Vec<u8>, label: &[u8]) -> Result<(), OutOfMemory>

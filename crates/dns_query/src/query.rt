@@ -1,12 +1,13 @@
 //! Queries that are looked at and not built.
 
-ghost use Rattle.std.specs.Prelude.{◌≡◌, ◌≤◌, ◌↔◌, length, IsTrue, IfSome, IfNone};
+ghost use Rattle.std.specs.Prelude.{◌≡◌, ◌≤◌, ◌↔◌, length, IsTrue, IfSome, IfNone, OnOk};
 ghost use Rattle.dns_wire.specs.Messages.{MessageAt};
 ghost use Rattle.dns_query.specs.Query.{HasPlainForm, OptAt, BesideAt, IsPlainQuery, message_of};
 
 use crate::numbers::{long, word};
 use crate::query_name::{QueryName, name_end};
-use dns_wire::{Edns, Header, opcode, record_type};
+use dns_io::OutOfMemory;
+use dns_wire::{Edns, Header, Question, opcode, record_type};
 
 /// A query with one question and at most an OPT beside it, whose names hold no pointer. The question's name is a view of
 /// the message's bytes.
@@ -23,6 +24,18 @@ pub struct Query<'a> {
     pub qclass: u16,
     /// What the OPT says, none where there is none (RFC 6891 6.1.3).
     pub edns: Option<Edns>,
+}
+
+impl<'a> Query<'a> {
+    /// Makes a question this query's. The room that its name has is used again; where memory runs out its name is the root.
+    pub fn fill(&self, question: &mut Question) -> Result<(), OutOfMemory>
+        ensures ok { OnOk result (question.new ≡ record { name = self.now.name; qtype = self.now.qtype; qclass = self.now.qclass }) }
+    {
+        self.name.fill(&mut question.name)?;
+        question.qtype = self.qtype;
+        question.qclass = self.qclass;
+        Ok(())
+    }
 }
 
 /// Whether a header is that of a query with one question, without answers or an authority section.

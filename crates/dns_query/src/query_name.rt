@@ -1,10 +1,12 @@
 //! The name that is asked for, as it stands in the message.
 
-ghost use Rattle.std.specs.Prelude.{◌≡◌, ◌≤◌, ℕ, length, take, drop, IfSome, IfNone};
+ghost use Rattle.std.specs.Prelude.{◌≡◌, ◌≤◌, ℕ, length, take, drop, IfSome, IfNone, OnOk};
 ghost use Rattle.dns_name.specs.Name.{IsName, fold_of, labels_bytes};
 ghost use Rattle.dns_query.specs.Query.{SpelledAt};
 
 use crate::numbers::part;
+use dns_io::OutOfMemory;
+use dns_name::Name;
 use std::marker::Model;
 
 /// The most bytes that a label may have (RFC 1035 2.3.4).
@@ -51,6 +53,14 @@ impl<'a> QueryName<'a> {
         ensures name { IsName self.now }
     {
         self.wire
+    }
+
+    /// Makes another name this one, letters in the case in which they came. The room that it has is used again; where memory runs out
+    /// it is the root.
+    pub fn fill(&self, name: &mut Name) -> Result<(), OutOfMemory>
+        ensures { OnOk result (name.new ≡ self.now) }
+    {
+        name.refill(self.wire)
     }
 
     /// Writes these bytes at the front of the room, with ASCII capitals made small (RFC 1035 2.3.3), and tells how many

@@ -7,6 +7,8 @@ pub mod Rules
 pub mod Extra
 pub mod MessageAnswer
 pub mod Fitting
+pub mod Lending
+pub mod LentWritten
 pub mod Putting
 pub mod Replies
 pub mod OneQuestion

@@ -8,4 +8,5 @@ pub mod Messages
 pub mod WireFormat
 pub mod MessageBytes
 pub mod Written
+pub mod Given
 pub mod ReadBack

@@ -6,6 +6,8 @@ mod edns;
 mod encoding;
 mod header;
 pub mod laws;
+mod lent_records;
+mod lent_reply;
 pub mod limits;
 mod message;
 mod numbers;
@@ -29,6 +31,8 @@ pub use dns_io::{
 pub use dns_name::{Labels, Name, ProtoError, name_laws};
 pub use edns::Edns;
 pub use header::Header;
+pub use lent_records::LentRecords;
+pub use lent_reply::LentReply;
 pub use message::Message;
 pub use question::{Question, Questions};
 pub use rdata::Data;

@@ -15,7 +15,7 @@ use dns_io::{Octets, OutOfMemory};
 use std::alloc::Global;
 
 /// How many bytes the length takes that goes before a message in a stream (RFC 1035 4.2.2).
-const LENGTH_LEN: usize = 2;
+pub(crate) const LENGTH_LEN: usize = 2;
 
 /// What a message is answered with.
 #[derive(Clone, Debug, Drop)]

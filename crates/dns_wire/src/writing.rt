@@ -13,6 +13,7 @@ ghost use Rattle.dns_wire.specs.declared.message.Message.{Message};
 use crate::edns::Edns;
 use crate::header::Header;
 use crate::question::Question;
+use crate::rdata::Data;
 use crate::record::Record;
 use crate::record_type;
 use crate::writing_data::{data_len, put_data};
@@ -53,7 +54,7 @@ pub(crate) fn put_message(
 }
 
 /// Writes the id and the flags of a header, its opcode and code modulo 16.
-fn put_flags(out: &mut Vec<u8>, header: &Header) -> Result<(), OutOfMemory>
+pub(crate) fn put_flags(out: &mut Vec<u8>, header: &Header) -> Result<(), OutOfMemory>
     ensures { OnOk result (out.new.items ≡ out.old.items ++ (to_be_bytes w16 header.now.id ++ flag_bytes header.now)) }
 {
     let [first, second] = header.id.to_be_bytes();
@@ -86,7 +87,7 @@ pub(crate) fn flag_word(header: &Header) -> u16
 }
 
 /// Writes the four counts of a header.
-fn put_counts(
+pub(crate) fn put_counts(
     out: &mut Vec<u8>,
     questions: u128,
     answers: u128,
@@ -96,14 +97,23 @@ fn put_counts(
     ensures { OnOk result (out.new.items ≡ out.old.items ++ (to_be_bytes w16 questions
         ++ (to_be_bytes w16 answers ++ (to_be_bytes w16 authority ++ to_be_bytes w16 additional)))) }
 {
-    put_count(out, questions)?;
-    put_count(out, answers)?;
-    put_count(out, authority)?;
-    put_count(out, additional)
+    let [a, b] = count_bytes(questions);
+    let [c, d] = count_bytes(answers);
+    let [e, f] = count_bytes(authority);
+    let [g, h] = count_bytes(additional);
+    out.extend_from_slice(&[a, b, c, d, e, f, g, h])?;
+    Ok(())
+}
+
+/// The lowest sixteen bits of a count, in two bytes.
+fn count_bytes(count: u128) -> [u8; 2]
+    ensures { result ≡ to_be_bytes w16 count }
+{
+    ((count % 65536) as u16).to_be_bytes()
 }
 
 /// How many OPT records there are.
-fn opt_count(edns: &Option<Edns>) -> u128
+pub(crate) fn opt_count(edns: &Option<Edns>) -> u128
     ensures is { result ≡ length (opt_records edns.now) }
     ensures small { result ≤ 1 }
 {
@@ -124,16 +134,22 @@ fn put_questions(out: &mut Vec<u8>, questions: &[Question]) -> Result<(), OutOfM
 }
 
 /// Writes a question.
-fn put_question(out: &mut Vec<u8>, question: &Question) -> Result<(), OutOfMemory>
+pub(crate) fn put_question(out: &mut Vec<u8>, question: &Question) -> Result<(), OutOfMemory>
     ensures { OnOk result (out.new.items ≡ out.old.items ++ question_bytes question.now) }
 {
     question.name.write(out)?;
-    put_u16(out, question.qtype)?;
-    put_u16(out, question.qclass)
+    let [type_high, type_low] = question.qtype.to_be_bytes();
+    let [class_high, class_low] = question.qclass.to_be_bytes();
+    out.extend_from_slice(&[type_high, type_low, class_high, class_low])?;
+    Ok(())
 }
 
 /// Writes the records of the additional section, then the OPT.
-fn put_extra(out: &mut Vec<u8>, records: &[Record], edns: &Option<Edns>) -> Result<(), OutOfMemory>
+pub(crate) fn put_extra(
+    out: &mut Vec<u8>,
+    records: &[Record],
+    edns: &Option<Edns>,
+) -> Result<(), OutOfMemory>
     ensures { OnOk result (out.new.items ≡ out.old.items ++ records_bytes (records.now ++ opt_records edns.now)) }
 {
     put_records(out, records)?;
@@ -157,19 +173,33 @@ fn put_records(out: &mut Vec<u8>, records: &[Record]) -> Result<(), OutOfMemory>
 pub(crate) fn put_record(out: &mut Vec<u8>, one: &Record) -> Result<(), OutOfMemory>
     ensures { OnOk result (out.new.items ≡ out.old.items ++ record_bytes one.now) }
 {
-    put_head(out, one)?;
-    put_count(out, data_len(&one.rdata) as u128)?;
-    put_data(out, &one.rdata)
+    one.name.write(out)?;
+    put_middle(out, one.rtype, one.class, one.ttl)?;
+    put_data_behind_len(out, &one.rdata)
 }
 
-fn put_head(out: &mut Vec<u8>, one: &Record) -> Result<(), OutOfMemory>
-    ensures { OnOk result (out.new.items ≡ out.old.items ++ name_bytes one.now.name
-        ++ to_be_bytes w16 one.now.rtype ++ to_be_bytes w16 one.now.class ++ to_be_bytes w32 one.now.ttl) }
+/// Writes what stands between the owner of a record and the length of its data (RFC 1035 4.1.3).
+pub(crate) fn put_middle(
+    out: &mut Vec<u8>,
+    rtype: u16,
+    class: u16,
+    ttl: u32,
+) -> Result<(), OutOfMemory>
+    ensures { OnOk result (out.new.items ≡ out.old.items ++ (to_be_bytes w16 rtype ++ to_be_bytes w16 class ++ to_be_bytes w32 ttl)) }
 {
-    one.name.write(out)?;
-    put_u16(out, one.rtype)?;
-    put_u16(out, one.class)?;
-    put_u32(out, one.ttl)
+    let [type_high, type_low] = rtype.to_be_bytes();
+    let [class_high, class_low] = class.to_be_bytes();
+    let [a, b, c, d] = ttl.to_be_bytes();
+    out.extend_from_slice(&[type_high, type_low, class_high, class_low, a, b, c, d])?;
+    Ok(())
+}
+
+/// Writes data behind the lowest sixteen bits of its length.
+pub(crate) fn put_data_behind_len(out: &mut Vec<u8>, rdata: &Data) -> Result<(), OutOfMemory>
+    ensures { OnOk result (out.new.items ≡ out.old.items ++ (to_be_bytes w16 (length (data_bytes rdata.now)) ++ data_bytes rdata.now)) }
+{
+    put_count(out, data_len(rdata) as u128)?;
+    put_data(out, rdata)
 }
 
 /// Writes an OPT record (RFC 6891 6.1.2).
@@ -252,7 +282,8 @@ pub(crate) fn put_u16(out: &mut Vec<u8>, number: u16) -> Result<(), OutOfMemory>
 fn put_count(out: &mut Vec<u8>, count: u128) -> Result<(), OutOfMemory>
     ensures { OnOk result (out.new.items ≡ out.old.items ++ to_be_bytes w16 count) }
 {
-    put_u16(out, (count % 65536) as u16)
+    out.extend_from_slice(&count_bytes(count))?;
+    Ok(())
 }
 
 /// Writes a number in four bytes.

@@ -1,0 +1,22 @@
+use Rattle.std.proofs.Common.{◌+◌, ◌++◌, [], List, subst, sym}
+use Rattle.std.proofs.lemmas.List.{append-nil}
+use Rattle.dns_wire.specs.declared.record.Record.{Record}
+use Rattle.dns_wire.specs.declared.reply.Reply.{Reply}
+use Rattle.dns_wire.specs.Given.{in_parts}
+use Rattle.dns_wire.specs.Written.{all_of, Fits}
+use Rattle.dns_wire.proofs.Fitting.{fits_some, fits_all}
+use Rattle.dns_wire.proofs.Lending.{less_then, not_less_then}
+use Rattle.dns_wire.proofs.lent_reply.kept_in.Goals as goal
+
+pub returns-then-answers-clause-fits : goal.returns-then-answers-clause-fits
+returns-then-answers-clause-fits c =
+    subst (λ (r : Reply). Fits c.args.room (all_of r) c.fitting_in_parts-answers.result.count) c.reply.view_is
+    (fits_some (in_parts c.reply.inside.answers.now) (c.reply.inside.authority ++ []) _ _ c.fitting_in_parts-answers.ensures.fits
+    (less_then _ _ _ c.fitting_in_parts-answers.ensures.cut c.if-answers.true))
+
+pub returns-clause-fits : goal.returns-clause-fits
+returns-clause-fits c =
+    subst (λ (r : Reply). Fits c.args.room (all_of r) (c.fitting_in_parts-answers.result.count + c.fitting-authority.result.count)) c.reply.view_is
+    (fits_all (in_parts c.reply.inside.answers.now) (c.reply.inside.authority ++ []) _ _ _ _ c.fitting_in_parts-answers.ensures.fits
+    (not_less_then _ _ _ c.fitting_in_parts-answers.ensures.cut c.if-answers.false) c.fitting_in_parts-answers.ensures.left
+    (subst (λ (rs : List Record). Fits c.fitting_in_parts-answers.result.left rs c.fitting-authority.result.count) (sym (append-nil c.reply.inside.authority)) c.fitting-authority.ensures.fits))

@@ -1,0 +1,298 @@
+//! Records that a reply gives, lent by whoever keeps them: they are written without copies.
+
+ghost use Rattle.std.specs.Prelude.{◌≡◌, ◌≤◌, ◌<◌, ◌+◌, ◌++◌, ◌==◌, [], length, map, take, nat_lt, false, Bool, IfOk, OnOk, option_map};
+ghost use Rattle.std.specs.Int.{w16, w32, to_be_bytes};
+ghost use Rattle.dns_name.specs.Name.{fold_of, name_bytes};
+ghost use Rattle.dns_wire.specs.Given.{given, negative, negative_ttl, given_as, in_parts, kinds};
+ghost use Rattle.dns_wire.specs.WireFormat.{record_bytes, records_bytes};
+ghost use Rattle.dns_wire.specs.Written.{Fits};
+
+use crate::rdata::Data;
+use crate::record::Record;
+use crate::writing::{name_len, put_data_behind_len, put_middle};
+use crate::writing_data::data_len;
+use dns_io::OutOfMemory;
+use dns_name::Name;
+use std::alloc::Global;
+use std::marker::Model;
+
+/// Records of one name and type as a reply gives them: with their own owner, or with another in small letters
+/// (RFC 4592 3.3.2); with their own TTL, or with that of a negative reply (RFC 2308 3).
+#[derive(Drop)]
+pub struct LentRecords<'a> {
+    records: &'a [Record],
+    owner: Option<&'a Name>,
+    is_negative: bool,
+}
+
+impl<'a> Model for LentRecords<'a> {
+    ghost use Rattle.std.specs.Prelude.{List, map, option_map};
+    ghost use Rattle.dns_name.specs.Name.{fold_of};
+    ghost use Rattle.dns_wire.specs.declared.record.Record.{Record};
+    ghost use Rattle.dns_wire.specs.Given.{given_as};
+
+    ghost Value = { List Record };
+
+    ghost view = { λ l. map (given_as (option_map (λ n. fold_of n.now) l.owner) l.is_negative) l.records.now };
+}
+
+/// How many records fit into a room, how many bytes of it are left then, and whether a record was left out.
+#[derive(Clone, Copy)]
+pub(crate) struct Fitting {
+    pub(crate) count: usize,
+    pub(crate) left: usize,
+    pub(crate) is_cut: bool,
+}
+
+impl<'a> LentRecords<'a> {
+    /// Records with their own owner, or another in small letters.
+    pub fn new(records: &'a [Record], owner: Option<&'a Name>) -> LentRecords<'a>
+        ensures { result ≡ map (given (option_map (λ n. fold_of n.now) owner.entry)) records.now }
+    {
+        LentRecords {
+            records,
+            owner,
+            is_negative: false,
+        }
+    }
+
+    /// No records.
+    pub fn none() -> LentRecords<'a>
+        ensures { result ≡ [] }
+    {
+        LentRecords {
+            records: &[],
+            owner: None,
+            is_negative: false,
+        }
+    }
+
+    /// The SOAs of a zone, for an answer that something is not there (RFC 2308 3).
+    pub fn negative(records: &'a [Record]) -> LentRecords<'a>
+        ensures { result ≡ map negative records.now }
+    {
+        LentRecords {
+            records,
+            owner: None,
+            is_negative: true,
+        }
+    }
+
+    /// The records as they are kept: their types and classes are those that the reply gives.
+    pub fn as_kept(&self) -> &'a [Record]
+        ensures { kinds result.now ≡ kinds self.now }
+    {
+        self.records
+    }
+
+    /// How many records there are.
+    pub fn len(&self) -> usize
+        ensures { result ≡ length self.now }
+    {
+        self.records.len()
+    }
+
+    /// Adds copies of the records at the end, as the reply gives them.
+    pub fn copy_to(&self, alloc: Global, out: &mut Vec<Record>) -> Result<(), OutOfMemory>
+        ensures { OnOk result (out.new.items ≡ out.old.items ++ self.now) }
+    {
+        copy_each(alloc, self.records, self.owner, self.is_negative, out)
+    }
+
+    /// How many of the records, from the first on, go into `room` bytes.
+    pub(crate) fn fitting(&self, room: usize) -> Fitting
+        ensures fits { Fits room self.now result.count }
+        ensures left { result.left + length (records_bytes (take result.count self.now)) ≡ room }
+        ensures few { result.count + result.left ≤ room }
+        ensures cut { result.is_cut ≡ nat_lt result.count (length self.now) }
+    {
+        fitting_given(self.records, self.owner, self.is_negative, room)
+    }
+
+    /// Writes the first `count` of the records.
+    pub(crate) fn put(&self, out: &mut Vec<u8>, count: usize) -> Result<(), OutOfMemory>
+        ensures { OnOk result (out.new.items ≡ out.old.items ++ records_bytes (take count self.now)) }
+    {
+        let (first, _) = self.records.split_at(count.min(self.records.len()));
+        put_each(out, first, self.owner, self.is_negative)
+    }
+}
+
+/// Adds copies of records at the end, as a reply gives them.
+fn copy_each(
+    alloc: Global,
+    records: &[Record],
+    owner: Option<&Name>,
+    is_negative: bool,
+    out: &mut Vec<Record>,
+) -> Result<(), OutOfMemory>
+    ensures { OnOk result (out.new.items ≡ out.old.items ++ map (given_as (option_map (λ n. fold_of n.now) owner.entry) is_negative) records.now) }
+{
+    out.reserve(records.len())?;
+    for one in records {
+        out.push(copy_of(alloc, one, owner, is_negative)?)?;
+    }
+    Ok(())
+}
+
+/// A copy of a record, as a reply gives it.
+fn copy_of(
+    alloc: Global,
+    one: &Record,
+    owner: Option<&Name>,
+    is_negative: bool,
+) -> Result<Record, OutOfMemory>
+    ensures { IfOk result (λ copy. copy ≡ given_as (option_map (λ n. fold_of n.now) owner.entry) is_negative one.now) }
+{
+    let name = match owner {
+        None => one.name.copy()?,
+        Some(owner) => owner.folded(alloc)?,
+    };
+    Ok(Record {
+        name,
+        rtype: one.rtype,
+        class: one.class,
+        ttl: given_ttl(one, is_negative),
+        rdata: one.rdata.copy()?,
+    })
+}
+
+/// The TTL that a reply gives a record.
+fn given_ttl(one: &Record, is_negative: bool) -> u32
+    ensures { (owner : _) → result ≡ (given_as owner is_negative one.now).ttl }
+{
+    if !is_negative {
+        return one.ttl;
+    }
+    match &one.rdata {
+        Data::Soa { minimum, .. } => one.ttl.min(*minimum),
+        _ => one.ttl,
+    }
+}
+
+fn fitting_given(
+    records: &[Record],
+    owner: Option<&Name>,
+    is_negative: bool,
+    room: usize,
+) -> Fitting
+    ensures fits { Fits room (map (given_as (option_map (λ n. fold_of n.now) owner.entry) is_negative) records.now) result.count }
+    ensures left { result.left + length (records_bytes (take result.count (map (given_as (option_map (λ n. fold_of n.now) owner.entry) is_negative) records.now))) ≡ room }
+    ensures few { result.count + result.left ≤ room }
+    ensures cut { result.is_cut ≡ nat_lt result.count (length records.now) }
+{
+    let mut count = 0;
+    let mut left = room;
+    for one in records {
+        let size = given_len(one, owner, is_negative);
+        if size > left as u128 {
+            return Fitting {
+                count,
+                left,
+                is_cut: true,
+            };
+        }
+        left -= size as usize;
+        count += 1;
+    }
+    Fitting {
+        count,
+        left,
+        is_cut: false,
+    }
+}
+
+/// How many bytes a record takes, as a reply gives it.
+#[tactic(auto, using(crate::proofs::Lending::size_given))]
+fn given_len(one: &Record, owner: Option<&Name>, is_negative: bool) -> u128
+    ensures { result ≡ length (record_bytes (given_as (option_map (λ n. fold_of n.now) owner.entry) is_negative one.now)) }
+{
+    owner_len(one, owner) as u128 + 10 + data_len(&one.rdata) as u128
+}
+
+/// How many bytes the owner takes that a reply gives a record.
+#[tactic(auto, using(crate::proofs::Lending::size_folded))]
+fn owner_len(one: &Record, owner: Option<&Name>) -> usize
+    ensures { result ≡ length (name_bytes (given (option_map (λ n. fold_of n.now) owner.entry) one.now).name) }
+{
+    match owner {
+        None => name_len(&one.name),
+        Some(owner) => name_len(owner),
+    }
+}
+
+/// Writes records, as a reply gives them.
+fn put_each(
+    out: &mut Vec<u8>,
+    records: &[Record],
+    owner: Option<&Name>,
+    is_negative: bool,
+) -> Result<(), OutOfMemory>
+    ensures { OnOk result (out.new.items ≡ out.old.items ++ records_bytes (map (given_as (option_map (λ n. fold_of n.now) owner.entry) is_negative) records.now)) }
+{
+    for one in records {
+        put_given(out, one, owner, is_negative)?;
+    }
+    Ok(())
+}
+
+/// Writes a record, as a reply gives it.
+fn put_given(
+    out: &mut Vec<u8>,
+    one: &Record,
+    owner: Option<&Name>,
+    is_negative: bool,
+) -> Result<(), OutOfMemory>
+    ensures { OnOk result (out.new.items ≡ out.old.items ++ record_bytes (given_as (option_map (λ n. fold_of n.now) owner.entry) is_negative one.now)) }
+{
+    match owner {
+        None => one.name.write(out)?,
+        Some(owner) => owner.write_folded(out)?,
+    }
+    put_middle(out, one.rtype, one.class, given_ttl(one, is_negative))?;
+    put_data_behind_len(out, &one.rdata)
+}
+
+/// How many of the records that parts give, from the first on, go into `room` bytes.
+pub(crate) fn fitting_in_parts(parts: &[LentRecords<'_>], room: usize) -> Fitting
+    ensures fits { Fits room (in_parts parts.now) result.count }
+    ensures left { result.left + length (records_bytes (take result.count (in_parts parts.now))) ≡ room }
+    ensures few { result.count + result.left ≤ room }
+    ensures cut { result.is_cut ≡ nat_lt result.count (length (in_parts parts.now)) }
+{
+    let mut count = 0;
+    let mut left = room;
+    for part in parts {
+        let fitting = part.fitting(left);
+        count += fitting.count;
+        left = fitting.left;
+        if fitting.is_cut {
+            return Fitting {
+                count,
+                left,
+                is_cut: true,
+            };
+        }
+    }
+    Fitting {
+        count,
+        left,
+        is_cut: false,
+    }
+}
+
+/// Writes the first `count` of the records that parts give.
+pub(crate) fn put_parts(
+    out: &mut Vec<u8>,
+    parts: &[LentRecords<'_>],
+    count: usize,
+) -> Result<(), OutOfMemory>
+    ensures { OnOk result (out.new.items ≡ out.old.items ++ records_bytes (take count (in_parts parts.now))) }
+{
+    let mut left = count;
+    for part in parts {
+        part.put(out, left)?;
+        left = left.saturating_sub(part.len());
+    }
+    Ok(())
+}

@@ -1,0 +1,175 @@
+//! Replies whose records are lent: they are written without copies (RFC 1035 4.1, RFC 2181 9).
+
+ghost use Rattle.std.specs.Prelude.{◌≡◌, ◌+◌, ◌-◌, ◌≤◌, ◌++◌, ◌∷◌, [], length, min, nat_lt, IfOk, OnOk};
+ghost use Rattle.dns_wire.specs.Standing.{word_at};
+ghost use Rattle.dns_wire.specs.Given.{in_parts};
+ghost use Rattle.dns_wire.specs.MessageBytes.{message_bytes};
+ghost use Rattle.dns_wire.specs.Written.{all_of, reply_bytes, reply_header, Fits, Written};
+
+use crate::edns::Edns;
+use crate::header::Header;
+use crate::lent_records::{LentRecords, fitting_in_parts, put_parts};
+use crate::question::Question;
+use crate::reply::{LENGTH_LEN, WrittenReply};
+use crate::writing::{
+    flag_word, opt_count, opt_len, put_counts, put_extra, put_flags, put_question, question_len,
+};
+use dns_io::{Octets, OutOfMemory};
+use std::alloc::Global;
+use std::marker::Model;
+
+/// A reply to a question, as [`crate::Reply`] is one, whose question and records are lent.
+#[derive(Drop)]
+pub struct LentReply<'a> {
+    /// The id of the message that is answered.
+    pub id: u16,
+    /// The kind of query; its lowest four bits are written.
+    pub opcode: u8,
+    /// Whether an authority for the name answers.
+    pub aa: bool,
+    /// Whether recursion was desired.
+    pub rd: bool,
+    /// Whether checking was disabled.
+    pub cd: bool,
+    /// The response code; its lowest four bits are written (the others are the OPT's `extended`).
+    pub code: u16,
+    /// The question that is answered.
+    pub question: &'a Question,
+    /// The answer section, in parts.
+    pub answers: &'a [LentRecords<'a>],
+    /// The authority section.
+    pub authority: LentRecords<'a>,
+    /// The OPT, where there is one.
+    pub edns: Option<Edns>,
+}
+
+impl<'a> Model for LentReply<'a> {
+    ghost use Rattle.std.specs.Prelude.{[], Some};
+    ghost use Rattle.dns_wire.specs.declared.reply.Reply.{Reply};
+    ghost use Rattle.dns_wire.specs.Given.{in_parts};
+
+    ghost Value = { Reply };
+
+    ghost view = { λ r. record {
+      id = r.id;
+      opcode = r.opcode;
+      aa = r.aa;
+      rd = r.rd;
+      cd = r.cd;
+      code = r.code;
+      question = Some r.question.now;
+      answers = in_parts r.answers.now;
+      authority = r.authority;
+      additional = [];
+      edns = r.edns;
+    } };
+}
+
+/// How many records are kept of a reply: of all, of its answers, of its authority; and how many bytes are left then.
+#[derive(Clone, Copy)]
+struct Kept {
+    count: usize,
+    answers: usize,
+    authority: usize,
+    left: usize,
+    is_cut: bool,
+}
+
+impl<'a> LentReply<'a> {
+    /// The written form that [`crate::Reply::write`] gives.
+    pub fn write(&self, alloc: Global, limit: u16) -> Result<WrittenReply, OutOfMemory>
+        requires { 512 ≤ limit }
+        ensures bytes { IfOk result (λ written. Written self.now limit written.bytes) }
+        ensures flags { IfOk result (λ written. written.flags ≡ word_at written.bytes 2) }
+        ensures answers { IfOk result (λ written. written.answers ≡ word_at written.bytes 6) }
+    {
+        let limit = usize::from(limit);
+        let fixed = 12 + question_len(self.question) + opt_len(&self.edns);
+        let kept = kept_in(self, limit - fixed);
+        let header = header_of(self, kept.is_cut);
+        let mut out = Vec::with_capacity(alloc, limit - kept.left + LENGTH_LEN)?;
+        put_kept(&mut out, self, &header, &kept)?;
+        Ok(WrittenReply {
+            bytes: Octets::from_vec(out),
+            flags: flag_word(&header),
+            answers: kept.answers,
+        })
+    }
+}
+
+/// How many of the reply's records, from the first on, go into `room` bytes.
+fn kept_in(reply: &LentReply<'_>, room: usize) -> Kept
+    ensures fits { Fits room (all_of reply.now) result.count }
+    ensures few { result.count + result.left ≤ room }
+    ensures answers { result.answers ≡ min result.count (length reply.now.answers) }
+    ensures authority { result.authority ≡ result.count - length reply.now.answers }
+    ensures cut { result.is_cut ≡ nat_lt result.count (length (all_of reply.now)) }
+{
+    let answers = fitting_in_parts(reply.answers, room);
+    if answers.is_cut {
+        return Kept {
+            count: answers.count,
+            answers: answers.count,
+            authority: 0,
+            left: answers.left,
+            is_cut: true,
+        };
+    }
+    let authority = reply.authority.fitting(answers.left);
+    Kept {
+        count: answers.count + authority.count,
+        answers: answers.count,
+        authority: authority.count,
+        left: authority.left,
+        is_cut: authority.is_cut,
+    }
+}
+
+/// The header, where some of the records are left out or none.
+fn header_of(reply: &LentReply<'_>, is_cut: bool) -> Header
+    ensures { (count : _) → is_cut ≡ nat_lt count (length (all_of reply.now)) → result ≡ reply_header reply.now count }
+{
+    Header {
+        id: reply.id,
+        qr: true,
+        opcode: reply.opcode,
+        aa: reply.aa,
+        tc: is_cut,
+        rd: reply.rd,
+        ra: false,
+        ad: false,
+        cd: reply.cd,
+        code: (reply.code % 16) as u8,
+        questions: 0,
+        answers: 0,
+        authority: 0,
+        additional: 0,
+    }
+}
+
+/// Writes the reply with the records that are kept.
+fn put_kept(
+    out: &mut Vec<u8>,
+    reply: &LentReply<'_>,
+    header: &Header,
+    kept: &Kept,
+) -> Result<(), OutOfMemory>
+    requires header { header.now ≡ reply_header reply.now kept.now.count }
+    requires answers { kept.now.answers ≡ min kept.now.count (length reply.now.answers) }
+    requires authority { kept.now.authority ≡ kept.now.count - length reply.now.answers }
+    requires within { kept.now.count ≤ length (all_of reply.now) }
+    ensures { OnOk result (out.new.items ≡ out.old.items ++ reply_bytes reply.now kept.now.count) }
+{
+    put_flags(out, header)?;
+    put_counts(
+        out,
+        1,
+        kept.answers as u128,
+        kept.authority as u128,
+        opt_count(&reply.edns),
+    )?;
+    put_question(out, reply.question)?;
+    put_parts(out, reply.answers, kept.answers)?;
+    reply.authority.put(out, kept.authority)?;
+    put_extra(out, &[], &reply.edns)
+}
