@@ -21,6 +21,8 @@ use Rattle.dns_book.specs.declared.decision.Decision.{Decision}
 use Rattle.dns_book.specs.declared.outcome.ReadyReply.{ReadyReply}
 use Rattle.dns_book.specs.declared.outcome.Change.{Change}
 use Rattle.dns_book.specs.declared.outcome.Outcome.{Outcome}
+use Rattle.dns_book.specs.Access.{Access}
+use Rattle.dns_book.specs.Cases.{Decides}
 use Rattle.dns_book.specs.Owed.{limit_of, reply_of, case_batch}
 use Rattle.dns_book.specs.Counted.{asked_of, replied_of}
 use Rattle.dns_book.specs.Book.{SeenOf, Ends, IsLeft}
@@ -66,6 +68,18 @@ pub record IsOutcome (zone : Contents) (allow_update : Bool) (protocol : Protoco
   pub batch : batch_in zone (updates_in outcome.change) ≡ case_batch zone allow_update d.case
   pub reply : IsReady protocol (reply_of (record { zone = zone; allow_update = allow_update; failed = false }) d) outcome.reply
   pub failed : IsFailedReady protocol (reply_of (record { zone = zone; allow_update = allow_update; failed = true }) d) outcome.change
+
+-- what a message comes to that is owed a reply
+pub record IsMade (zone : Contents) (allow_update : Bool) (access : Access) (ask : Ask) (outcome : Outcome) : Type 0 where
+  pub decision : Decision
+  pub decided : Decides zone access ask (Some decision)
+  pub is : IsOutcome zone allow_update ask.protocol decision outcome
+  pub passing : ArePassing zone (updates_in outcome.change)
+
+-- what a message comes to
+abbrev pub ComesTo : Contents → Bool → Access → Ask → Option Outcome → Type 0
+ComesTo zone allow_update access ask None = Decides zone access ask None
+ComesTo zone allow_update access ask (Some outcome) = IsMade zone allow_update access ask outcome
 
 -- the reply that is given, where the journal failed or not
 abbrev pub given_of : Outcome → Option Change → Bool → ReadyReply

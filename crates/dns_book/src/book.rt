@@ -7,12 +7,11 @@ ghost use Rattle.dns_book.specs.Crash.{SettlesLeaving, LeavesUnsettled, LeavesOn
 
 use crate::access::AccessControl;
 use crate::ask::{Ask, Settled};
-use crate::decision::decide;
-use crate::outcome::outcome_of;
+use crate::outcome::outcome_for;
 use dns_counts::Counts;
 use dns_io::OutOfMemory;
 use dns_keeper::Keeper;
-use dns_update::laws::read_updates;
+use dns_wire::Question;
 use dns_zone::Zone;
 use std::alloc::Global;
 use std::marker::Model;
@@ -25,6 +24,8 @@ pub struct Book<K: Keeper> {
     pub(crate) allow_update: bool,
     pub(crate) row_count: u64,
     pub(crate) counts: Counts,
+    /// The question that is looked up: the room of its name is used for one after the other.
+    pub(crate) question: Question,
     pub(crate) alloc: Global,
 }
 
@@ -54,13 +55,11 @@ impl<K: Keeper> Book<K> {
         ensures left_unsettled { OnErr result (LeavesUnsettled K.rows K.may_leave access.now self.old ask.now self.new) }
         ensures left_on { LeavesOn K.rows K.may_leave self.old → LeavesOn K.rows K.may_leave self.new }
     {
-        let Some(decision) = decide(self.alloc, &self.zone, access, ask)? else {
-            return Ok(self.unanswered());
-        };
-        read_updates(ask.bytes.as_slice());
-        let (zone, protocol) = (&self.zone, ask.protocol);
-        let outcome = outcome_of(self.alloc, zone, self.allow_update, protocol, decision)?;
-        self.carry_out(ask, outcome)
+        let (alloc, zone, question) = (self.alloc, &self.zone, &mut self.question);
+        match outcome_for(alloc, zone, self.allow_update, access, ask, question)? {
+            Some(outcome) => self.carry_out(ask, outcome),
+            None => Ok(self.unanswered()),
+        }
     }
 
     /// The serial of the zone's SOA.
@@ -104,6 +103,7 @@ impl<K: Keeper> Book<K> {
             allow_update: _,
             row_count: _,
             counts: _,
+            question: _,
             alloc: _,
         } = self;
         keeper

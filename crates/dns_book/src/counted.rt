@@ -1,12 +1,13 @@
 //! What the counters are told of a message and its reply.
 
-ghost use Rattle.std.specs.Prelude.{◌≡◌, IfOk};
+ghost use Rattle.std.specs.Prelude.{◌≡◌, ◌++◌, length, replicate, IsTrue, IfOk, OnOk};
+ghost use Rattle.dns_wire.specs.Given.{in_parts, kinds};
 ghost use Rattle.dns_book.specs.Counted.{counted_question, asked_of, kinds_of, counts_of_zone};
 
 use crate::decision::{Case, Decision};
 use dns_counts::{Asked, Counts, Pairs, Replied};
 use dns_io::OutOfMemory;
-use dns_wire::{Record, Reply, WrittenReply};
+use dns_wire::{LentRecords, LentReply, Record, Reply, WrittenReply};
 use dns_zone::Zone;
 use std::alloc::Global;
 
@@ -51,16 +52,82 @@ pub(crate) fn replied_of(
     })
 }
 
-/// The type and class of each of the first `count` records.
+/// What is told of a reply that was written from what the zone lends.
+pub(crate) fn replied_of_lent(
+    alloc: Global,
+    reply: &LentReply<'_>,
+    written: &WrittenReply,
+) -> Result<Replied, OutOfMemory>
+    ensures { IfOk result (λ told. told ≡ record {
+      code = reply.now.code;
+      flags = written.now.flags;
+      answers = kinds_of written.now.answers reply.now.answers;
+    }) }
+{
+    Ok(Replied {
+        code: reply.code,
+        flags: written.flags,
+        answers: kinds_in(alloc, reply.answers, written.answers)?,
+    })
+}
+
+/// The type and class of each of the first `count` records of parts.
+fn kinds_in(alloc: Global, parts: &[LentRecords<'_>], count: usize) -> Result<Pairs, OutOfMemory>
+    ensures { IfOk result (λ pairs. pairs ≡ kinds_of count (in_parts parts.now)) }
+{
+    if let [part] = parts {
+        return kinds_of(alloc, part.as_kept(), count);
+    }
+    let mut pairs = Vec::new(alloc);
+    let mut left = count;
+    for part in parts {
+        add_kinds(part.as_kept(), left, &mut pairs)?;
+        left = left.saturating_sub(part.len());
+    }
+    Ok(Pairs::from_vec(pairs))
+}
+
+/// The type and class of each of the first `count` records. Where all have the same, as in a set, that takes no memory.
 fn kinds_of(alloc: Global, records: &[Record], count: usize) -> Result<Pairs, OutOfMemory>
     ensures { IfOk result (λ pairs. pairs ≡ kinds_of count records.now) }
 {
     let (first, _) = records.split_at(records.len().min(count));
-    let mut pairs = Vec::with_capacity(alloc, first.len())?;
+    if let Some(one) = first.first() {
+        if are_of(first, one.rtype, one.class) {
+            return Ok(Pairs::run((one.rtype, one.class), first.len()));
+        }
+    }
+    let mut pairs = Vec::new(alloc);
+    add_kinds(records, count, &mut pairs)?;
+    Ok(Pairs::from_vec(pairs))
+}
+
+/// Whether all records are of a type and a class.
+fn are_of(records: &[Record], rtype: u16, class: u16) -> bool
+    ensures { IsTrue result → kinds records.now ≡ replicate (length records.now) (rtype, class) }
+{
+    for one in records {
+        if one.rtype != rtype || one.class != class {
+            return false;
+        }
+    }
+    true
+}
+
+/// Adds the type and class of each of the first `count` records at the end.
+fn add_kinds(
+    records: &[Record],
+    count: usize,
+    pairs: &mut Vec<(u16, u16)>,
+) -> Result<(), OutOfMemory>
+    ensures { OnOk result (pairs.new.items ≡ pairs.old.items ++ kinds_of count records.now) }
+{
+    let (first, _) = records.split_at(records.len().min(count));
+    pairs.reserve(first.len())?;
     for one in first {
         pairs.push((one.rtype, one.class))?;
     }
-    Ok(Pairs::from_vec(pairs))
+    Ok(())
 }
 
 /// The counts of a book of this zone to which nothing has happened.

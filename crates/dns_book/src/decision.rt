@@ -183,7 +183,7 @@ fn query_case(zone: &Zone, question: Question) -> Case
     Case::Query { question }
 }
 
-fn is_newer(edns: Option<Edns>) -> bool
+pub(crate) fn is_newer(edns: Option<Edns>) -> bool
     ensures { result ≡ is_newer edns }
 {
     match edns {
@@ -204,7 +204,7 @@ pub(crate) fn only_question(questions: Questions) -> Option<Question>
 }
 
 /// Whether a question is not for this zone: another class, another name, or a zone transfer.
-fn is_foreign(zone: &Zone, question: &Question) -> bool
+pub(crate) fn is_foreign(zone: &Zone, question: &Question) -> bool
     ensures { result ≡ is_foreign zone.now question.now }
 {
     question.qclass != class::IN

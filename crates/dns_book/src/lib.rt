@@ -12,6 +12,7 @@ mod opening;
 mod opening_records;
 mod outcome;
 mod owed;
+mod query_outcome;
 mod recovering;
 mod reply_bytes;
 mod settling;

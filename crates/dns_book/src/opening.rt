@@ -10,6 +10,7 @@ ghost use Rattle.dns_book.specs.Opening.{HadNoRow, Begins, BeginsNot, BeginsNotW
 use crate::book::Book;
 use crate::counted::counts_of_zone;
 use crate::opening_records::opening_of;
+use crate::query_outcome::no_question;
 use crate::recovering::{Recovered, keeper_kind, read_back};
 use dns_keeper::{KeepFault, Keeper};
 use dns_name::Name;
@@ -114,6 +115,7 @@ impl<K: Keeper> Book<K> {
                 counts: counts_of_zone(&zone),
                 zone,
                 allow_update,
+                question: no_question(alloc),
                 alloc,
             }),
             Err(fault) => Err(BeginFault { fault, keeper }),
@@ -143,6 +145,7 @@ impl<K: Keeper> Book<K> {
                 counts: counts_of_zone(&zone),
                 zone,
                 allow_update,
+                question: no_question(alloc),
                 alloc,
             }),
             Err(kind) => refuse(kind, keeper),

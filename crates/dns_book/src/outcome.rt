@@ -3,16 +3,20 @@
 ghost use Rattle.std.specs.Prelude.{◌≡◌, ℕ, IfOk, IfSome, true, false};
 ghost use Rattle.dns_wire.specs.declared.reply.Reply.{Reply as Owing};
 ghost use Rattle.dns_book.specs.Owed.{reply_of, HasRoom, IsFit};
-ghost use Rattle.dns_book.specs.Outcome.{IsReady, ArePassing, batch_in, updates_in, IsFailedReady, IsOutcome};
+ghost use Rattle.dns_book.specs.Outcome.{IsReady, ArePassing, batch_in, updates_in, IsFailedReady, IsOutcome, ComesTo};
 
+use crate::access::AccessControl;
+use crate::ask::Ask;
 use crate::counted::{asked_of, replied_of};
-use crate::decision::Decision;
+use crate::decision::{Decision, decide};
 use crate::owed::{Owed, limit_of, owed_by};
+use crate::query_outcome::query_outcome;
 use crate::reply_bytes::ReplyBytes;
 use dns_counts::{Asked, Replied};
 use dns_io::{OutOfMemory, Protocol};
+use dns_update::laws::read_updates;
 use dns_wire::response_code::SERV_FAIL;
-use dns_wire::{Records, Reply};
+use dns_wire::{Question, Records, Reply};
 use dns_zone::Zone;
 use std::alloc::Global;
 
@@ -43,6 +47,30 @@ pub(crate) struct Outcome {
     pub(crate) reply: ReadyReply,
     /// Its change of the zone, where it makes one.
     pub(crate) change: Option<Change>,
+}
+
+/// Makes everything ready for a message, so that nothing but the keeper can fail afterwards; none where it is owed no reply. A query
+/// of plain form is looked at and not built; any other message is read whole. `question` is used for the former.
+pub(crate) fn outcome_for(
+    alloc: Global,
+    zone: &Zone,
+    allow_update: bool,
+    access: &AccessControl,
+    ask: &Ask,
+    question: &mut Question,
+) -> Result<Option<Outcome>, OutOfMemory>
+    ensures { IfOk result (ComesTo zone.now allow_update access.now ask.now) }
+{
+    let outcome = query_outcome(alloc, zone, access, ask, question)?;
+    if outcome.is_some() {
+        return Ok(outcome);
+    }
+    let Some(decision) = decide(alloc, zone, access, ask)? else {
+        return Ok(None);
+    };
+    read_updates(ask.bytes.as_slice());
+    let outcome = outcome_of(alloc, zone, allow_update, ask.protocol, decision)?;
+    Ok(Some(outcome))
 }
 
 /// Makes everything ready for a message of which this was decided, so that nothing but the keeper can fail afterwards.

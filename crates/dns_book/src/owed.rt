@@ -102,7 +102,7 @@ fn owed_update(
     }
 }
 
-fn id_for(protocol: Protocol, id: u16) -> u16
+pub(crate) fn id_for(protocol: Protocol, id: u16) -> u16
     ensures { result ≡ id_for protocol id }
 {
     match protocol {
@@ -111,7 +111,7 @@ fn id_for(protocol: Protocol, id: u16) -> u16
     }
 }
 
-fn edns_for(code: u16, edns: Option<Edns>) -> Option<Edns>
+pub(crate) fn edns_for(code: u16, edns: Option<Edns>) -> Option<Edns>
     requires { code < 4096 }
     ensures is { result ≡ edns_for code edns }
     ensures payload { IfSome result (λ e. 512 ≤ e.payload) }

@@ -11,7 +11,8 @@ use Rattle.dns_zone_map.specs.Zone.{set_of}
 use Rattle.dns_zone_map.specs.Existence.{exists}
 use Rattle.dns_zone_map.specs.Sets.{AreSetsOf, TypesRise, set_in}
 use Rattle.dns_zone.specs.declared.look.Look.TheVariants.{NoData}
-use Rattle.dns_zone.specs.Look.{Owner, given, found_set, found_from, found_all, alias_of, first_of, look_at, alias_or, star_under, wildcard_under}
+use Rattle.dns_wire.specs.Given.{given}
+use Rattle.dns_zone.specs.Look.{Owner, found_set, found_from, found_all, alias_of, first_of, look_at, alias_or, star_under, wildcard_under}
 use Rattle.dns_zone.specs.Lent.{TypesFit, in_all, of_type, alias_in, look_in}
 use Rattle.dns_zone.proofs.AllTypes.{found-next, found-end}
 use Rattle.dns_zone.proofs.Owned.{set_is, sets_exist}

@@ -7,7 +7,8 @@ use Rattle.dns_name.specs.Name.{is_at_or_below, is_strictly_below}
 use Rattle.dns_wire.specs.declared.record.Record.{Record}
 use Rattle.dns_zone_map.specs.Zone.{Contents}
 use Rattle.dns_zone_map.specs.Existence.{owns_type}
-use Rattle.dns_zone.specs.Look.{is_cut, topmost, given}
+use Rattle.dns_wire.specs.Given.{given}
+use Rattle.dns_zone.specs.Look.{is_cut, topmost}
 
 -- records that are given no other owner
 pub given_none : (rs : List Record) → map (given None) rs ≡ rs

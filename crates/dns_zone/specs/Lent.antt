@@ -6,7 +6,8 @@ use Rattle.dns_wire.specs.declared.record_type.TheConstants.{CNAME, ANY}
 use Rattle.dns_zone_map.specs.declared.sets.RecordSet.{RecordSet}
 use Rattle.dns_zone_map.specs.Sets.{set_in, records_in}
 use Rattle.dns_zone.specs.declared.look.Look.{Look}
-use Rattle.dns_zone.specs.Look.{given, first_of, alias_or}
+use Rattle.dns_wire.specs.Given.{given}
+use Rattle.dns_zone.specs.Look.{first_of, alias_or}
 
 -- the records of a set, if there is one
 abbrev pub records_or_none : Option RecordSet → List Record

@@ -2,6 +2,7 @@ pub mod ZoneText
 pub mod Look
 pub mod Lookup
 pub mod Lent
+pub mod Parts
 pub mod Descent
 pub mod Beside
 pub mod Contexts

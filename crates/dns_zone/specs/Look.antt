@@ -4,6 +4,7 @@ use Rattle.std.specs.Prelude.{◌≡◌, ◌≤◌, ◌<◌, ◌++◌, ℕ, ◌+
 use Rattle.std.specs.List.{flat_map}
 use Rattle.dns_name.specs.Name.{fold_of, is_same_name, is_strictly_below}
 use Rattle.dns_wire.specs.declared.record.Record.{Record}
+use Rattle.dns_wire.specs.Given.{given}
 use Rattle.dns_wire.specs.declared.record_type.TheConstants.{NS, CNAME, DS, ANY}
 use Rattle.dns_zone_map.specs.Zone.{Contents, set_of}
 use Rattle.dns_zone_map.specs.Existence.{owns_type, exists}
@@ -70,11 +71,6 @@ abbrev pub owner_of : List Record → List (List ℕ) → Option Owner
 owner_of records name =
     if exists records name then Some (record { name = name; synthesized = None })
     else wildcard_under records name (closest_encloser records name)
-
--- the record with the owner, if one is given (RFC 4592 3.3.2)
-abbrev pub given : Option (List (List ℕ)) → Record → Record
-given None r = r
-given (Some owner) r = record { name = owner; rtype = r.rtype; class = r.class; ttl = r.ttl; rdata = r.rdata }
 
 -- the records of one type that answer
 abbrev pub found_set : List Record → Owner → ℕ → List Record

@@ -1,10 +1,11 @@
 -- What a question is answered with: a chain of looks along aliases (RFC 1034 4.3.2, RFC 2308 3, RFC 6604).
-use Rattle.std.specs.Prelude.{ℕ, ◌-◌, ◌==◌, if◌then◌else◌, length, min, zero, suc, Bool, true, false, not, ◌&&◌, List, [], ◌∷◌, ◌++◌, map, Option, Some, None, option_map, option_to_list}
+use Rattle.std.specs.Prelude.{ℕ, ◌-◌, ◌==◌, if◌then◌else◌, length, zero, suc, Bool, true, false, not, ◌&&◌, List, [], ◌∷◌, ◌++◌, map, Option, Some, None, option_map, option_to_list}
 use Rattle.std.specs.List.{list_any, flat_map}
 use Rattle.dns_name.specs.Name.{is_same_name, is_at_or_below}
 use Rattle.dns_wire.specs.declared.rdata.Data.{Data}
-use Rattle.dns_wire.specs.declared.rdata.Data.TheVariants.{Cname, Soa}
+use Rattle.dns_wire.specs.declared.rdata.Data.TheVariants.{Cname}
 use Rattle.dns_wire.specs.declared.record.Record.{Record}
+use Rattle.dns_wire.specs.Given.{negative}
 use Rattle.dns_wire.specs.declared.record_type.TheConstants.{SOA}
 use Rattle.dns_wire.specs.declared.response_code.TheConstants.{NO_ERROR, NX_DOMAIN}
 use Rattle.dns_zone_map.specs.Zone.{Contents, set_of}
@@ -13,15 +14,6 @@ use Rattle.dns_zone.specs.declared.look.Look.{Look}
 use Rattle.dns_zone.specs.declared.look.Look.TheVariants.{Referral, NoName, Alias, Found, NoData}
 use Rattle.dns_zone.specs.declared.lookup.Chain.{Chain}
 use Rattle.dns_zone.specs.declared.lookup.Looked.{Looked}
-
--- how long a name or set that is not there may be remembered: the lesser of the SOA's TTL and its minimum (RFC 2308 3)
-abbrev pub negative_ttl : Data → ℕ → ℕ
-negative_ttl (Soa mname rname serial refresh retry expire minimum) ttl = min ttl minimum
-negative_ttl rdata ttl = ttl
-
--- the SOA as it stands in a negative reply
-abbrev pub negative : Record → Record
-negative r = record { name = r.name; rtype = r.rtype; class = r.class; ttl = negative_ttl r.rdata r.ttl; rdata = r.rdata }
 
 -- the authority of a negative reply
 abbrev pub negative_soa : Contents → List Record

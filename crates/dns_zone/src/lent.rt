@@ -1,17 +1,16 @@
-//! Records as an answer gives them, lent by the zone: they are copied where the answer is put together.
+//! Records as an answer gives them, lent by the zone.
 
-ghost use Rattle.std.specs.Prelude.{◌≡◌, ◌++◌, ◌==◌, [], length, map, Some, IfOk, OnOk, option_map};
+ghost use Rattle.std.specs.Prelude.{◌≡◌, ◌++◌, ◌∷◌, ◌==◌, [], length, map, Some, IfOk, IfSome, OnOk, option_map};
 ghost use Rattle.std.specs.Option.{option_copied};
 ghost use Rattle.dns_name.specs.Name.{fold_of};
-ghost use Rattle.dns_zone.specs.Look.{given};
+ghost use Rattle.dns_wire.specs.Given.{given, in_parts};
 ghost use Rattle.dns_zone.specs.Lent.{in_all};
 ghost use Rattle.dns_zone.specs.Lookup.{target_of};
 
 use dns_io::OutOfMemory;
 use dns_name::Name;
-use dns_wire::{Data, Record};
+use dns_wire::{Data, LentRecords, Record};
 use dns_zone_map::RecordSet;
-use std::alloc::Global;
 use std::marker::Model;
 
 /// A record of a zone as an answer gives it: with its own owner, or where it is a wildcard's with the name that was asked,
@@ -29,7 +28,7 @@ impl<'a> Model for LentRecord<'a> {
 
     ghost Value = { Record };
 
-    ghost use Rattle.dns_zone.specs.Look.{given};
+    ghost use Rattle.dns_wire.specs.Given.{given};
 
     ghost view = { λ l. given (option_map (λ n. fold_of n.now) l.asked) l.one.now };
 }
@@ -42,11 +41,11 @@ impl<'a> LentRecord<'a> {
         LentRecord { one, asked }
     }
 
-    /// A copy of the record.
-    pub(crate) fn copy(&self, alloc: Global) -> Result<Record, OutOfMemory>
-        ensures { IfOk result (λ copy. copy ≡ self.now) }
+    /// The record as the only one of its set.
+    pub(crate) fn alone(&self) -> LentRecords<'a>
+        ensures { result ≡ self.now ∷ [] }
     {
-        copy_as(alloc, self.one, self.asked)
+        LentRecords::new(std::slice::from_ref(self.one), self.asked)
     }
 
     /// Where an alias leads.
@@ -67,59 +66,32 @@ fn target_of(one: &Record) -> Option<&Name>
     }
 }
 
-/// A copy of a record, with its own owner or the name that was asked.
-fn copy_as(alloc: Global, one: &Record, asked: Option<&Name>) -> Result<Record, OutOfMemory>
-    ensures { IfOk result (λ copy. copy ≡ given (option_map (λ n. fold_of n.now) asked.entry) one.now) }
-{
-    match asked {
-        None => one.copy(),
-        Some(asked) => Ok(Record {
-            name: asked.folded(alloc)?,
-            rtype: one.rtype,
-            class: one.class,
-            ttl: one.ttl,
-            rdata: one.rdata.copy()?,
-        }),
-    }
-}
-
 /// The records of sets of one name, each as an answer gives it.
 #[derive(Drop)]
-pub(crate) struct LentRecords<'a> {
+pub(crate) struct LentSets<'a> {
     sets: &'a [RecordSet],
     asked: Option<&'a Name>,
 }
 
-impl<'a> Model for LentRecords<'a> {
+impl<'a> Model for LentSets<'a> {
     ghost use Rattle.std.specs.Prelude.{List, map, option_map};
     ghost use Rattle.dns_name.specs.Name.{fold_of};
     ghost use Rattle.dns_wire.specs.declared.record.Record.{Record};
 
     ghost Value = { List Record };
 
-    ghost use Rattle.dns_zone.specs.Look.{given};
+    ghost use Rattle.dns_wire.specs.Given.{given};
     ghost use Rattle.dns_zone.specs.Lent.{in_all};
 
     ghost view = { λ l. map (given (option_map (λ n. fold_of n.now) l.asked)) (in_all l.sets.now) };
 }
 
-impl<'a> LentRecords<'a> {
+impl<'a> LentSets<'a> {
     /// The records of sets, with their own owner or the name that was asked.
-    pub(crate) fn new(sets: &'a [RecordSet], asked: Option<&'a Name>) -> LentRecords<'a>
+    pub(crate) fn new(sets: &'a [RecordSet], asked: Option<&'a Name>) -> LentSets<'a>
         ensures { result ≡ map (given (option_map (λ n. fold_of n.now) asked.entry)) (in_all sets.now) }
     {
-        LentRecords { sets, asked }
-    }
-
-    /// The records of a set, with their own owner.
-    #[tactic(auto, using(crate::proofs::Walk::given_none))]
-    pub(crate) fn own(set: &'a RecordSet) -> LentRecords<'a>
-        ensures { result ≡ set.now.records }
-    {
-        LentRecords {
-            sets: std::slice::from_ref(set),
-            asked: None,
-        }
+        LentSets { sets, asked }
     }
 
     /// Whether there are none.
@@ -129,11 +101,21 @@ impl<'a> LentRecords<'a> {
         are_empty(self.sets)
     }
 
-    /// Adds copies of the records at the end.
-    pub(crate) fn copy_to(&self, alloc: Global, out: &mut Vec<Record>) -> Result<(), OutOfMemory>
-        ensures { OnOk result (out.new.items ≡ out.old.items ++ self.now) }
+    /// The records, where they are those of one set.
+    pub(crate) fn only(&self) -> Option<LentRecords<'a>>
+        ensures { IfSome result (λ part. part ≡ self.now) }
     {
-        copy_sets(alloc, self.sets, self.asked, out)
+        match self.sets {
+            [set] => Some(LentRecords::new(set.records().as_slice(), self.asked)),
+            _ => None,
+        }
+    }
+
+    /// Adds the records of each set at the end, as a part.
+    pub(crate) fn add_to(&self, parts: &mut Vec<LentRecords<'a>>) -> Result<(), OutOfMemory>
+        ensures { OnOk result (in_parts parts.new.items ≡ in_parts parts.old.items ++ self.now) }
+    {
+        add_sets(self.sets, self.asked, parts)
     }
 }
 
@@ -149,33 +131,17 @@ fn are_empty(sets: &[RecordSet]) -> bool
     true
 }
 
-/// Adds copies of the records of sets at the end, with their own owner or the name that was asked.
-fn copy_sets(
-    alloc: Global,
-    sets: &[RecordSet],
-    asked: Option<&Name>,
-    out: &mut Vec<Record>,
+/// Adds the records of each set at the end, as a part, with their own owner or the name that was asked.
+fn add_sets<'a>(
+    sets: &'a [RecordSet],
+    asked: Option<&'a Name>,
+    parts: &mut Vec<LentRecords<'a>>,
 ) -> Result<(), OutOfMemory>
-    ensures { OnOk result (out.new.items ≡ out.old.items ++ map (given (option_map (λ n. fold_of n.now) asked.entry)) (in_all sets.now)) }
+    ensures { OnOk result (in_parts parts.new.items ≡ in_parts parts.old.items ++ map (given (option_map (λ n. fold_of n.now) asked.entry)) (in_all sets.now)) }
 {
+    parts.reserve(sets.len())?;
     for set in sets {
-        copy_set(alloc, set.records().as_slice(), asked, out)?;
-    }
-    Ok(())
-}
-
-/// Adds copies of records at the end, with their own owner or the name that was asked.
-fn copy_set(
-    alloc: Global,
-    records: &[Record],
-    asked: Option<&Name>,
-    out: &mut Vec<Record>,
-) -> Result<(), OutOfMemory>
-    ensures { OnOk result (out.new.items ≡ out.old.items ++ map (given (option_map (λ n. fold_of n.now) asked.entry)) records.now) }
-{
-    out.reserve(records.len())?;
-    for one in records {
-        out.push(copy_as(alloc, one, asked)?)?;
+        parts.push(LentRecords::new(set.records().as_slice(), asked))?;
     }
     Ok(())
 }

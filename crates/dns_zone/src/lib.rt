@@ -1,6 +1,7 @@
 //! A zone, what questions are answered with from it, and the text that it is read from.
 #![tactic(auto)]
 
+mod answer;
 mod descent;
 pub mod laws;
 mod lent;
@@ -12,6 +13,7 @@ mod update;
 mod zone;
 mod zone_text;
 
+pub use answer::{Answer, Parts};
 pub use dns_presentation::split_line;
 pub use dns_update::{Batch, Modified, ReplayKind, Verdict};
 pub use lookup::Looked;

@@ -9,10 +9,11 @@ ghost use Rattle.dns_zone.specs.Look.{found_or_none, look_at, look_of, wildcard_
 ghost use Rattle.dns_zone.specs.Lent.{alias_in, look_in, TypesFit};
 
 use crate::descent::{Descent, descend};
-use crate::lent::{LentRecord, LentRecords};
+use crate::lent::{LentRecord, LentSets};
 use crate::zone::Zone;
 use dns_io::OutOfMemory;
 use dns_name::Name;
+use dns_wire::LentRecords;
 use dns_wire::record_type::{ANY, CNAME};
 use dns_zone_map::{OwnerSets, RecordSet, ZoneKey, ZoneMap};
 use std::alloc::Global;
@@ -27,7 +28,7 @@ pub(crate) enum Look<'a> {
     /// An alias in place of what was asked for.
     Alias(LentRecord<'a>),
     /// What was asked for.
-    Found(LentRecords<'a>),
+    Found(LentSets<'a>),
     /// The name, but nothing of the type.
     NoData,
 }
@@ -47,12 +48,20 @@ pub(crate) fn look_of<'a>(
     let depth = name.label_count() - map.origin().label_count();
     let mut probe = Vec::new(alloc);
     match descend(map, &key, depth, &mut probe, rtype)? {
-        Descent::Cut(set) => Ok(Look::Referral(LentRecords::own(set))),
+        Descent::Cut(set) => Ok(Look::Referral(own(set))),
         Descent::Own(sets) => Ok(look_at(sets, None, rtype)),
         Descent::Encloser(labels_dropped) => {
             look_at_star(map, &key, labels_dropped, &mut probe, name, rtype)
         }
     }
+}
+
+/// The records of a set, with their own owner.
+#[tactic(auto, using(crate::proofs::Walk::given_none))]
+fn own(set: &RecordSet) -> LentRecords<'_>
+    ensures { result ≡ set.now.records }
+{
+    LentRecords::new(set.records().as_slice(), None)
 }
 
 /// What a look finds at the wildcard under the closest encloser of a name (RFC 4592 3.3.1), which is the name without its
@@ -104,11 +113,11 @@ fn look_in<'a>(sets: &'a OwnerSets, asked: Option<&'a Name>, rtype: u16) -> Look
         return Look::Alias(alias);
     }
     if rtype == ANY {
-        return found_or_none(LentRecords::new(all_of(sets), asked));
+        return found_or_none(LentSets::new(all_of(sets), asked));
     }
     match sets.set(rtype) {
         None => Look::NoData,
-        Some(set) => found_or_none(LentRecords::new(std::slice::from_ref(set), asked)),
+        Some(set) => found_or_none(LentSets::new(std::slice::from_ref(set), asked)),
     }
 }
 
@@ -143,7 +152,7 @@ fn alias_in<'a>(sets: &'a OwnerSets, asked: Option<&'a Name>, rtype: u16) -> Opt
     Some(LentRecord::new(one, asked))
 }
 
-fn found_or_none(found: LentRecords<'_>) -> Look<'_>
+fn found_or_none(found: LentSets<'_>) -> Look<'_>
     ensures { result ≡ found_or_none found.entry }
 {
     if found.is_empty() {

@@ -1,32 +1,34 @@
 //! What a question is answered with (RFC 1034 4.3.2, RFC 2308 3, RFC 6604).
 
-ghost use Rattle.std.specs.Prelude.{◌≡◌, ◌≤◌, ◌&&◌, not, true, [], map, IfOk, option_to_list};
+ghost use Rattle.std.specs.Prelude.{◌≡◌, ◌≤◌, ◌++◌, ◌&&◌, not, true, [], IfOk, OnOk, option_to_list};
 ghost use Rattle.std.specs.List.{list_any};
 ghost use Rattle.dns_name.specs.Name.{is_same_name, is_at_or_below};
 ghost use Rattle.dns_zone.specs.Look.{look_of};
-ghost use Rattle.dns_zone.specs.Lookup.{negative_ttl, negative, negative_soa, target_of, targets, asked_along, next_look, ahead, answered, followed, is_own, lookup_of};
+ghost use Rattle.dns_wire.specs.Given.{in_parts};
+ghost use Rattle.dns_zone.specs.Lookup.{negative_soa, target_of, targets, asked_along, next_look, ahead, answered, followed, is_own, lookup_of};
 
-use crate::lent::{LentRecord, LentRecords};
+use crate::answer::{Answer, Parts};
+use crate::lent::{LentRecord, LentSets};
 use crate::look::{Look, look_of};
 use crate::zone::Zone;
 use dns_io::OutOfMemory;
 use dns_name::Name;
 use dns_wire::response_code::{NO_ERROR, NX_DOMAIN};
-use dns_wire::{Data, Question, Record, Records};
+use dns_wire::{LentRecords, Question, Records};
 use std::alloc::Global;
 
 /// How many names may be asked along aliases, behind the first.
 const MORE_NAMES: u32 = 7;
 
 /// Where a chain of looks along aliases ended.
-#[derive(Debug, Drop)]
-struct Chain {
+#[derive(Drop)]
+struct Chain<'a> {
     code: u16,
-    answers: Records,
-    authority: Records,
+    answers: Parts<'a>,
+    authority: LentRecords<'a>,
 }
 
-/// The answer to a question.
+/// The answer to a question, with records of its own.
 #[derive(Debug, Drop)]
 pub struct Looked {
     /// NoError (0), or NXDomain (3) where the last name that was asked is not there.
@@ -45,21 +47,46 @@ impl Zone {
     /// At a cut or below it the answer is the referral. A name that is not there is answered by the wildcard under its
     /// closest encloser, if that is there (RFC 4592). Aliases are followed inside the zone, up to eight names and to
     /// none twice. `OutOfMemory` leaves the zone as it is.
-    pub fn lookup(&self, alloc: Global, question: &Question) -> Result<Looked, OutOfMemory>
+    pub fn answer<'a>(
+        &'a self,
+        alloc: Global,
+        question: &'a Question,
+    ) -> Result<Answer<'a>, OutOfMemory>
         requires { is_at_or_below question.now.name self.now.origin ≡ true }
-        ensures is { IfOk result (λ looked. looked ≡ lookup_of self.now question.now.name question.now.qtype) }
-        ensures code { IfOk result (λ looked. looked.code ≤ 3) }
+        ensures is { IfOk result (λ answer. record { code = answer.code; aa = answer.aa; answers = answer.answers; authority = answer.authority }
+            ≡ lookup_of self.now question.now.name question.now.qtype) }
+        ensures code { IfOk result (λ answer. answer.code ≤ 3) }
     {
         let name = &question.name;
         let look = look_of(alloc, self, name, question.qtype)?;
         let aa = is_own(&look);
         let aliases = Vec::new(alloc);
         let chain = follow(alloc, MORE_NAMES, self, name, question.qtype, look, aliases)?;
-        Ok(Looked {
-            code: chain.code,
+        let Chain {
+            code,
+            answers,
+            authority,
+        } = chain;
+        Ok(Answer {
+            code,
             aa,
-            answers: chain.answers,
-            authority: chain.authority,
+            answers,
+            authority,
+        })
+    }
+
+    /// The answer that `answer` lends, with records of its own.
+    pub fn lookup(&self, alloc: Global, question: &Question) -> Result<Looked, OutOfMemory>
+        requires { is_at_or_below question.now.name self.now.origin ≡ true }
+        ensures is { IfOk result (λ looked. looked ≡ lookup_of self.now question.now.name question.now.qtype) }
+        ensures code { IfOk result (λ looked. looked.code ≤ 3) }
+    {
+        let answer = self.answer(alloc, question)?;
+        Ok(Looked {
+            code: answer.code,
+            aa: answer.aa,
+            answers: answer.answers.copied(alloc)?,
+            authority: copied(alloc, &answer.authority)?,
         })
     }
 }
@@ -81,8 +108,8 @@ fn follow<'a>(
     first: &Name,
     rtype: u16,
     look: Look<'a>,
-    mut aliases: Vec<Record>,
-) -> Result<Chain, OutOfMemory>
+    mut aliases: Vec<LentRecord<'a>>,
+) -> Result<Chain<'a>, OutOfMemory>
     ensures is { IfOk result (λ chain. chain
         ≡ ahead aliases.items (answered zone.now look.entry (followed more zone.now rtype (asked_along first.now aliases.items)))) }
     ensures code { IfOk result (λ chain. chain.code ≤ 3) }
@@ -90,28 +117,25 @@ fn follow<'a>(
     match look {
         Look::Referral(ns) => Ok(Chain {
             code: NO_ERROR,
-            answers: Records::from_vec(aliases),
-            authority: copied(alloc, &ns)?,
+            answers: parts_of(alloc, &aliases)?,
+            authority: ns,
         }),
         Look::NoName => Ok(Chain {
             code: NX_DOMAIN,
-            answers: Records::from_vec(aliases),
-            authority: negative_soa(alloc, zone)?,
+            answers: parts_of(alloc, &aliases)?,
+            authority: negative_soa(zone),
         }),
         Look::NoData => Ok(Chain {
             code: NO_ERROR,
-            answers: Records::from_vec(aliases),
-            authority: negative_soa(alloc, zone)?,
+            answers: parts_of(alloc, &aliases)?,
+            authority: negative_soa(zone),
         }),
-        Look::Found(found) => {
-            found.copy_to(alloc, &mut aliases)?;
-            Ok(chain_end(alloc, aliases))
-        }
+        Look::Found(found) => Ok(chain_end(parts_before(alloc, &aliases, &found)?)),
         Look::Alias(one) => {
             let next = next_look(alloc, more, zone, first, rtype, &aliases, &one)?;
-            aliases.push(one.copy(alloc)?)?;
+            aliases.push(one)?;
             match next {
-                None => Ok(chain_end(alloc, aliases)),
+                None => Ok(chain_end(parts_of(alloc, &aliases)?)),
                 Some(look) => Ok(follow(alloc, more - 1, zone, first, rtype, look, aliases)?),
             }
         }
@@ -119,16 +143,59 @@ fn follow<'a>(
 }
 
 /// An answer with no authority.
-fn chain_end(alloc: Global, answers: Vec<Record>) -> Chain
+fn chain_end<'a>(answers: Parts<'a>) -> Chain<'a>
     ensures code { result.code ≡ 0 }
-    ensures answers { result.answers ≡ answers.items }
+    ensures answers { result.answers ≡ answers }
     ensures authority { result.authority ≡ [] }
 {
     Chain {
         code: NO_ERROR,
-        answers: Records::from_vec(answers),
-        authority: Records::new(alloc),
+        answers,
+        authority: LentRecords::none(),
     }
+}
+
+/// Aliases, each as a part.
+fn parts_of<'a>(alloc: Global, aliases: &[LentRecord<'a>]) -> Result<Parts<'a>, OutOfMemory>
+    ensures { IfOk result (λ parts. parts ≡ aliases.now) }
+{
+    let mut parts = Vec::new(alloc);
+    add_aliases(aliases, &mut parts)?;
+    Ok(Parts::from_vec(parts))
+}
+
+/// Aliases, each as a part, before the records that were found. Where there are no aliases, and one set was found, that takes no
+/// memory.
+fn parts_before<'a>(
+    alloc: Global,
+    aliases: &[LentRecord<'a>],
+    found: &LentSets<'a>,
+) -> Result<Parts<'a>, OutOfMemory>
+    ensures { IfOk result (λ parts. parts ≡ aliases.now ++ found.now) }
+{
+    if aliases.is_empty() {
+        if let Some(part) = found.only() {
+            return Ok(Parts::one(alloc, part));
+        }
+    }
+    let mut parts = Vec::new(alloc);
+    add_aliases(aliases, &mut parts)?;
+    found.add_to(&mut parts)?;
+    Ok(Parts::from_vec(parts))
+}
+
+/// Adds each alias at the end, as a part.
+fn add_aliases<'a>(
+    aliases: &[LentRecord<'a>],
+    parts: &mut Vec<LentRecords<'a>>,
+) -> Result<(), OutOfMemory>
+    ensures { OnOk result (in_parts parts.new.items ≡ in_parts parts.old.items ++ aliases.now) }
+{
+    parts.reserve(aliases.len())?;
+    for one in aliases {
+        parts.push(one.alone())?;
+    }
+    Ok(())
 }
 
 /// Copies of records.
@@ -147,7 +214,7 @@ fn next_look<'a>(
     zone: &'a Zone,
     first: &Name,
     rtype: u16,
-    aliases: &[Record],
+    aliases: &[LentRecord<'a>],
     one: &LentRecord<'a>,
 ) -> Result<Option<Look<'a>>, OutOfMemory>
     ensures { IfOk result (λ next. next ≡ next_look more zone.now rtype (asked_along first.now aliases.now) one.now) }
@@ -167,21 +234,21 @@ fn next_look<'a>(
 }
 
 /// Whether a target is inside the zone and was not asked yet.
-fn is_next(zone: &Zone, first: &Name, aliases: &[Record], target: &Name) -> bool
+fn is_next(zone: &Zone, first: &Name, aliases: &[LentRecord<'_>], target: &Name) -> bool
     ensures { result ≡ (is_at_or_below target.now zone.now.origin
         && not (list_any (is_same_name target.now) (asked_along first.now aliases.now))) }
 {
     target.at_or_below(zone.origin()) && !is_asked(first, aliases, target)
 }
 
-fn is_asked(first: &Name, aliases: &[Record], name: &Name) -> bool
+fn is_asked(first: &Name, aliases: &[LentRecord<'_>], name: &Name) -> bool
     ensures { result ≡ list_any (is_same_name name.now) (asked_along first.now aliases.now) }
 {
     name.same(first) || is_target(aliases, name)
 }
 
 /// Whether an alias leads to a name.
-fn is_target(aliases: &[Record], name: &Name) -> bool
+fn is_target(aliases: &[LentRecord<'_>], name: &Name) -> bool
     ensures { result ≡ list_any (is_same_name name.now) (targets aliases.now) }
 {
     for one in aliases {
@@ -192,49 +259,21 @@ fn is_target(aliases: &[Record], name: &Name) -> bool
     false
 }
 
-fn leads_to(one: &Record, name: &Name) -> bool
+fn leads_to(one: &LentRecord<'_>, name: &Name) -> bool
     ensures { result ≡ list_any (is_same_name name.now) (option_to_list (target_of one.now.rdata)) }
 {
-    match &one.rdata {
-        Data::Cname(target) => name.same(target),
-        _ => false,
+    match one.target() {
+        Some(target) => name.same(target),
+        None => false,
     }
 }
 
 /// The SOA for an answer that something is not there.
-fn negative_soa(alloc: Global, zone: &Zone) -> Result<Records, OutOfMemory>
-    ensures { IfOk result (λ soa. soa ≡ negative_soa zone.now) }
+fn negative_soa(zone: &Zone) -> LentRecords<'_>
+    ensures { result ≡ negative_soa zone.now }
 {
     match zone.soa() {
-        None => Ok(Records::new(alloc)),
-        Some(soa) => all_negative(alloc, soa.as_slice()),
-    }
-}
-
-/// Copies of SOAs for an answer that something is not there.
-fn all_negative(alloc: Global, records: &[Record]) -> Result<Records, OutOfMemory>
-    ensures { IfOk result (λ soa. soa ≡ map negative records.now) }
-{
-    let mut soa = Vec::with_capacity(alloc, records.len())?;
-    for one in records {
-        soa.push(negative(one)?)?;
-    }
-    Ok(Records::from_vec(soa))
-}
-
-fn negative(one: &Record) -> Result<Record, OutOfMemory>
-    ensures { IfOk result (λ copy. copy ≡ negative one.now) }
-{
-    let mut copy = one.copy()?;
-    copy.ttl = negative_ttl(&copy.rdata, copy.ttl);
-    Ok(copy)
-}
-
-fn negative_ttl(rdata: &Data, ttl: u32) -> u32
-    ensures { result ≡ negative_ttl rdata.now ttl }
-{
-    match rdata {
-        Data::Soa { minimum, .. } => ttl.min(*minimum),
-        _ => ttl,
+        None => LentRecords::none(),
+        Some(soa) => LentRecords::negative(soa.as_slice()),
     }
 }

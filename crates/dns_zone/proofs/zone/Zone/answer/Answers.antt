@@ -1,5 +1,5 @@
 use Rattle.dns_zone.proofs.Aliases.{looked_is}
-use Rattle.dns_zone.proofs.zone.Zone.lookup.Goals as goal
+use Rattle.dns_zone.proofs.zone.Zone.answer.Goals as goal
 
 pub returns-clause-is : goal.returns-clause-is
 returns-clause-is c =
