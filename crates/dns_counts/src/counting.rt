@@ -1,11 +1,9 @@
 //! How a counter grows.
 
-ghost use Rattle.std.specs.Prelude.{◌≡◌, ◌<◌, ◌≤◌, ◌==◌, ◌∷◌, [], length, IsTrue, IfSome, slice_set, slice_index};
+ghost use Rattle.std.specs.Prelude.{◌≡◌, ◌<◌, ◌≤◌, ◌==◌, ◌∷◌, [], length, replicate, IsTrue, IfSome, slice_set, slice_index};
 ghost use Rattle.dns_counts.specs.Counting.{raised, grown, seen_of, seen_or_unknown, are_distinct};
-ghost use Rattle.dns_counts.specs.Counters.{types_in, classes_in, classed};
+ghost use Rattle.dns_counts.specs.Labels.{unit};
 ghost use Rattle.std.specs.List.{position_from};
-
-use dns_wire::record_type::OPT;
 
 /// A count raised by a number; it stops at the greatest value.
 pub(crate) fn raise(count: u64, more: u64) -> u64
@@ -22,23 +20,33 @@ pub(crate) fn place_of(codes: &[u16], code: u16) -> Option<usize>
     codes.iter().position(|one| code == *one)
 }
 
-/// Raises the count at a place by one.
-fn raise_at(counts: &mut [u64], place: usize)
+/// Raises the count at a place by a number.
+pub(crate) fn raise_at(counts: &mut [u64], place: usize, more: u64)
     requires { place < length counts.old }
-    ensures { counts.new ≡ slice_set counts.old place (raised (slice_index counts.old place) 1) }
+    ensures { counts.new ≡ slice_set counts.old place (raised (slice_index counts.old place) more) }
 {
-    counts[place] = raise(counts[place], 1);
+    counts[place] = raise(counts[place], more);
 }
 
-/// Counts a code that was seen at its label, or at the last one where it is none of the codes.
-pub(crate) fn count_code(counts: &mut [u64], codes: &[u16], code: u16)
+/// Raises the count at a place by one where a flag is set.
+pub(crate) fn raise_where(counts: &mut [u64], place: usize, flag: bool)
+    requires { place < length counts.old }
+    ensures { counts.new ≡ slice_set counts.old place (raised (slice_index counts.old place) (unit flag)) }
+{
+    if flag {
+        raise_at(counts, place, 1);
+    }
+}
+
+/// Counts a code that was seen so many times at its label, or at the last one where it is none of the codes.
+pub(crate) fn count_code(counts: &mut [u64], codes: &[u16], code: u16, times: u64)
     requires room { length codes.now < length counts.old }
     requires distinct { IsTrue (are_distinct codes.now) }
-    ensures { counts.new ≡ grown counts.old (seen_or_unknown codes.now (code ∷ [])) }
+    ensures { counts.new ≡ grown counts.old (seen_or_unknown codes.now (replicate times code)) }
 {
     match place_of(codes, code) {
-        Some(place) => raise_at(counts, place),
-        None => raise_at(counts, codes.len()),
+        Some(place) => raise_at(counts, place, times),
+        None => raise_at(counts, codes.len(), times),
     }
 }
 
@@ -49,7 +57,7 @@ pub(crate) fn count_known(counts: &mut [u64], codes: &[u16], code: u16)
     ensures { counts.new ≡ grown counts.old (seen_of codes.now (code ∷ [])) }
 {
     match place_of(codes, code) {
-        Some(place) => raise_at(counts, place),
+        Some(place) => raise_at(counts, place, 1),
         None => {}
     }
 }
@@ -61,30 +69,5 @@ pub(crate) fn raise_each(counts: &mut [u64], more: &[u64])
 {
     for (place, number) in more.iter().enumerate() {
         counts[place] = raise(counts[place], *number);
-    }
-}
-
-/// Counts the type of each pair.
-pub(crate) fn count_types(counts: &mut [u64], codes: &[u16], pairs: &[(u16, u16)])
-    requires room { length codes.now < length counts.old }
-    requires distinct { IsTrue (are_distinct codes.now) }
-    ensures { counts.new ≡ grown counts.old (seen_or_unknown codes.now (types_in pairs.now)) }
-{
-    for one in pairs {
-        count_code(counts, codes, one.0);
-    }
-}
-
-/// Counts the class of each pair whose type is not OPT.
-pub(crate) fn count_classes(counts: &mut [u64], codes: &[u16], pairs: &[(u16, u16)])
-    requires room { length codes.now < length counts.old }
-    requires distinct { IsTrue (are_distinct codes.now) }
-    ensures { counts.new ≡ grown counts.old (seen_or_unknown codes.now (classes_in (classed pairs.now))) }
-{
-    for one in pairs {
-        if one.0 == OPT {
-            continue;
-        }
-        count_code(counts, codes, one.1);
     }
 }

@@ -3,11 +3,7 @@
 ghost use Rattle.std.specs.Prelude.{◌≡◌, ◌≤◌, length, map, is_some};
 ghost use Rattle.std.specs.List.{list_any};
 ghost use Rattle.std.specs.Str.{bytes_eq};
-ghost use Rattle.dns_counts.specs.Labels.{unit, flags_of as units_of, flags_in as units_in, protocol_units as units_for};
 ghost use Rattle.dns_counts.specs.Counters.{count_at};
-
-use dns_io::Protocol;
-use dns_wire::Header;
 
 pub(crate) const FLAGS: [&str; 6] = ["aa", "ad", "cd", "ra", "rd", "tc"];
 
@@ -104,56 +100,6 @@ pub(crate) const PROTOCOLS: [&str; 6] = ["udp", "tcp", "tls", "https", "quic", "
 
 /// The label of a counter that has none.
 pub(crate) const NO_LABELS: [&str; 1] = [""];
-
-/// 1 for a flag that is set.
-fn one_if(flag: bool) -> u64
-    ensures { result ≡ unit flag }
-{
-    if flag { 1 } else { 0 }
-}
-
-/// 1 for each flag that a header has, in the order of the labels.
-pub(crate) fn flags_of(header: &Header) -> [u64; 6]
-    ensures { result ≡ units_of header.now }
-{
-    [
-        one_if(header.aa),
-        one_if(header.ad),
-        one_if(header.cd),
-        one_if(header.ra),
-        one_if(header.rd),
-        one_if(header.tc),
-    ]
-}
-
-/// 1 for each flag that the third and fourth byte of a message have, read as one number, in the order of the labels.
-pub(crate) fn flags_in(word: u16) -> [u64; 6]
-    ensures { result ≡ units_in word }
-{
-    let word = u64::from(word);
-    [
-        word / 0x0400 % 2,
-        word / 0x0020 % 2,
-        word / 0x0010 % 2,
-        word / 0x0080 % 2,
-        word / 0x0100 % 2,
-        word / 0x0200 % 2,
-    ]
-}
-
-/// 1 for the label of a transport.
-pub(crate) fn protocol_units(protocol: Protocol) -> [u64; 6]
-    ensures { result ≡ units_for protocol }
-{
-    match protocol {
-        Protocol::Udp => [1, 0, 0, 0, 0, 0],
-        Protocol::Tcp => [0, 1, 0, 0, 0, 0],
-        Protocol::Tls => [0, 0, 1, 0, 0, 0],
-        Protocol::Https => [0, 0, 0, 1, 0, 0],
-        Protocol::Quic => [0, 0, 0, 0, 1, 0],
-        Protocol::H3 => [0, 0, 0, 0, 0, 1],
-    }
-}
 
 /// The count at the place of a label.
 pub(crate) fn count_of_label(labels: &[&str], counts: &[u64], label: &str) -> Option<u64>
