@@ -1,9 +1,12 @@
 -- A code that is seen several times raises one count by that number.
-use Rattle.std.proofs.Common.{◌≡◌, ℕ, zero, suc, ◌<◌, List, [], ◌∷◌, length, false, true, ◌==◌, get_or, set, replicate, refl, sym, ◌∙◌, ap, arith, set-set, get_or-set_same, length-set}
+use Rattle.std.proofs.Common.{◌≡◌, ℕ, zero, suc, ◌<◌, List, [], ◌∷◌, length, false, true, ◌==◌, get_or, set, replicate, refl, sym, ◌∙◌, ap, arith, set-set, get_or-set_same, length-set, Option, Some, None}
+use Rattle.std.specs.Prelude.{unwrap_or}
+use Rattle.std.specs.List.{position_from}
 use Rattle.std.proofs.lemmas.List.{set-get_or}
-use Rattle.dns_counts.specs.Counting.{raised, grown, seen_or_unknown}
+use Rattle.dns_counts.specs.Counting.{raised, grown, seen_or_unknown, are_distinct}
 use Rattle.dns_counts.specs.Counters.{types_in, classes_in, classed}
-use Rattle.dns_counts.proofs.Counted.{counted-more, counted-none}
+use Rattle.dns_counts.proofs.Counted.{counted-more, counted-none, counted-place, counted-nowhere}
+use Rattle.dns_counts.proofs.Following.{eqb-same}
 
 no-more : (counts : List ℕ) (at : ℕ) → set counts at (raised (get_or counts at 0) 0) ≡ counts
 no-more counts at =
@@ -44,3 +47,14 @@ classes-run (suc k) pair other = let ih = classes-run k pair other in rw other (
 pub classes-none : (k : ℕ) (pair : ℕ × ℕ) → (pair.0 == 41) ≡ true → classes_in (classed (replicate k pair)) ≡ []
 classes-none zero pair same = refl
 classes-none (suc k) pair same = let ih = classes-none k pair same in rw same ih
+
+-- counted once at the place of a code, or at the last
+pub counted-there : (s : ℕ) (codes counts : List ℕ) (place : Option ℕ) → position_from (λ one. s == one) 0 codes ≡ place → are_distinct codes ≡ true
+    → set counts (unwrap_or place (length codes)) (raised (get_or counts (unwrap_or place (length codes)) 0) 1) ≡ grown counts (seen_or_unknown codes (s ∷ []))
+counted-there s codes counts (Some at) found distinct = counted-place s codes counts at found distinct
+counted-there s codes counts None absent distinct = counted-nowhere s codes counts absent distinct
+
+-- the first code is found at once
+pub first-place : (s d : ℕ) (codes : List ℕ) → 0 < length codes → s ≡ get_or codes 0 d → position_from (λ one. s == one) 0 codes ≡ Some 0
+first-place s d [] some same = absurd (omega arith)
+first-place s d (c ∷ cs) some same = let e : (s == c) ≡ true = eqb-same s c same in rw e refl

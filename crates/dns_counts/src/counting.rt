@@ -1,6 +1,6 @@
 //! How a counter grows.
 
-ghost use Rattle.std.specs.Prelude.{◌≡◌, ◌<◌, ◌≤◌, ◌==◌, ◌∷◌, [], length, replicate, IsTrue, IfSome, slice_set, slice_index};
+ghost use Rattle.std.specs.Prelude.{◌≡◌, ◌<◌, ◌≤◌, ◌==◌, ◌∷◌, [], length, replicate, unwrap_or, IsTrue, IfSome, slice_set, slice_index};
 ghost use Rattle.dns_counts.specs.Counting.{raised, grown, seen_of, seen_or_unknown, are_distinct};
 ghost use Rattle.dns_counts.specs.Labels.{unit};
 ghost use Rattle.std.specs.List.{position_from};
@@ -13,7 +13,7 @@ pub(crate) fn raise(count: u64, more: u64) -> u64
 }
 
 /// Where a code stands among others.
-pub(crate) fn place_of(codes: &[u16], code: u16) -> Option<usize>
+fn place_of(codes: &[u16], code: u16) -> Option<usize>
     ensures place { result ≡ position_from (λ one. code == one) 0 codes.now }
     ensures within { IfSome result (λ place. place < length codes.now) }
 {
@@ -38,20 +38,61 @@ pub(crate) fn raise_where(counts: &mut [u64], place: usize, flag: bool)
     }
 }
 
-/// Counts a code that was seen so many times at its label, or at the last one where it is none of the codes.
+/// Where a code is counted: at its label, or at the last one where it is none of the codes.
+pub(crate) fn place_or_last(codes: &[u16], code: u16) -> usize
+    ensures place { result ≡ unwrap_or (position_from (λ one. code == one) 0 codes.now) (length codes.now) }
+    ensures within { result ≤ length codes.now }
+{
+    match place_of(codes, code) {
+        Some(place) => place,
+        None => codes.len(),
+    }
+}
+
+/// Counts a code that was seen so many times at its label, or at the last one where it is none of the codes. The first of
+/// the codes is the common one: it is not sought.
+#[inline]
 pub(crate) fn count_code(counts: &mut [u64], codes: &[u16], code: u16, times: u64)
+    requires some { 0 < length codes.now }
     requires room { length codes.now < length counts.old }
     requires distinct { IsTrue (are_distinct codes.now) }
     ensures { counts.new ≡ grown counts.old (seen_or_unknown codes.now (replicate times code)) }
 {
-    match place_of(codes, code) {
-        Some(place) => raise_at(counts, place, times),
-        None => raise_at(counts, codes.len(), times),
+    if code == codes[0] {
+        raise_at(counts, 0, times);
+    } else {
+        count_sought(counts, codes, code, times);
+    }
+}
+
+/// Counts a code that was seen so many times at its label, or at the last one where it is none of the codes.
+#[inline(never)]
+fn count_sought(counts: &mut [u64], codes: &[u16], code: u16, times: u64)
+    requires room { length codes.now < length counts.old }
+    requires distinct { IsTrue (are_distinct codes.now) }
+    ensures { counts.new ≡ grown counts.old (seen_or_unknown codes.now (replicate times code)) }
+{
+    raise_at(counts, place_or_last(codes, code), times);
+}
+
+/// Counts a code that was seen at its label, where it has one. The first of the codes is not sought.
+#[inline]
+pub(crate) fn count_known(counts: &mut [u64], codes: &[u16], code: u16)
+    requires some { 0 < length codes.now }
+    requires room { length codes.now ≤ length counts.old }
+    requires distinct { IsTrue (are_distinct codes.now) }
+    ensures { counts.new ≡ grown counts.old (seen_of codes.now (code ∷ [])) }
+{
+    if code == codes[0] {
+        raise_at(counts, 0, 1);
+    } else {
+        count_known_sought(counts, codes, code);
     }
 }
 
 /// Counts a code that was seen at its label, where it has one.
-pub(crate) fn count_known(counts: &mut [u64], codes: &[u16], code: u16)
+#[inline(never)]
+fn count_known_sought(counts: &mut [u64], codes: &[u16], code: u16)
     requires room { length codes.now ≤ length counts.old }
     requires distinct { IsTrue (are_distinct codes.now) }
     ensures { counts.new ≡ grown counts.old (seen_of codes.now (code ∷ [])) }

@@ -1,34 +1,26 @@
 //! The types and classes of questions and answers, as they are counted.
 
-ghost use Rattle.std.specs.Prelude.{◌≡◌, ◌<◌, ◌==◌, length, replicate, IfSome};
+ghost use Rattle.std.specs.Prelude.{◌≡◌, ◌<◌, ◌==◌, ◌≤◌, length, replicate, unwrap_or};
 ghost use Rattle.dns_counts.specs.Counting.{grown, seen_or_unknown};
 ghost use Rattle.dns_counts.specs.Counters.{types_in, classes_in, classed};
 ghost use Rattle.dns_counts.specs.Pairs.{pairs_of};
 ghost use Rattle.std.specs.List.{position_from};
 
-use crate::counting::{count_code, place_of, raise_at};
-use crate::labels::{CLASS_CODES, TYPE_CODES};
+use crate::counting::{count_code, place_or_last, raise_at};
+use crate::labels::{CLASS_CODES, TYPE_CODES, TYPE_PLACES};
 use crate::pairs::{Form, Pairs};
 use dns_wire::record_type::OPT;
 
-/// Where a type stands among those that have a label. The common ones are not sought.
-fn place_of_type(code: u16) -> Option<usize>
-    ensures place { result ≡ position_from (λ one. code == one) 0 TYPE_CODES }
-    ensures within { IfSome result (λ place. place < length TYPE_CODES) }
+/// Where a type is counted: at its label, or at the last one where it has none. The common types are not sought.
+fn place_of_type(code: u16) -> usize
+    ensures place { result ≡ unwrap_or (position_from (λ one. code == one) 0 TYPE_CODES) (length TYPE_CODES) }
+    ensures within { result ≤ length TYPE_CODES }
 {
-    match code {
-        1 => Some(1),
-        2 => Some(2),
-        5 => Some(3),
-        6 => Some(4),
-        12 => Some(6),
-        15 => Some(8),
-        16 => Some(9),
-        28 => Some(12),
-        33 => Some(13),
-        65 => Some(31),
-        255 => Some(35),
-        _ => place_of(&TYPE_CODES, code),
+    let index = usize::from(code);
+    if index < TYPE_PLACES.len() {
+        usize::from(TYPE_PLACES[index])
+    } else {
+        place_or_last(&TYPE_CODES, code)
     }
 }
 
@@ -37,10 +29,7 @@ pub(crate) fn count_type(counts: &mut [u64], code: u16, times: u64)
     requires { length TYPE_CODES < length counts.old }
     ensures { counts.new ≡ grown counts.old (seen_or_unknown TYPE_CODES (replicate times code)) }
 {
-    match place_of_type(code) {
-        Some(place) => raise_at(counts, place, times),
-        None => raise_at(counts, TYPE_CODES.len(), times),
-    }
+    raise_at(counts, place_of_type(code), times);
 }
 
 /// Counts a class that was seen so many times.

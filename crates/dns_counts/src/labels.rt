@@ -50,6 +50,13 @@ pub(crate) const TYPE_CODES: [u16; 38] = [
     53, 59, 60, 61, 62, 64, 65, 250, 251, 252, 255, 257, 65305,
 ];
 
+/// The place of each type below 66 among the labels of types: 38, the last one, for a type that has none.
+pub(crate) const TYPE_PLACES: [u8; 66] = [
+    0, 1, 2, 38, 38, 3, 4, 38, 38, 38, 5, 38, 6, 7, 38, 8, 9, 38, 38, 38, 38, 38, 38, 38, 10, 11,
+    38, 38, 12, 38, 38, 38, 38, 13, 38, 14, 38, 15, 38, 38, 38, 16, 38, 17, 18, 38, 19, 20, 21, 38,
+    22, 23, 24, 25, 38, 38, 38, 38, 38, 26, 27, 28, 29, 38, 30, 31,
+];
+
 pub(crate) const TYPES: [&str; 39] = [
     "zero",
     "a",
