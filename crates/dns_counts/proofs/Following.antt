@@ -1,5 +1,5 @@
 -- A loop over the pairs of a reply's answers counts the code of one after the other.
-use Rattle.std.proofs.Common.{◌≡◌, ◌≢◌, ℕ, ◌+◌, ◌<◌, ◌≤◌, List, [], ◌∷◌, length, false, ◌==◌, get_or, drop, sym, ◌∙◌, arith}
+use Rattle.std.proofs.Common.{◌≡◌, ◌≢◌, ℕ, ◌+◌, ◌<◌, ◌≤◌, List, [], ◌∷◌, length, true, false, ◌==◌, get_or, drop, sym, ◌∙◌, arith}
 use Rattle.std.proofs.Math.ListN.{drop_of_length-le}
 use Rattle.std.proofs.lemmas.List.{drop_more}
 use Rattle.std.proofs.lemmas.Bool.Decides.{eqb_tells}
@@ -11,7 +11,10 @@ pub type-first : (pairs : List (ℕ × ℕ)) (i : ℕ) (d : ℕ × ℕ) → i < 
     → types_in (drop i pairs) ≡ (get_or pairs i d).0 ∷ types_in (drop (i + 1) pairs)
 type-first pairs i d within = rw (drop_more pairs i d within)
 
-eqb-other : (a b : ℕ) → a ≢ b → (a == b) ≡ false
+pub eqb-same : (a b : ℕ) → a ≡ b → (a == b) ≡ true
+eqb-same a b same = grind (arith, eqb_tells a b)
+
+pub eqb-other : (a b : ℕ) → a ≢ b → (a == b) ≡ false
 eqb-other a b other = grind (arith, eqb_tells a b)
 
 pub class-first : (pairs : List (ℕ × ℕ)) (i : ℕ) (d : ℕ × ℕ) → i < length pairs → (get_or pairs i d).0 ≢ 41

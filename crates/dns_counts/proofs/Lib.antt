@@ -1,3 +1,5 @@
 pub mod Counted
 pub mod Following
+pub mod Places
+pub mod Runs
 pub mod Totalled

@@ -2,4 +2,5 @@ pub mod Counting
 pub mod Labels
 pub mod Counters
 pub mod Direction
+pub mod Pairs
 pub mod Totals

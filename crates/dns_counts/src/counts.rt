@@ -4,11 +4,12 @@ ghost use Rattle.std.specs.Prelude.{◌≡◌, is_some};
 ghost use Rattle.dns_counts.specs.Counters.{no_counts, recorded, changed, count_of, has_label};
 
 use crate::asked::{Asked, Replied};
-use crate::counting::{count_classes, count_code, count_known, count_types, raise_each};
+use crate::counting::{count_code, count_known, raise_each};
+use crate::flags::{count_flags, count_flags_in, count_protocol};
+use crate::kinds::{count_class, count_classes, count_type, count_types};
 use crate::labels::{
-    CLASS_CODES, CLASSES, FLAGS, LOOKUP_CODES, LOOKUPS, MODIFICATIONS, NO_LABELS, OPERATION_CODES,
-    OPERATIONS, PROTOCOLS, RECORDS, RESPONSE_CODES, RESPONSES, TYPE_CODES, TYPES, count_of_label,
-    flags_in, flags_of, protocol_units,
+    CLASSES, FLAGS, LOOKUP_CODES, LOOKUPS, MODIFICATIONS, NO_LABELS, OPERATION_CODES, OPERATIONS,
+    PROTOCOLS, RECORDS, RESPONSE_CODES, RESPONSES, TYPES, count_of_label,
 };
 use crate::names::*;
 use std::marker::Model;
@@ -66,34 +67,28 @@ impl Counts {
         }
     }
 
-    /// Counts a message and its reply. The work grows with the number of answers alone.
+    /// Counts a message and its reply. The work grows with the number of answers alone, and not with that of a run of one type and
+    /// class.
     pub fn record(&mut self, asked: &Asked, replied: &Replied)
         ensures { self.new ≡ recorded asked.now replied.now self.old }
     {
-        raise_each(&mut self.request_flags, &flags_of(&asked.header));
-        raise_each(&mut self.response_flags, &flags_in(replied.flags));
+        count_flags(&mut self.request_flags, &asked.header);
+        count_flags_in(&mut self.response_flags, replied.flags);
         count_code(
             &mut self.operations,
             &OPERATION_CODES,
             u16::from(asked.header.opcode),
+            1,
         );
         count_known(&mut self.responses, &RESPONSE_CODES, replied.code);
-        raise_each(&mut self.protocols, &protocol_units(asked.protocol));
+        count_protocol(&mut self.protocols, asked.protocol);
         match asked.question {
             Some(question) => {
                 count_known(&mut self.lookups, &LOOKUP_CODES, replied.code);
-                count_code(&mut self.request_types, &TYPE_CODES, question.0);
-                count_code(&mut self.request_classes, &CLASS_CODES, question.1);
-                count_types(
-                    &mut self.response_types,
-                    &TYPE_CODES,
-                    replied.answers.as_slice(),
-                );
-                count_classes(
-                    &mut self.response_classes,
-                    &CLASS_CODES,
-                    replied.answers.as_slice(),
-                );
+                count_type(&mut self.request_types, question.0, 1);
+                count_class(&mut self.request_classes, question.1, 1);
+                count_types(&mut self.response_types, &replied.answers);
+                count_classes(&mut self.response_classes, &replied.answers);
             }
             None => {}
         }

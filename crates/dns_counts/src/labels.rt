@@ -3,11 +3,7 @@
 ghost use Rattle.std.specs.Prelude.{◌≡◌, ◌≤◌, length, map, is_some};
 ghost use Rattle.std.specs.List.{list_any};
 ghost use Rattle.std.specs.Str.{bytes_eq};
-ghost use Rattle.dns_counts.specs.Labels.{unit, flags_of as units_of, flags_in as units_in, protocol_units as units_for};
 ghost use Rattle.dns_counts.specs.Counters.{count_at};
-
-use dns_io::Protocol;
-use dns_wire::Header;
 
 pub(crate) const FLAGS: [&str; 6] = ["aa", "ad", "cd", "ra", "rd", "tc"];
 
@@ -52,6 +48,13 @@ pub(crate) const CLASSES: [&str; 6] = ["in", "ch", "hs", "none", "any", "unknown
 pub(crate) const TYPE_CODES: [u16; 38] = [
     0, 1, 2, 5, 6, 10, 12, 13, 15, 16, 24, 25, 28, 33, 35, 37, 41, 43, 44, 46, 47, 48, 50, 51, 52,
     53, 59, 60, 61, 62, 64, 65, 250, 251, 252, 255, 257, 65305,
+];
+
+/// The place of each type below 66 among the labels of types: 38, the last one, for a type that has none.
+pub(crate) const TYPE_PLACES: [u8; 66] = [
+    0, 1, 2, 38, 38, 3, 4, 38, 38, 38, 5, 38, 6, 7, 38, 8, 9, 38, 38, 38, 38, 38, 38, 38, 10, 11,
+    38, 38, 12, 38, 38, 38, 38, 13, 38, 14, 38, 15, 38, 38, 38, 16, 38, 17, 18, 38, 19, 20, 21, 38,
+    22, 23, 24, 25, 38, 38, 38, 38, 38, 26, 27, 28, 29, 38, 30, 31,
 ];
 
 pub(crate) const TYPES: [&str; 39] = [
@@ -104,56 +107,6 @@ pub(crate) const PROTOCOLS: [&str; 6] = ["udp", "tcp", "tls", "https", "quic", "
 
 /// The label of a counter that has none.
 pub(crate) const NO_LABELS: [&str; 1] = [""];
-
-/// 1 for a flag that is set.
-fn one_if(flag: bool) -> u64
-    ensures { result ≡ unit flag }
-{
-    if flag { 1 } else { 0 }
-}
-
-/// 1 for each flag that a header has, in the order of the labels.
-pub(crate) fn flags_of(header: &Header) -> [u64; 6]
-    ensures { result ≡ units_of header.now }
-{
-    [
-        one_if(header.aa),
-        one_if(header.ad),
-        one_if(header.cd),
-        one_if(header.ra),
-        one_if(header.rd),
-        one_if(header.tc),
-    ]
-}
-
-/// 1 for each flag that the third and fourth byte of a message have, read as one number, in the order of the labels.
-pub(crate) fn flags_in(word: u16) -> [u64; 6]
-    ensures { result ≡ units_in word }
-{
-    let word = u64::from(word);
-    [
-        word / 0x0400 % 2,
-        word / 0x0020 % 2,
-        word / 0x0010 % 2,
-        word / 0x0080 % 2,
-        word / 0x0100 % 2,
-        word / 0x0200 % 2,
-    ]
-}
-
-/// 1 for the label of a transport.
-pub(crate) fn protocol_units(protocol: Protocol) -> [u64; 6]
-    ensures { result ≡ units_for protocol }
-{
-    match protocol {
-        Protocol::Udp => [1, 0, 0, 0, 0, 0],
-        Protocol::Tcp => [0, 1, 0, 0, 0, 0],
-        Protocol::Tls => [0, 0, 1, 0, 0, 0],
-        Protocol::Https => [0, 0, 0, 1, 0, 0],
-        Protocol::Quic => [0, 0, 0, 0, 1, 0],
-        Protocol::H3 => [0, 0, 0, 0, 0, 1],
-    }
-}
 
 /// The count at the place of a label.
 pub(crate) fn count_of_label(labels: &[&str], counts: &[u64], label: &str) -> Option<u64>

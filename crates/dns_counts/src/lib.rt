@@ -6,6 +6,8 @@ mod asked;
 mod counting;
 mod counts;
 mod direction;
+mod flags;
+mod kinds;
 mod labels;
 pub mod laws;
 mod names;

@@ -1,9 +1,12 @@
-use Rattle.std.proofs.Common.{◌∙◌, sym}
-use Rattle.dns_counts.proofs.Counted.{counted-place, counted-nowhere}
+use Rattle.std.proofs.Common.{◌∙◌, arith}
+use Rattle.dns_counts.proofs.Counted.{counted-place}
+use Rattle.dns_counts.proofs.Runs.{counted-run, first-place}
 use Rattle.dns_counts.proofs.counting.count_code.Goals as goal
 
-pub returns-in-Some : goal.returns-in-Some
-returns-in-Some c = c.raise_at.ensures ∙ counted-place _ _ _ _ (sym c.in-Some.ensures.place) c.requires.distinct
-
-pub returns-in-None : goal.returns-in-None
-returns-in-None c = c.raise_at-in-None.ensures ∙ counted-nowhere _ _ _ (sym c.in-None.ensures.place) c.requires.distinct
+pub returns-then-code-codes : goal.returns-then-code-codes
+returns-then-code-codes c =
+    c.raise_at.ensures
+    ∙ counted-run c.args.code c.args.times 0 c.args.codes.now c.args.counts.now (omega (arith, c.requires.room))
+    (λ ns.
+    counted-place c.args.code c.args.codes.now ns 0 (first-place c.args.code 0 c.args.codes.now c.requires.some c.if-code-codes.true)
+    c.requires.distinct)

@@ -1,9 +1,10 @@
-use Rattle.std.proofs.Common.{◌∙◌, sym}
-use Rattle.dns_counts.proofs.Counted.{known-place, known-nowhere}
+use Rattle.std.proofs.Common.{◌∙◌}
+use Rattle.dns_counts.proofs.Counted.{known-place}
+use Rattle.dns_counts.proofs.Runs.{first-place}
 use Rattle.dns_counts.proofs.counting.count_known.Goals as goal
 
-pub returns-in-Some : goal.returns-in-Some
-returns-in-Some c = c.raise_at.ensures ∙ known-place _ _ _ _ (sym c.in-Some.ensures.place) c.requires.distinct
-
-pub returns-in-None : goal.returns-in-None
-returns-in-None c = known-nowhere _ _ _ (sym c.in-None.ensures.place)
+pub returns-then-code-codes : goal.returns-then-code-codes
+returns-then-code-codes c =
+    c.raise_at.ensures
+    ∙ known-place c.args.code c.args.codes.now c.args.counts.now 0
+    (first-place c.args.code 0 c.args.codes.now c.requires.some c.if-code-codes.true) c.requires.distinct
