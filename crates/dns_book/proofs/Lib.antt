@@ -10,4 +10,5 @@ pub mod Deciding
 pub mod Replying
 pub mod FirstBits
 pub mod Fronts
+pub mod InPlace
 pub mod ReadRows
