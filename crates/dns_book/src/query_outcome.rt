@@ -96,9 +96,9 @@ fn ready_answer(
     question: &Question,
     answer: Answer<'_>,
 ) -> Result<ReadyReply, OutOfMemory>
-    requires { answer.code ≤ 3 }
+    requires { answer.entry.code ≤ 3 }
     ensures { IfOk result (IsReady request.now.protocol (looked_reply request.now question.now
-        (record { code = answer.code; aa = answer.aa; answers = answer.answers; authority = answer.authority }))) }
+        (record { code = answer.entry.code; aa = answer.entry.aa; answers = answer.entry.answers; authority = answer.entry.authority }))) }
 {
     let Answer {
         code,

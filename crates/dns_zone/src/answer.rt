@@ -43,7 +43,7 @@ impl<'a> Model for Parts<'a> {
 impl<'a> Parts<'a> {
     /// One part alone. Takes no memory.
     pub(crate) fn one(alloc: Global, part: LentRecords<'a>) -> Parts<'a>
-        ensures { result ≡ part }
+        ensures { result ≡ part.entry }
     {
         Parts {
             only: Some(part),
@@ -53,7 +53,7 @@ impl<'a> Parts<'a> {
 
     /// The parts of a vector.
     pub(crate) fn from_vec(parts: Vec<LentRecords<'a>>) -> Parts<'a>
-        ensures { result ≡ in_parts parts.items }
+        ensures { result ≡ in_parts parts.entry.items }
     {
         Parts {
             only: None,

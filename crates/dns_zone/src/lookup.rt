@@ -111,7 +111,7 @@ fn follow<'a>(
     mut aliases: Vec<LentRecord<'a>>,
 ) -> Result<Chain<'a>, OutOfMemory>
     ensures is { IfOk result (λ chain. chain
-        ≡ ahead aliases.items (answered zone.now look.entry (followed more zone.now rtype (asked_along first.now aliases.items)))) }
+        ≡ ahead aliases.entry.items (answered zone.now look.entry (followed more zone.now rtype (asked_along first.now aliases.entry.items)))) }
     ensures code { IfOk result (λ chain. chain.code ≤ 3) }
 {
     match look {
@@ -145,7 +145,7 @@ fn follow<'a>(
 /// An answer with no authority.
 fn chain_end<'a>(answers: Parts<'a>) -> Chain<'a>
     ensures code { result.code ≡ 0 }
-    ensures answers { result.answers ≡ answers }
+    ensures answers { result.answers ≡ answers.entry }
     ensures authority { result.authority ≡ [] }
 {
     Chain {
