@@ -1,5 +1,5 @@
 -- A query that is looked at and not built: what is decided of it.
-use Rattle.std.proofs.Common.{◌≡◌, ℕ, List, [], ◌∷◌, Bool, true, false, not, is_err, if◌then◌else◌, Option, Some, None, refl, sym, ap, ◌∙◌, subst}
+use Rattle.std.proofs.Common.{◌≡◌, ℕ, List, [], ◌∷◌, Bool, true, false, not, is_err, is_some, if◌then◌else◌, Option, Some, None, refl, sym, ap, ◌∙◌, subst}
 use Rattle.std.specs.Prelude.{◌==◌, ◌||◌, IfSome}
 use Rattle.dns_name.specs.Name.{is_at_or_below}
 use Rattle.dns_wire.specs.declared.header.Header.{Header}
@@ -16,6 +16,9 @@ use Rattle.dns_book.specs.declared.decision.Request.{Request}
 use Rattle.dns_book.specs.declared.decision.Decision.{Decision}
 use Rattle.dns_book.specs.declared.decision.Case.{Case}
 use Rattle.dns_book.specs.declared.decision.Case.TheVariants.{Query, UnsupportedVersion, NotImplemented, Foreign, Update}
+use Rattle.dns_book.specs.declared.outcome.Change.{Change}
+use Rattle.dns_book.specs.declared.outcome.Outcome.{Outcome}
+use Rattle.dns_book.specs.Outcome.{ArePassing, updates_in, IsOutcome, IsMade, ComesTo}
 use Rattle.dns_book.specs.Access.{Access, lets_in}
 use Rattle.dns_book.specs.Sources.{sanitized}
 use Rattle.dns_book.specs.Cases.{is_newer, is_foreign, query_case, question_case, only_question, message_case, request_in, request_of, request_by, Decides, read}
@@ -64,3 +67,33 @@ own_name zone q own =
     let b = or_false _ _ a.0 in
     let d = or_false _ _ b.0 in
     not_false _ d.1
+
+-- what a message comes to that is owed a reply
+pub made_at : (zone : Contents) (allow_update : Bool) (access : Access) (ask : Ask) (found : Option Outcome) (outcome : Outcome) → ComesTo zone allow_update access ask found → found ≡ Some outcome
+    → IsMade zone allow_update access ask outcome
+made_at zone allow_update access ask found outcome comes is = subst (ComesTo zone allow_update access ask) is comes
+
+-- and that it is owed none
+pub silent_at : (zone : Contents) (allow_update : Bool) (access : Access) (ask : Ask) (found : Option Outcome) → ComesTo zone allow_update access ask found → found ≡ None
+    → Decides zone access ask None
+silent_at zone allow_update access ask found comes is = subst (ComesTo zone allow_update access ask) is comes
+
+-- a query in place comes to what was made of it
+pub comes_some : (zone : Contents) (allow_update : Bool) (access : Access) (ask : Ask) (found : Option Outcome) → is_some found ≡ true → IfSome found (IsMade zone allow_update access ask)
+    → ComesTo zone allow_update access ask found
+comes_some zone allow_update access ask None some made = absurd cc
+comes_some zone allow_update access ask (Some outcome) some made = made
+
+idle_passes : (zone : Contents) (change : Option Change) → change ≡ None → ArePassing zone (updates_in change)
+idle_passes zone change is = subst (λ (c : Option Change). ArePassing zone (updates_in c)) (sym is) tt
+
+-- a query in place was made ready
+pub made_in_place : (zone : Contents) (allow_update : Bool) (access : Access) (ask : Ask) (request : Request) (question : Question) (outcome : Outcome)
+    → Decides zone access ask (Some (record { request = request; case = Query question })) → IsOutcome zone allow_update ask.protocol (record { request = request; case = Query question }) outcome
+    → outcome.change ≡ None → IsMade zone allow_update access ask outcome
+made_in_place zone allow_update access ask request question outcome decided is idle = record {
+  decision = record { request = request; case = Query question };
+  decided = decided;
+  is = is;
+  passing = idle_passes zone outcome.change idle;
+}

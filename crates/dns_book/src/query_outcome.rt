@@ -1,6 +1,6 @@
 //! The short way of a query: it is looked at and not built, and its reply is written from what the zone lends (RFC 1034 4.3.2).
 
-ghost use Rattle.std.specs.Prelude.{◌≡◌, Bool, true, IfOk, IfSome, Some, ◌≤◌};
+ghost use Rattle.std.specs.Prelude.{◌≡◌, Bool, true, IfOk, IfSome, Some, None, ◌≤◌};
 ghost use Rattle.dns_name.specs.Name.{is_at_or_below};
 ghost use Rattle.dns_book.specs.declared.decision.Case.TheVariants.{Query as Asks};
 ghost use Rattle.dns_book.specs.Owed.{HasRoom, looked_reply};
@@ -74,7 +74,8 @@ fn answered(
     question: &Question,
 ) -> Result<Outcome, OutOfMemory>
     requires { is_at_or_below question.now.name zone.now.origin ≡ true }
-    ensures { (allow_update : Bool) → IfOk result (IsOutcome zone.now allow_update request.now.protocol (record { request = request.now; case = Asks question.now })) }
+    ensures is { (allow_update : Bool) → IfOk result (IsOutcome zone.now allow_update request.now.protocol (record { request = request.now; case = Asks question.now })) }
+    ensures idle { IfOk result (λ outcome. outcome.change ≡ None) }
 {
     let answer = zone.answer(alloc, question)?;
     let reply = ready_answer(alloc, request, question, answer)?;
@@ -96,7 +97,7 @@ fn ready_answer(
     question: &Question,
     answer: Answer<'_>,
 ) -> Result<ReadyReply, OutOfMemory>
-    requires { answer.entry.code ≤ 3 }
+    requires { answer.code ≤ 3 }
     ensures { IfOk result (IsReady request.now.protocol (looked_reply request.now question.now
         (record { code = answer.entry.code; aa = answer.entry.aa; answers = answer.entry.answers; authority = answer.entry.authority }))) }
 {
