@@ -1,6 +1,6 @@
 //! How a message is sent over a link, by the clients of both versions of HTTP.
 
-ghost use Rattle.std.specs.Prelude.{[], string_bytes};
+ghost use Rattle.std.specs.Prelude.{◌≡◌, [], string_bytes, IsErrOf};
 ghost use Rattle.std.specs.Option.{option_map_or, option_and_then};
 ghost use Rattle.dns_net.specs.Answers.{WentOver, HasSendCause};
 ghost use Rattle.dns_net.specs.Bodies.{AsksNext};
@@ -35,6 +35,8 @@ pub(crate) fn send_over<L: HttpLink>(
         })
         link.old message.now result link.new }
     ensures cause { HasSendCause (L.faults link.old) (L.faults link.new) (option_and_then (λ object. refuses object) context.now.set_headers) result }
+    ensures calm { ¬ (IsErrOf result NetError.Io) → ¬ (IsErrOf result NetError.Timeout) → L.faults link.new ≡ L.faults link.old }
+    ensures out { L.given_out link.new ≡ L.given_out link.old }
 {
     let request = request_of(alloc, context, limit, message)?;
     exchange_over(alloc, link, request, limit)
@@ -70,6 +72,8 @@ fn exchange_over<L: HttpLink>(
 ) -> Result<Message, NetError>
     ensures went { WentOver L.Body.left (AsksNext L.Body.left L.Body.left_bytes L.Body.faults) L.Body.faults L.calls L.exchanges link.old request limit result link.new }
     ensures cause { HasNetCause (L.faults link.old) (L.faults link.new) result }
+    ensures calm { ¬ (IsErrOf result NetError.Io) → ¬ (IsErrOf result NetError.Timeout) → L.faults link.new ≡ L.faults link.old }
+    ensures out { L.given_out link.new ≡ L.given_out link.old }
 {
     let response = link.exchange(request, limit)?;
     let (head, mut body) = response.into_parts();

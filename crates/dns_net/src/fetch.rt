@@ -1,6 +1,6 @@
 //! A body, fetched piece by piece.
 
-ghost use Rattle.std.specs.Prelude.{◌≡◌};
+ghost use Rattle.std.specs.Prelude.{◌≡◌, min, unwrap_or};
 ghost use Rattle.dns_io.specs.Edge.{Told};
 ghost use Rattle.dns_net.specs.Bodies.{AsksNext, Fetches, FetchesBytes, IsFetched, IsReadOnce, is_said};
 ghost use Rattle.dns_transport.specs.Faults.{HasCause};
@@ -39,8 +39,10 @@ pub fn fetch_body<P: BodyPieces>(
 /// The most bytes of a body: those of a message.
 const MAX_BODY_LEN: usize = limits::MAX_MESSAGE_LEN as usize;
 
-/// How many bytes to make room for.
-fn room_for(length: Option<usize>) -> usize {
+/// How many bytes to make room for: those that were said, but never more than a message has.
+fn room_for(length: Option<usize>) -> usize
+    ensures { result ≡ min (unwrap_or length 0) 65535 }
+{
     match length {
         None => 0,
         Some(length) => length.min(MAX_BODY_LEN),

@@ -1,6 +1,6 @@
 //! Clients over HTTP/3 (RFC 9114).
 
-ghost use Rattle.std.specs.Prelude.{◌≡◌, [], true, false, Some, None, Ok, IsNone, MatchOption, MatchBool, string_bytes};
+ghost use Rattle.std.specs.Prelude.{◌≡◌, [], true, false, Some, None, Ok, IsNone, IsErrOf, MatchOption, MatchBool, string_bytes};
 ghost use Rattle.std.specs.Option.{option_map_or, option_and_then};
 ghost use Rattle.dns_net.specs.Answers.{HasSendCause};
 ghost use Rattle.dns_net.specs.Bodies.{AsksNext};
@@ -117,6 +117,8 @@ impl<L: HttpLink> H3ClientStream<L> {
             self.old.link request.now result self.new.link }
         ensures kept { self.new ≡ record self.old { link = self.new.link } }
         ensures cause { HasSendCause (L.faults self.old.link) (L.faults self.new.link) (option_and_then (λ object. refuses object) self.old.context.set_headers) result }
+        ensures calm { ¬ (IsErrOf result NetError.Io) → ¬ (IsErrOf result NetError.Timeout) → L.faults self.new.link ≡ L.faults self.old.link }
+        ensures out { L.given_out self.new.link ≡ L.given_out self.old.link }
     {
         if self.is_shut {
             return Err(NetError::ShutDown);

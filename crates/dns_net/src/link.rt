@@ -54,6 +54,7 @@ pub trait HttpLink {
         ensures fresh { IfOk result (λ response. Self.Body.faults (body_of response) ≡ 0) }
         ensures out { OnOk result (given_out self.new ≡ given_out self.old + 1) }
         ensures none_out { OnErr result (given_out self.new ≡ given_out self.old) }
+        ensures calm { OnOk result (faults self.new ≡ faults self.old) }
         ensures cause { HasLinkCause (faults self.old) (faults self.new) result }
         ensures uncounted { IsErrOf result LinkFault.OutOfMemory → faults self.new ≡ faults self.old };
 
@@ -64,5 +65,6 @@ pub trait HttpLink {
         ensures told { Grows (calls self.old) (calls self.new) (Returned body ∷ []) }
         ensures back { given_out self.new + 1 ≡ given_out self.old }
         ensures later { faults self.old ≤ faults self.new }
-        ensures counted { 0 < Self.Body.faults body → Rose (faults self.old) (faults self.new) };
+        ensures counted { 0 < Self.Body.faults body → Rose (faults self.old) (faults self.new) }
+        ensures calm { Self.Body.faults body ≡ 0 → faults self.new ≡ faults self.old };
 }

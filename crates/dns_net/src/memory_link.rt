@@ -129,6 +129,7 @@ impl HttpLink for MemoryLink {
         ensures back { self.new.given_out + 1 ≡ self.old.given_out }
         ensures later { self.old.faults ≤ self.new.faults }
         ensures counted { 0 < body.faults → Rose self.old.faults self.new.faults }
+        ensures calm { body.faults ≡ 0 → self.new.faults ≡ self.old.faults }
         ensures next { self.new ≡ returned self.old body }
     {
         if body.has_faults() {
