@@ -89,7 +89,7 @@ def mutated(chance, message):
                 del message[place]
             case 3 if chance.random() < 0.3:
                 message = message[:place]
-    return bytes(message)
+    return bytes(message) or b"\0"
 
 
 def plain_end(message):
