@@ -131,3 +131,17 @@ parts_put (p ∷ ps) zero left part h is =
     ap (λ (x : List Record). records_bytes (take left (x ++ in_parts ps))) (sym is)
     ∙ ap records_bytes (take_both left part (in_parts ps)) ∙ flat_map-append record_bytes (take left part) (take (left - length part) (in_parts ps))
 parts_put (p ∷ ps) (suc i) left part h is = parts_put ps i left part (omega (arith, h)) is
+
+-- what is left where the first records of two lists are kept, and all of the first
+pub left_both : (xs ys : List Record) (room left more n l : ℕ) → length xs ≤ n → n ≤ length xs → left + length (records_bytes (take n xs)) ≡ room → l ≤ length ys
+    → more + length (records_bytes (take l ys)) ≡ left → more + length (records_bytes (take (n + l) (xs ++ ys))) ≡ room
+left_both xs ys room left more n l all within e few m =
+    let first : take (n + l) xs ≡ take n xs = take_all (n + l) xs (omega (arith, all)) ∙ sym (take_all n xs all) in
+    let rest : n + l - length xs ≡ l = omega (arith, all, within) in
+    let whole : take (n + l) (xs ++ ys) ≡ take n xs ++ take l ys =
+    take_both (n + l) xs ys ∙ ap (λ (x : List Record). x ++ take (n + l - length xs) ys) first ∙ ap (λ (k : ℕ). take n xs ++ take k ys) rest in
+    omega (arith, e, m, ap (λ (rs : List Record). length (records_bytes rs)) whole, ap length (flat_map-append record_bytes (take n xs) (take l ys)), length-append (records_bytes (take n xs)) (records_bytes (take l ys)))
+
+-- and where not all of the first is
+pub left_some : (xs ys : List Record) (room left n : ℕ) → n < length xs → left + length (records_bytes (take n xs)) ≡ room → left + length (records_bytes (take n (xs ++ ys))) ≡ room
+left_some xs ys room left n less e = omega (arith, e, ap (λ (rs : List Record). length (records_bytes rs)) (take-append-le n xs ys (omega (arith, less))))

@@ -9,8 +9,8 @@ ghost use Rattle.dns_wire.specs.Written.{Fits};
 
 use crate::rdata::Data;
 use crate::record::Record;
-use crate::writing::{name_len, put_data_behind_len, put_middle};
-use crate::writing_data::data_len;
+use crate::writing::{name_len, put_middle};
+use crate::writing_data::{data_len, put_data};
 use dns_io::OutOfMemory;
 use dns_name::Name;
 use std::alloc::Global;
@@ -249,8 +249,10 @@ fn put_given(
         None => one.name.write(out)?,
         Some(owner) => owner.write_folded(out)?,
     }
-    put_middle(out, one.rtype, one.class, given_ttl(one, is_negative))?;
-    put_data_behind_len(out, &one.rdata)
+    let ttl = given_ttl(one, is_negative);
+    let len = data_len(&one.rdata) as u128;
+    put_middle(out, one.rtype, one.class, ttl, len)?;
+    put_data(out, &one.rdata)
 }
 
 /// How many of the records that parts give, from the first on, go into `room` bytes.

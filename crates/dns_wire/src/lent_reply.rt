@@ -1,10 +1,12 @@
 //! Replies whose records are lent: they are written without copies (RFC 1035 4.1, RFC 2181 9).
 
-ghost use Rattle.std.specs.Prelude.{◌≡◌, ◌+◌, ◌-◌, ◌≤◌, ◌++◌, ◌∷◌, [], length, min, nat_lt, IfOk, OnOk};
+ghost use Rattle.std.specs.Prelude.{◌≡◌, ◌+◌, ◌-◌, ◌≤◌, ◌++◌, ◌∷◌, [], length, take, min, nat_lt, if◌then◌else◌, IfOk, OnOk};
+ghost use Rattle.std.specs.Int.{w16, to_be_bytes};
+ghost use Rattle.dns_wire.specs.WireFormat.{records_bytes};
 ghost use Rattle.dns_wire.specs.Standing.{word_at};
 ghost use Rattle.dns_wire.specs.Given.{in_parts};
 ghost use Rattle.dns_wire.specs.MessageBytes.{message_bytes};
-ghost use Rattle.dns_wire.specs.Written.{all_of, reply_bytes, reply_header, Fits, Written};
+ghost use Rattle.dns_wire.specs.Written.{all_of, reply_bytes, reply_header, Fits, Written, Appends};
 
 use crate::edns::Edns;
 use crate::header::Header;
@@ -12,7 +14,8 @@ use crate::lent_records::{LentRecords, fitting_in_parts, put_parts};
 use crate::question::Question;
 use crate::reply::{LENGTH_LEN, WrittenReply};
 use crate::writing::{
-    flag_word, opt_count, opt_len, put_counts, put_extra, put_flags, put_question, question_len,
+    flag_word, opt_count, opt_len, put_count, put_counts, put_extra, put_flags, put_question,
+    question_len,
 };
 use dns_io::{Octets, OutOfMemory};
 use std::alloc::Global;
@@ -65,6 +68,17 @@ impl<'a> Model for LentReply<'a> {
     } };
 }
 
+/// What the header of a reply says that was written at the end of a buffer (RFC 1035 4.1.1).
+#[derive(Clone, Copy, Debug)]
+pub struct Appended {
+    /// How many bytes the reply has.
+    pub len: usize,
+    /// Its third and fourth byte, read as one number: the flags, the opcode and the lowest four bits of the code.
+    pub flags: u16,
+    /// How many records its answer section has.
+    pub answers: usize,
+}
+
 /// How many records are kept of a reply: of all, of its answers, of its authority; and how many bytes are left then.
 #[derive(Clone, Copy)]
 struct Kept {
@@ -76,6 +90,32 @@ struct Kept {
 }
 
 impl<'a> LentReply<'a> {
+    /// Writes the reply at the end of a buffer, in the form that [`crate::Reply::write`] gives: as it stands, or behind the two bytes of its
+    /// length, as it goes over a connection (RFC 1035 4.2.2). Where memory runs out, part of it may be written.
+    pub fn append(
+        &self,
+        out: &mut Vec<u8>,
+        limit: u16,
+        is_framed: bool,
+    ) -> Result<Appended, OutOfMemory>
+        requires { 512 ≤ limit }
+        ensures { IfOk result (Appends self.now limit is_framed out.old.items out.new.items) }
+    {
+        let limit = usize::from(limit);
+        let fixed = 12 + question_len(self.question) + opt_len(&self.edns);
+        let kept = kept_in(self, limit - fixed);
+        let header = header_of(self, kept.is_cut);
+        let len = limit - kept.left;
+        out.reserve(len + LENGTH_LEN)?;
+        put_len(out, len, is_framed)?;
+        put_kept(out, self, &header, &kept)?;
+        Ok(Appended {
+            len,
+            flags: flag_word(&header),
+            answers: kept.answers,
+        })
+    }
+
     /// The written form that [`crate::Reply::write`] gives.
     pub fn write(&self, alloc: Global, limit: u16) -> Result<WrittenReply, OutOfMemory>
         requires { 512 ≤ limit }
@@ -83,16 +123,12 @@ impl<'a> LentReply<'a> {
         ensures flags { IfOk result (λ written. written.flags ≡ word_at written.bytes 2) }
         ensures answers { IfOk result (λ written. written.answers ≡ word_at written.bytes 6) }
     {
-        let limit = usize::from(limit);
-        let fixed = 12 + question_len(self.question) + opt_len(&self.edns);
-        let kept = kept_in(self, limit - fixed);
-        let header = header_of(self, kept.is_cut);
-        let mut out = Vec::with_capacity(alloc, limit - kept.left + LENGTH_LEN)?;
-        put_kept(&mut out, self, &header, &kept)?;
+        let mut out = Vec::new(alloc);
+        let appended = self.append(&mut out, limit, false)?;
         Ok(WrittenReply {
             bytes: Octets::from_vec(out),
-            flags: flag_word(&header),
-            answers: kept.answers,
+            flags: appended.flags,
+            answers: appended.answers,
         })
     }
 }
@@ -101,6 +137,7 @@ impl<'a> LentReply<'a> {
 fn kept_in(reply: &LentReply<'_>, room: usize) -> Kept
     ensures fits { Fits room (all_of reply.now) result.count }
     ensures few { result.count + result.left ≤ room }
+    ensures left { result.left + length (records_bytes (take result.count (all_of reply.now))) ≡ room }
     ensures answers { result.answers ≡ min result.count (length reply.now.answers) }
     ensures authority { result.authority ≡ result.count - length reply.now.answers }
     ensures cut { result.is_cut ≡ nat_lt result.count (length (all_of reply.now)) }
@@ -123,6 +160,16 @@ fn kept_in(reply: &LentReply<'_>, room: usize) -> Kept
         left: authority.left,
         is_cut: authority.is_cut,
     }
+}
+
+/// Writes a length, where the reply goes over a connection.
+fn put_len(out: &mut Vec<u8>, len: usize, is_framed: bool) -> Result<(), OutOfMemory>
+    ensures { OnOk result (out.new.items ≡ out.old.items ++ (if is_framed then to_be_bytes w16 len else [])) }
+{
+    if is_framed {
+        put_count(out, len as u128)?;
+    }
+    Ok(())
 }
 
 /// The header, where some of the records are left out or none.

@@ -32,7 +32,7 @@ pub use dns_name::{Labels, Name, ProtoError, name_laws};
 pub use edns::Edns;
 pub use header::Header;
 pub use lent_records::LentRecords;
-pub use lent_reply::LentReply;
+pub use lent_reply::{Appended, LentReply};
 pub use message::Message;
 pub use question::{Question, Questions};
 pub use rdata::Data;

@@ -174,32 +174,30 @@ pub(crate) fn put_record(out: &mut Vec<u8>, one: &Record) -> Result<(), OutOfMem
     ensures { OnOk result (out.new.items ≡ out.old.items ++ record_bytes one.now) }
 {
     one.name.write(out)?;
-    put_middle(out, one.rtype, one.class, one.ttl)?;
-    put_data_behind_len(out, &one.rdata)
+    let len = data_len(&one.rdata) as u128;
+    put_middle(out, one.rtype, one.class, one.ttl, len)?;
+    put_data(out, &one.rdata)
 }
 
-/// Writes what stands between the owner of a record and the length of its data (RFC 1035 4.1.3).
+/// Writes what stands between the owner of a record and its data: type, class, TTL and the lowest sixteen bits of the length of the data
+/// (RFC 1035 4.1.3).
 pub(crate) fn put_middle(
     out: &mut Vec<u8>,
     rtype: u16,
     class: u16,
     ttl: u32,
+    len: u128,
 ) -> Result<(), OutOfMemory>
-    ensures { OnOk result (out.new.items ≡ out.old.items ++ (to_be_bytes w16 rtype ++ to_be_bytes w16 class ++ to_be_bytes w32 ttl)) }
+    ensures { OnOk result (out.new.items ≡ out.old.items ++ (to_be_bytes w16 rtype ++ to_be_bytes w16 class ++ to_be_bytes w32 ttl ++ to_be_bytes w16 len)) }
 {
     let [type_high, type_low] = rtype.to_be_bytes();
     let [class_high, class_low] = class.to_be_bytes();
     let [a, b, c, d] = ttl.to_be_bytes();
-    out.extend_from_slice(&[type_high, type_low, class_high, class_low, a, b, c, d])?;
+    let [len_high, len_low] = count_bytes(len);
+    out.extend_from_slice(&[
+        type_high, type_low, class_high, class_low, a, b, c, d, len_high, len_low,
+    ])?;
     Ok(())
-}
-
-/// Writes data behind the lowest sixteen bits of its length.
-pub(crate) fn put_data_behind_len(out: &mut Vec<u8>, rdata: &Data) -> Result<(), OutOfMemory>
-    ensures { OnOk result (out.new.items ≡ out.old.items ++ (to_be_bytes w16 (length (data_bytes rdata.now)) ++ data_bytes rdata.now)) }
-{
-    put_count(out, data_len(rdata) as u128)?;
-    put_data(out, rdata)
 }
 
 /// Writes an OPT record (RFC 6891 6.1.2).
@@ -279,7 +277,7 @@ pub(crate) fn put_u16(out: &mut Vec<u8>, number: u16) -> Result<(), OutOfMemory>
 }
 
 /// Writes the lowest sixteen bits of a count.
-fn put_count(out: &mut Vec<u8>, count: u128) -> Result<(), OutOfMemory>
+pub(crate) fn put_count(out: &mut Vec<u8>, count: u128) -> Result<(), OutOfMemory>
     ensures { OnOk result (out.new.items ≡ out.old.items ++ to_be_bytes w16 count) }
 {
     out.extend_from_slice(&count_bytes(count))?;

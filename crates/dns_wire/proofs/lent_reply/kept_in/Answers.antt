@@ -1,11 +1,12 @@
-use Rattle.std.proofs.Common.{◌+◌, ◌++◌, [], List, subst, sym}
+use Rattle.std.proofs.Common.{◌≡◌, ◌+◌, ◌++◌, [], List, length, take, subst, sym}
+use Rattle.dns_wire.specs.WireFormat.{records_bytes}
 use Rattle.std.proofs.lemmas.List.{append-nil}
 use Rattle.dns_wire.specs.declared.record.Record.{Record}
 use Rattle.dns_wire.specs.declared.reply.Reply.{Reply}
 use Rattle.dns_wire.specs.Given.{in_parts}
 use Rattle.dns_wire.specs.Written.{all_of, Fits}
 use Rattle.dns_wire.proofs.Fitting.{fits_some, fits_all}
-use Rattle.dns_wire.proofs.Lending.{less_then, not_less_then}
+use Rattle.dns_wire.proofs.Lending.{less_then, not_less_then, left_both, left_some}
 use Rattle.dns_wire.proofs.lent_reply.kept_in.Goals as goal
 
 pub returns-then-answers-clause-fits : goal.returns-then-answers-clause-fits
@@ -20,3 +21,17 @@ returns-clause-fits c =
     (fits_all (in_parts c.reply.inside.answers.now) (c.reply.inside.authority ++ []) _ _ _ _ c.fitting_in_parts-answers.ensures.fits
     (not_less_then _ _ _ c.fitting_in_parts-answers.ensures.cut c.if-answers.false) c.fitting_in_parts-answers.ensures.left
     (subst (λ (rs : List Record). Fits c.fitting_in_parts-answers.result.left rs c.fitting-authority.result.count) (sym (append-nil c.reply.inside.authority)) c.fitting-authority.ensures.fits))
+
+pub returns-then-answers-clause-left : goal.returns-then-answers-clause-left
+returns-then-answers-clause-left c =
+    subst (λ (r : Reply). c.fitting_in_parts-answers.result.left + length (records_bytes (take c.fitting_in_parts-answers.result.count (all_of r))) ≡ c.args.room) c.reply.view_is
+    (left_some (in_parts c.reply.inside.answers.now) (c.reply.inside.authority ++ []) _ _ _
+    (less_then _ _ _ c.fitting_in_parts-answers.ensures.cut c.if-answers.true) c.fitting_in_parts-answers.ensures.left)
+
+pub returns-clause-left : goal.returns-clause-left
+returns-clause-left c =
+    subst (λ (r : Reply). c.fitting-authority.result.left + length (records_bytes (take (c.fitting_in_parts-answers.result.count + c.fitting-authority.result.count) (all_of r))) ≡ c.args.room) c.reply.view_is
+    (rw (append-nil c.reply.inside.authority)
+    (left_both (in_parts c.reply.inside.answers.now) c.reply.inside.authority _ _ _ _ _
+    (not_less_then _ _ _ c.fitting_in_parts-answers.ensures.cut c.if-answers.false) c.fitting_in_parts-answers.ensures.fits.within c.fitting_in_parts-answers.ensures.left
+    c.fitting-authority.ensures.fits.within c.fitting-authority.ensures.left))
