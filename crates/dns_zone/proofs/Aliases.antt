@@ -1,22 +1,60 @@
 -- A chain of aliases: what it is put together from, and its limit.
-use Rattle.std.proofs.Common.{sym, ◌∙◌, append_assoc, ◌≡◌, ℕ, zero, suc, ◌+◌, ◌-◌, ◌≤◌, List, [], ◌∷◌, ◌++◌, length, refl, ap, arith, Bool, true, false, length-append}
-use Rattle.std.specs.Prelude.{option_map, option_to_list, None, Some, Option, ◌==◌}
+use Rattle.std.proofs.Common.{◌≡◌, ℕ, zero, suc, ◌+◌, ◌-◌, ◌≤◌, List, [], ◌∷◌, ◌++◌, length, refl, sym, ap, ◌∙◌, arith, Bool, true, false, length-append, append_assoc}
+use Rattle.std.specs.Prelude.{None, Some, Option, ◌==◌, ◌&&◌, not, option_map, option_to_list}
+use Rattle.std.specs.List.{list_any}
 use Rattle.std.proofs.lemmas.Bool.Decides.{nat_tests}
+use Rattle.dns_name.specs.Name.{is_same_name, is_at_or_below}
 use Rattle.dns_wire.specs.declared.record.Record.{Record}
 use Rattle.dns_zone.specs.declared.look.Look.{Look}
 use Rattle.dns_zone.specs.declared.look.Look.TheVariants.{Referral, NoName, Alias, Found, NoData}
-use Rattle.dns_zone.specs.declared.lookup.Chain.{Chain}
 use Rattle.dns_zone.specs.declared.lookup.Looked.{Looked}
 use Rattle.dns_zone_map.specs.Zone.{Contents}
-use Rattle.dns_zone.specs.Look.{look_of, only_if}
-use Rattle.dns_zone.specs.Lookup.{target_of, targets, next_look, unless_asked, asked_along, ahead, behind, onward, next_of, answered, followed, chain_of, is_own, lookup_of, chain_from, limited}
+use Rattle.dns_zone.specs.Look.{only_if, look_of}
+use Rattle.dns_zone.specs.Lookup.{Chain, target_of, targets, unless_asked, asked_along, ahead, behind, onward, next_of, next_look, answered, followed, chain_of, is_own, lookup_of, chain_from, limited}
 
--- what `lookup` puts together
-pub looked_is : (zone : Contents) (name : List (List ℕ)) (rtype : ℕ) (look : Look) (aa : Bool) (aliases : List Record) (chain : Chain)
-    → look ≡ look_of zone name rtype → aa ≡ is_own look → aliases ≡ [] → chain ≡ ahead aliases (answered zone look (followed 7 zone rtype (asked_along name aliases)))
-    → ◌≡◌ {A = Looked} (record { code = chain.code; aa = aa; answers = chain.answers; authority = chain.authority }) (lookup_of zone name rtype)
+-- what `answer` puts together
+pub answer_is : (zone : Contents) (name : List (List ℕ)) (rtype : ℕ) (look : Look) (code : ℕ) (aa : Bool) (answers authority : List Record) → look ≡ look_of zone name rtype
+    → aa ≡ is_own look → ◌≡◌ {A = Chain} (record { code = code; answers = answers; authority = authority }) (ahead [] (answered zone look (followed 7 zone rtype (name ∷ []))))
+    → ◌≡◌ {A = Looked} (record { code = code; aa = aa; answers = answers; authority = authority }) (lookup_of zone name rtype)
 unfolding lookup_of
-looked_is zone name rtype look aa aliases chain l a s c = rw (c, a, s, l) refl
+answer_is zone name rtype look code aa answers authority l a c =
+    let parts : ◌≡◌ {A = Chain} (record { code = code; answers = answers; authority = authority }) (ahead [] (chain_of 7 zone name rtype (name ∷ []))) = rw l at c in
+    rw (a, l, ap (λ (k : Chain). k.code) parts, ap (λ (k : Chain). k.answers) parts, ap (λ (k : Chain). k.authority) parts) refl
+
+targets_next : (aliases : List Record) (last : Record) (target : List (List ℕ)) → target_of last.rdata ≡ Some target → targets (aliases ++ last ∷ []) ≡ targets aliases ++ target ∷ []
+targets_next [] last target is = rw is refl
+targets_next (r ∷ aliases) last target is =
+    ap (λ (ts : List (List (List ℕ))). option_to_list (target_of r.rdata) ++ ts) (targets_next aliases last target is)
+    ∙ sym (append_assoc (option_to_list (target_of r.rdata)) (targets aliases) (target ∷ []))
+
+next_target : (zone : Contents) (asked : List (List (List ℕ))) (found : Option (List (List ℕ))) (target : List (List ℕ)) → unless_asked zone asked found ≡ Some target → found ≡ Some target
+next_target zone asked None target is = absurd cc
+next_target zone asked (Some other) target is = by_test (is_at_or_below other zone.origin && not (list_any (is_same_name other) asked)) is
+  where
+    by_test : (b : Bool) → only_if b other ≡ Some target → Some other ≡ Some target
+    by_test true is = is
+    by_test false is = absurd cc
+
+ahead_next : (aliases : List Record) (last : Record) (rest : Chain) → ahead (aliases ++ last ∷ []) rest ≡ ahead aliases (behind last rest)
+ahead_next aliases last rest = rw append_assoc refl
+
+-- where an alias leads to another, one more name was asked
+pub chain_next : (more : ℕ) (zone : Contents) (rtype : ℕ) (first : List (List ℕ)) (aliases : List Record) (last next : Record) (chain : Chain)
+    → next_look more zone rtype (asked_along first aliases) last ≡ Some (Alias next)
+    → chain ≡ ahead (aliases ++ last ∷ []) (followed (more - 1) zone rtype (asked_along first (aliases ++ last ∷ [])) next)
+    → chain ≡ ahead aliases (followed more zone rtype (asked_along first aliases) last)
+chain_next zero zone rtype first aliases last next chain is c = absurd cc
+chain_next (suc more) zone rtype first aliases last next chain is c = by_next (next_of zone (asked_along first aliases) last) refl is
+  where
+    by_next : (found : Option (List (List ℕ))) → next_of zone (asked_along first aliases) last ≡ found → option_map (λ target. look_of zone target rtype) found ≡ Some (Alias next)
+        → chain ≡ ahead aliases (onward last found (λ target. answered zone (look_of zone target rtype) (followed more zone rtype (asked_along first aliases ++ target ∷ []))))
+    by_next None at look = absurd cc
+    by_next (Some target) at look =
+        let leads : look_of zone target rtype ≡ Alias next = cc in
+        let along : targets (aliases ++ last ∷ []) ≡ targets aliases ++ target ∷ [] = targets_next aliases last target (next_target zone (asked_along first aliases) (target_of last.rdata) target at) in
+        let less : suc more - 1 ≡ more = omega arith in
+        let here : chain ≡ ahead (aliases ++ last ∷ []) (followed more zone rtype (first ∷ (targets aliases ++ target ∷ [])) next) = rw (less, along) at c in
+        rw leads (here ∙ ahead_next aliases last (followed more zone rtype (first ∷ (targets aliases ++ target ∷ [])) next))
 
 answered-same : (zone : Contents) (look : Look) (f g : Record → Chain) → ((r : Record) → f r ≡ g r) → answered zone look f ≡ answered zone look g
 answered-same zone (Referral ns) f g same = refl
@@ -46,48 +84,3 @@ pub chain_is : (zone : Contents) (name : List (List ℕ)) (rtype : ℕ) (asked :
 chain_is zone name rtype asked few =
     answered-same zone (look_of zone name rtype) (followed (8 - length asked) zone rtype asked) (limited zone rtype asked)
     (λ r. followed-limited (8 - length asked) zone rtype asked r (omega arith))
-
-ahead-behind : (aliases : List Record) (one : Record) (rest : Chain) → ahead (aliases ++ one ∷ []) rest ≡ ahead aliases (behind one rest)
-ahead-behind aliases one rest =
-    ap (λ (rs : List Record). record { code = rest.code; answers = rs; authority = rest.authority }) (append_assoc aliases (one ∷ []) rest.answers)
-
--- one more alias leads to one more name
-targets-more : (aliases : List Record) (one : Record) (target : List (List ℕ)) → target_of one.rdata ≡ Some target → targets (aliases ++ one ∷ []) ≡ targets aliases ++ target ∷ []
-targets-more [] one target is = rw is refl
-targets-more (r ∷ aliases) one target is =
-    rw (targets-more aliases one target is) (sym (append_assoc (option_to_list (target_of r.rdata)) (targets aliases) (target ∷ [])))
-
--- an alias that leads on
-record LeadsOn (zone : Contents) (rtype : ℕ) (asked : List (List (List ℕ))) (one : Record) (look : Look) : Type 0 where
-  target : List (List ℕ)
-  leads : target_of one.rdata ≡ Some target
-  next : next_of zone asked one ≡ Some target
-  finds : look_of zone target rtype ≡ look
-
-leads-if : (zone : Contents) (rtype : ℕ) (asked : List (List (List ℕ))) (one : Record) (look : Look) (target : List (List ℕ)) (inside : Bool) → target_of one.rdata ≡ Some target
-    → next_of zone asked one ≡ only_if inside target → option_map (λ name. look_of zone name rtype) (only_if inside target) ≡ Some look → LeadsOn zone rtype asked one look
-leads-if zone rtype asked one look target true leads next finds = record { target = target; leads = leads; next = next; finds = cc }
-leads-if zone rtype asked one look target false leads next finds = absurd (cc)
-
-leads-from : (zone : Contents) (rtype : ℕ) (asked : List (List (List ℕ))) (one : Record) (look : Look) (target : Option (List (List ℕ))) → target_of one.rdata ≡ target
-    → option_map (λ name. look_of zone name rtype) (unless_asked zone asked target) ≡ Some look → LeadsOn zone rtype asked one look
-leads-from zone rtype asked one look None is finds = absurd (cc)
-leads-from zone rtype asked one look (Some target) is finds =
-    leads-if zone rtype asked one look target _ is (ap (unless_asked zone asked) is) finds
-
-follow-on : (zone : Contents) (first : List (List ℕ)) (rtype more : ℕ) (aliases : List Record) (one : Record) (look : Look) → LeadsOn zone rtype (asked_along first aliases) one look
-    → ahead (aliases ++ one ∷ []) (answered zone look (followed more zone rtype (asked_along first (aliases ++ one ∷ []))))
-    ≡ ahead aliases (followed (suc more) zone rtype (asked_along first aliases) one)
-follow-on zone first rtype more aliases one look l =
-    rw (targets-more aliases one l.target l.leads, l.next, l.finds)
-    (ahead-behind aliases one (answered zone look (followed more zone rtype (asked_along first aliases ++ l.target ∷ []))))
-
--- a chain goes on behind one more alias
-pub follow-next : (zone : Contents) (first : List (List ℕ)) (rtype more : ℕ) (aliases then : List Record) (one : Record) (look : Look) (chain : Chain)
-    → next_look more zone rtype (asked_along first aliases) one ≡ Some look → then ≡ aliases ++ one ∷ []
-    → chain ≡ ahead then (answered zone look (followed (more - 1) zone rtype (asked_along first then)))
-    → chain ≡ ahead aliases (followed more zone rtype (asked_along first aliases) one)
-follow-next zone first rtype zero aliases then one look chain next pushed is = absurd (cc)
-follow-next zone first rtype (suc more) aliases then one look chain next pushed is =
-    let less : suc more - 1 ≡ more = omega arith in
-    (rw (pushed, less) at is) ∙ follow-on zone first rtype more aliases one look (leads-from zone rtype (asked_along first aliases) one look (target_of one.rdata) refl next)

@@ -1,5 +1,5 @@
 -- The records of all types, as they are gathered from one type that there is to the next.
-use Rattle.std.proofs.Common.{◌≡◌, ℕ, ◌+◌, ◌-◌, ◌<◌, ◌≤◌, zero, suc, List, [], ◌++◌, refl, sym, ap, ◌∙◌, arith, append_assoc, append-nil}
+use Rattle.std.proofs.Common.{◌≡◌, ℕ, ◌+◌, ◌-◌, ◌<◌, ◌≤◌, zero, suc, List, [], ◌++◌, refl, sym, ap, ◌∙◌, arith}
 use Rattle.dns_wire.specs.declared.record.Record.{Record}
 use Rattle.dns_zone_map.specs.Zone.{set_of}
 use Rattle.dns_zone.specs.Look.{Owner, found_set, found_from}
@@ -39,11 +39,3 @@ unfolding found_from
 found-end records owner first last h none =
     let a : last - first ≡ (last - first) + zero = omega arith in
     rw a (found-skip records owner first (last - first) zero (λ other above below. none other above (omega arith)))
-
--- what was gathered is all where nothing is left
-pub gathered-end : (all rest out : List Record) → all ++ rest ≡ out → rest ≡ [] → all ≡ out
-gathered-end all rest out is none = sym (append-nil all) ∙ rw none at is
-
--- one more set was gathered
-pub gathered-next : (all more set rest left out : List Record) → all ++ left ≡ out → more ≡ all ++ set → set ++ rest ≡ left → more ++ rest ≡ out
-gathered-next all more set rest left out is then parts = rw then (append_assoc all set rest ∙ ap (λ (rs : List Record). all ++ rs) parts ∙ is)

@@ -1,20 +1,17 @@
 -- A record that may stand beside others is put in the place of its rival.
-use Rattle.std.proofs.Common.{◌≡◌, ℕ, List, [], ◌∷◌, Bool, true, false, not, ◌==◌, ◌&&◌, ◌||◌, if◌then◌else◌, Result, Ok, Err, refl, sym, ap, ◌∙◌, arith}
+use Rattle.std.proofs.Common.{◌≡◌, ℕ, List, [], ◌∷◌, Bool, true, false, not, ◌==◌, ◌&&◌, ◌||◌, if◌then◌else◌, Ok, refl, sym, ap, ◌∙◌, arith}
 use Rattle.std.specs.List.{AllByRecursion, IsDistinct, list_any}
 use Rattle.std.proofs.lemmas.Bool.Decides.{Decides-eqb}
 use Rattle.dns_wire.specs.declared.record.Record.{Record}
 use Rattle.dns_name.specs.Name.{is_same_name, is_at_or_below}
 use Rattle.dns_zone_map.specs.Folds.{data_eq}
 use Rattle.dns_zone_map.specs.Zone.{is_type, is_equal, is_rival, IsEntry, IsSoFar}
-use Rattle.dns_presentation.specs.declared.fault.EntryKind.{EntryKind}
 use Rattle.dns_presentation.specs.declared.entry.Context.{Context}
-use Rattle.dns_presentation.specs.declared.entry.Entry.{Entry}
 use Rattle.dns_presentation.specs.LogicalLines.{LogicalLine}
 use Rattle.dns_presentation.specs.Entries.{entry_of, first_context}
 use Rattle.dns_name.specs.Name.{IsName, fold_of}
 use Rattle.dns_name.proofs.Lengths.{length_name_bytes}
 use Rattle.dns_zone.specs.Contexts.{IsSound}
-use Rattle.dns_zone.proofs.Entering.{IsEntered-entry_of, IsSound-after}
 use Rattle.dns_zone.specs.ZoneText.{is_beside_alias, put_in, placed, placed_entry, context_behind, after_line, records_from}
 use Rattle.dns_zone_map.specs.Changes.{put_over}
 use Rattle.dns_zone.proofs.Readings.{IsRead}
@@ -103,14 +100,6 @@ IsEntry-read origin r read within soa = record {
   owner = read.owner;
   names = read.names;
 }
-
--- names behind it stay in small letters, and short
-pub IsSound-behind : (context : Context) (line : LogicalLine) → IsSound context → IsSound (context_behind context (entry_of context line))
-IsSound-behind context line sound = by_entry (entry_of context line) refl
-  where
-    by_entry : (found : Result Entry EntryKind) → entry_of context line ≡ found → IsSound (context_behind context found)
-    by_entry (Err kind) is = sound
-    by_entry (Ok one) is = IsSound-after context one sound (IsEntered-entry_of context line one sound is)
 
 -- the records behind a logical line that is taken
 pub records_step : (origin : List (List ℕ)) (context : Context) (records more : List Record) (line : LogicalLine) (lines : List LogicalLine) → placed_entry origin records (entry_of context line) ≡ Ok more

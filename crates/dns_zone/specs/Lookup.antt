@@ -12,8 +12,13 @@ use Rattle.dns_zone_map.specs.Zone.{Contents, set_of}
 use Rattle.dns_zone.specs.Look.{only_if, look_of}
 use Rattle.dns_zone.specs.declared.look.Look.{Look}
 use Rattle.dns_zone.specs.declared.look.Look.TheVariants.{Referral, NoName, Alias, Found, NoData}
-use Rattle.dns_zone.specs.declared.lookup.Chain.{Chain}
 use Rattle.dns_zone.specs.declared.lookup.Looked.{Looked}
+
+-- what a chain of looks along aliases ends with
+pub record Chain : Type 0 where
+  pub code : ℕ
+  pub answers : List Record
+  pub authority : List Record
 
 -- the authority of a negative reply
 abbrev pub negative_soa : Contents → List Record

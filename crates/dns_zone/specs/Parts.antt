@@ -1,8 +1,10 @@
 -- The parts of an answer.
-use Rattle.std.specs.Prelude.{List, [], ◌∷◌, Option, Some, None}
+use Rattle.std.specs.Prelude.{List, [], ◌∷◌}
 use Rattle.dns_wire.specs.declared.record.Record.{Record}
+use Rattle.dns_zone.specs.declared.answer.Held.{Held}
+use Rattle.dns_zone.specs.declared.answer.Held.TheVariants.{One, Several}
 
 -- one part alone, or several
-abbrev pub parts_of : Option (List Record) → List (List Record) → List (List Record)
-parts_of None several = several
-parts_of (Some part) several = part ∷ []
+abbrev pub parts_of : Held → List (List Record)
+parts_of (One part) = part ∷ []
+parts_of (Several parts) = parts.items

@@ -1,9 +1,10 @@
 //! The answer to a question, lent by the zone.
 
-ghost use Rattle.std.specs.Prelude.{◌≡◌, ◌++◌, IfOk, OnOk};
+ghost use Rattle.std.specs.Prelude.{◌≡◌, ◌++◌, true, [], IfOk, OnOk};
 ghost use Rattle.dns_wire.specs.Given.{in_parts};
 
 use dns_io::OutOfMemory;
+use dns_wire::response_code::NO_ERROR;
 use dns_wire::{LentRecords, Record, Records};
 use std::alloc::Global;
 use std::marker::Model;
@@ -21,12 +22,66 @@ pub struct Answer<'a> {
     pub authority: LentRecords<'a>,
 }
 
+impl<'a> Answer<'a> {
+    /// What was found, with no authority.
+    pub(crate) fn found(answers: Parts<'a>) -> Answer<'a>
+        ensures code { result.code ≡ 0 }
+        ensures aa { result.aa ≡ true }
+        ensures answers { result.answers ≡ answers.entry }
+        ensures authority { result.authority ≡ [] }
+    {
+        Answer {
+            code: NO_ERROR,
+            aa: true,
+            answers,
+            authority: LentRecords::none(),
+        }
+    }
+
+    /// The NS records of a cut, behind aliases if there are any.
+    pub(crate) fn referral(aa: bool, answers: Parts<'a>, ns: LentRecords<'a>) -> Answer<'a>
+        ensures code { result.code ≡ 0 }
+        ensures aa { result.aa ≡ aa }
+        ensures answers { result.answers ≡ answers.entry }
+        ensures authority { result.authority ≡ ns.entry }
+    {
+        Answer {
+            code: NO_ERROR,
+            aa,
+            answers,
+            authority: ns,
+        }
+    }
+
+    /// The SOA where something is not there, behind aliases if there are any.
+    pub(crate) fn negative(code: u16, answers: Parts<'a>, soa: LentRecords<'a>) -> Answer<'a>
+        ensures code { result.code ≡ code }
+        ensures aa { result.aa ≡ true }
+        ensures answers { result.answers ≡ answers.entry }
+        ensures authority { result.authority ≡ soa.entry }
+    {
+        Answer {
+            code,
+            aa: true,
+            answers,
+            authority: soa,
+        }
+    }
+}
+
 /// Lent records of several names or types, in order. One part takes no memory.
 #[derive(Drop)]
 pub struct Parts<'a> {
-    only: Option<LentRecords<'a>>,
-    /// The parts, where there is not one alone.
-    several: Vec<LentRecords<'a>>,
+    held: Held<'a>,
+}
+
+/// How parts are held.
+#[derive(Drop)]
+enum Held<'a> {
+    /// One part alone.
+    One(LentRecords<'a>),
+    /// Parts, where there is not one alone.
+    Several(Vec<LentRecords<'a>>),
 }
 
 impl<'a> Model for Parts<'a> {
@@ -37,17 +92,25 @@ impl<'a> Model for Parts<'a> {
 
     ghost Value = { List Record };
 
-    ghost view = { λ p. in_parts (parts_of p.only p.several.items) };
+    ghost view = { λ p. in_parts (parts_of p.held) };
 }
 
 impl<'a> Parts<'a> {
+    /// No part. Takes no memory.
+    pub(crate) fn none(alloc: Global) -> Parts<'a>
+        ensures { result ≡ [] }
+    {
+        Parts {
+            held: Held::Several(Vec::new(alloc)),
+        }
+    }
+
     /// One part alone. Takes no memory.
-    pub(crate) fn one(alloc: Global, part: LentRecords<'a>) -> Parts<'a>
+    pub(crate) fn one(part: LentRecords<'a>) -> Parts<'a>
         ensures { result ≡ part.entry }
     {
         Parts {
-            only: Some(part),
-            several: Vec::new(alloc),
+            held: Held::One(part),
         }
     }
 
@@ -56,8 +119,7 @@ impl<'a> Parts<'a> {
         ensures { result ≡ in_parts parts.entry.items }
     {
         Parts {
-            only: None,
-            several: parts,
+            held: Held::Several(parts),
         }
     }
 
@@ -65,10 +127,10 @@ impl<'a> Parts<'a> {
     pub fn as_slice(&self) -> &[LentRecords<'a>]
         ensures { in_parts result.now ≡ self.now }
     {
-        if self.only.is_some() {
-            return self.only.as_slice();
+        match &self.held {
+            Held::One(part) => std::slice::from_ref(part),
+            Held::Several(parts) => parts.as_slice(),
         }
-        self.several.as_slice()
     }
 
     /// Copies of the records.

@@ -11,6 +11,10 @@ use dns_io::OutOfMemory;
 use dns_wire::record_type::{DS, NS};
 use dns_zone_map::{OwnerSets, RecordSet, ZoneKey, ZoneMap};
 
+/// How many bytes a key takes at most: those of a name, and of the label `*` under it. Room for them is taken at once, since
+/// longer keys follow shorter ones.
+const MAX_KEY_LEN: usize = 257;
+
 /// Where the way down to a name ends.
 #[derive(Drop)]
 pub(crate) enum Descent<'a> {
@@ -75,6 +79,8 @@ fn meet<'a>(
 {
     match zone.sets(key, labels_dropped) {
         None => {
+            probe.clear();
+            probe.reserve(MAX_KEY_LEN)?;
             if zone.exists(key, labels_dropped, probe)? {
                 return Ok(Met::There);
             }

@@ -7,10 +7,12 @@ ghost use Rattle.dns_wire.specs.Given.{given, in_parts};
 ghost use Rattle.dns_zone.specs.Lent.{in_all};
 ghost use Rattle.dns_zone.specs.Lookup.{target_of};
 
+use crate::answer::Parts;
 use dns_io::OutOfMemory;
 use dns_name::Name;
 use dns_wire::{Data, LentRecords, Record};
 use dns_zone_map::RecordSet;
+use std::alloc::Global;
 use std::marker::Model;
 
 /// A record of a zone as an answer gives it: with its own owner, or where it is a wildcard's with the name that was asked,
@@ -109,6 +111,18 @@ impl<'a> LentSets<'a> {
             [set] => Some(LentRecords::new(set.records().as_slice(), self.asked)),
             _ => None,
         }
+    }
+
+    /// The records, as parts. One set takes no memory.
+    pub(crate) fn parts(&self, alloc: Global) -> Result<Parts<'a>, OutOfMemory>
+        ensures { IfOk result (λ parts. parts ≡ self.now) }
+    {
+        if let Some(part) = self.only() {
+            return Ok(Parts::one(part));
+        }
+        let mut parts = Vec::with_capacity(alloc, self.sets.len())?;
+        self.add_to(&mut parts)?;
+        Ok(Parts::from_vec(parts))
     }
 
     /// Adds the records of each set at the end, as a part.

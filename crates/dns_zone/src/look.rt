@@ -3,7 +3,9 @@
 ghost use Rattle.std.specs.Prelude.{◌≡◌, ◌+◌, ◌≤◌, length, drop, true, Some, IfOk, option_map};
 ghost use Rattle.std.specs.Option.{option_copied};
 ghost use Rattle.dns_name.specs.Name.{fold_of, is_at_or_below};
+ghost use Rattle.dns_zone_map.specs.Mapped.{contents};
 ghost use Rattle.dns_zone_map.specs.Sets.{sets_or_none};
+ghost use Rattle.dns_zone_map.specs.Zone.{IsZone};
 ghost use Rattle.dns_wire.specs.declared.record_type.TheConstants.{ANY};
 ghost use Rattle.dns_zone.specs.Look.{found_or_none, look_at, look_of, wildcard_under};
 ghost use Rattle.dns_zone.specs.Lent.{alias_in, look_in, TypesFit};
@@ -46,12 +48,31 @@ pub(crate) fn look_of<'a>(
     let map = zone.map();
     let key = ZoneKey::new(map.origin(), name);
     let depth = name.label_count() - map.origin().label_count();
+    look_by(alloc, map, &key, depth, name, rtype)
+}
+
+/// The same by the key of the name, which has so many labels more than the origin.
+pub(crate) fn look_by<'a>(
+    alloc: Global,
+    map: &'a ZoneMap,
+    key: &ZoneKey<'_>,
+    depth: usize,
+    name: &'a Name,
+    rtype: u16,
+) -> Result<Look<'a>, OutOfMemory>
+    requires zone { IsZone map.now.origin map.now.records }
+    requires origin { key.now.origin ≡ map.now.origin }
+    requires name { key.now.name ≡ name.now }
+    requires within { is_at_or_below name.now map.now.origin ≡ true }
+    requires depth { length map.now.origin + depth ≡ length name.now }
+    ensures { IfOk result (λ look. look ≡ look_of (contents map.now) name.now rtype) }
+{
     let mut probe = Vec::new(alloc);
-    match descend(map, &key, depth, &mut probe, rtype)? {
+    match descend(map, key, depth, &mut probe, rtype)? {
         Descent::Cut(set) => Ok(Look::Referral(own(set))),
         Descent::Own(sets) => Ok(look_at(sets, None, rtype)),
         Descent::Encloser(labels_dropped) => {
-            look_at_star(map, &key, labels_dropped, &mut probe, name, rtype)
+            look_at_star(map, key, labels_dropped, &mut probe, name, rtype)
         }
     }
 }

@@ -1,32 +1,26 @@
 //! What a question is answered with (RFC 1034 4.3.2, RFC 2308 3, RFC 6604).
 
-ghost use Rattle.std.specs.Prelude.{◌≡◌, ◌≤◌, ◌++◌, ◌&&◌, not, true, [], IfOk, OnOk, option_to_list};
+ghost use Rattle.std.specs.Prelude.{◌≡◌, ◌≤◌, ◌+◌, ◌++◌, ◌∷◌, ◌&&◌, not, true, [], length, IfOk, OnOk, option_to_list};
 ghost use Rattle.std.specs.List.{list_any};
 ghost use Rattle.dns_name.specs.Name.{is_same_name, is_at_or_below};
-ghost use Rattle.dns_zone.specs.Look.{look_of};
+ghost use Rattle.dns_zone_map.specs.Mapped.{contents};
 ghost use Rattle.dns_wire.specs.Given.{in_parts};
-ghost use Rattle.dns_zone.specs.Lookup.{negative_soa, target_of, targets, asked_along, next_look, ahead, answered, followed, is_own, lookup_of};
+ghost use Rattle.dns_zone.specs.Lookup.{negative_soa, target_of, targets, asked_along, next_look, ahead, followed, lookup_of};
 
 use crate::answer::{Answer, Parts};
 use crate::lent::{LentRecord, LentSets};
-use crate::look::{Look, look_of};
+use crate::look::{Look, look_by, look_of};
 use crate::zone::Zone;
 use dns_io::OutOfMemory;
 use dns_name::Name;
+use dns_wire::record_type::SOA;
 use dns_wire::response_code::{NO_ERROR, NX_DOMAIN};
 use dns_wire::{LentRecords, Question, Records};
+use dns_zone_map::{ZoneKey, ZoneMap};
 use std::alloc::Global;
 
 /// How many names may be asked along aliases, behind the first.
 const MORE_NAMES: u32 = 7;
-
-/// Where a chain of looks along aliases ended.
-#[derive(Drop)]
-struct Chain<'a> {
-    code: u16,
-    answers: Parts<'a>,
-    authority: LentRecords<'a>,
-}
 
 /// The answer to a question, with records of its own.
 #[derive(Debug, Drop)]
@@ -57,22 +51,26 @@ impl Zone {
             ≡ lookup_of self.now question.now.name question.now.qtype) }
         ensures code { IfOk result (λ answer. answer.code ≤ 3) }
     {
+        let map = self.map();
         let name = &question.name;
-        let look = look_of(alloc, self, name, question.qtype)?;
-        let aa = is_own(&look);
-        let aliases = Vec::new(alloc);
-        let chain = follow(alloc, MORE_NAMES, self, name, question.qtype, look, aliases)?;
-        let Chain {
-            code,
-            answers,
-            authority,
-        } = chain;
-        Ok(Answer {
-            code,
-            aa,
-            answers,
-            authority,
-        })
+        let key = ZoneKey::new(map.origin(), name);
+        let depth = name.label_count() - map.origin().label_count();
+        match look_by(alloc, map, &key, depth, name, question.qtype)? {
+            Look::Found(found) => Ok(Answer::found(found.parts(alloc)?)),
+            Look::Referral(ns) => Ok(Answer::referral(false, Parts::none(alloc), ns)),
+            Look::NoName => {
+                let soa = soa_by(map, &key, depth);
+                Ok(Answer::negative(NX_DOMAIN, Parts::none(alloc), soa))
+            }
+            Look::NoData => {
+                let soa = soa_by(map, &key, depth);
+                Ok(Answer::negative(NO_ERROR, Parts::none(alloc), soa))
+            }
+            Look::Alias(one) => {
+                let aliases = Vec::new(alloc);
+                Ok(follow(alloc, MORE_NAMES, self, question, one, aliases)?)
+            }
+        }
     }
 
     /// The answer that `answer` lends, with records of its own.
@@ -91,97 +89,84 @@ impl Zone {
     }
 }
 
-fn is_own(look: &Look) -> bool
-    ensures { result ≡ is_own look.now }
-{
-    match look {
-        Look::Referral(_) => false,
-        _ => true,
-    }
-}
-
-/// The answer behind aliases, where `more` further names may be asked.
+/// The answer behind aliases, of which the last may be followed to `more` further names. One alias takes no memory of its own.
 fn follow<'a>(
     alloc: Global,
     more: u32,
     zone: &'a Zone,
-    first: &Name,
-    rtype: u16,
-    look: Look<'a>,
+    question: &'a Question,
+    last: LentRecord<'a>,
     mut aliases: Vec<LentRecord<'a>>,
-) -> Result<Chain<'a>, OutOfMemory>
-    ensures is { IfOk result (λ chain. chain
-        ≡ ahead aliases.entry.items (answered zone.now look.entry (followed more zone.now rtype (asked_along first.now aliases.entry.items)))) }
-    ensures code { IfOk result (λ chain. chain.code ≤ 3) }
+) -> Result<Answer<'a>, OutOfMemory>
+    ensures is { IfOk result (λ answer. record { code = answer.code; answers = answer.answers; authority = answer.authority }
+        ≡ ahead aliases.entry.items (followed more zone.now question.now.qtype (asked_along question.now.name aliases.entry.items) last.entry)) }
+    ensures own { IfOk result (λ answer. answer.aa ≡ true) }
+    ensures code { IfOk result (λ answer. answer.code ≤ 3) }
 {
-    match look {
-        Look::Referral(ns) => Ok(Chain {
-            code: NO_ERROR,
-            answers: parts_of(alloc, &aliases)?,
-            authority: ns,
-        }),
-        Look::NoName => Ok(Chain {
-            code: NX_DOMAIN,
-            answers: parts_of(alloc, &aliases)?,
-            authority: negative_soa(zone),
-        }),
-        Look::NoData => Ok(Chain {
-            code: NO_ERROR,
-            answers: parts_of(alloc, &aliases)?,
-            authority: negative_soa(zone),
-        }),
-        Look::Found(found) => Ok(chain_end(parts_before(alloc, &aliases, &found)?)),
-        Look::Alias(one) => {
-            let next = next_look(alloc, more, zone, first, rtype, &aliases, &one)?;
-            aliases.push(one)?;
-            match next {
-                None => Ok(chain_end(parts_of(alloc, &aliases)?)),
-                Some(look) => Ok(follow(alloc, more - 1, zone, first, rtype, look, aliases)?),
-            }
+    let first = &question.name;
+    match next_look(alloc, more, zone, first, question.qtype, &aliases, &last)? {
+        None => Ok(Answer::found(alias_parts(alloc, &aliases, &last)?)),
+        Some(Look::Found(found)) => {
+            Ok(Answer::found(parts_before(alloc, &aliases, &last, &found)?))
+        }
+        Some(Look::Referral(ns)) => {
+            Ok(Answer::referral(true, alias_parts(alloc, &aliases, &last)?, ns))
+        }
+        Some(Look::NoName) => {
+            let parts = alias_parts(alloc, &aliases, &last)?;
+            Ok(Answer::negative(NX_DOMAIN, parts, negative_soa(zone)))
+        }
+        Some(Look::NoData) => {
+            let parts = alias_parts(alloc, &aliases, &last)?;
+            Ok(Answer::negative(NO_ERROR, parts, negative_soa(zone)))
+        }
+        Some(Look::Alias(next)) => {
+            aliases.push(last)?;
+            Ok(follow(alloc, more - 1, zone, question, next, aliases)?)
         }
     }
 }
 
-/// An answer with no authority.
-fn chain_end<'a>(answers: Parts<'a>) -> Chain<'a>
-    ensures code { result.code ≡ 0 }
-    ensures answers { result.answers ≡ answers.entry }
-    ensures authority { result.authority ≡ [] }
+/// Aliases, each as a part. One alone takes no memory.
+fn alias_parts<'a>(
+    alloc: Global,
+    aliases: &[LentRecord<'a>],
+    last: &LentRecord<'a>,
+) -> Result<Parts<'a>, OutOfMemory>
+    ensures { IfOk result (λ parts. parts ≡ aliases.now ++ last.now ∷ []) }
 {
-    Chain {
-        code: NO_ERROR,
-        answers,
-        authority: LentRecords::none(),
+    if aliases.is_empty() {
+        return Ok(Parts::one(last.alone()));
     }
+    Ok(Parts::from_vec(each_alias(alloc, aliases, last)?))
 }
 
-/// Aliases, each as a part.
-fn parts_of<'a>(alloc: Global, aliases: &[LentRecord<'a>]) -> Result<Parts<'a>, OutOfMemory>
-    ensures { IfOk result (λ parts. parts ≡ aliases.now) }
-{
-    let mut parts = Vec::new(alloc);
-    add_aliases(aliases, &mut parts)?;
-    Ok(Parts::from_vec(parts))
-}
-
-/// Aliases, each as a part, before the records that were found. Where there are no aliases, and one set was found, that takes no
-/// memory.
+/// Aliases, each as a part, before the records that were found.
 fn parts_before<'a>(
     alloc: Global,
     aliases: &[LentRecord<'a>],
+    last: &LentRecord<'a>,
     found: &LentSets<'a>,
 ) -> Result<Parts<'a>, OutOfMemory>
-    ensures { IfOk result (λ parts. parts ≡ aliases.now ++ found.now) }
+    ensures { IfOk result (λ parts. parts ≡ (aliases.now ++ last.now ∷ []) ++ found.now) }
 {
-    if aliases.is_empty() {
-        if let Some(part) = found.only() {
-            return Ok(Parts::one(alloc, part));
-        }
-    }
-    let mut parts = Vec::new(alloc);
-    add_aliases(aliases, &mut parts)?;
+    let mut parts = each_alias(alloc, aliases, last)?;
     found.add_to(&mut parts)?;
     Ok(Parts::from_vec(parts))
+}
+
+/// Aliases, each as a part, with room for one part more.
+fn each_alias<'a>(
+    alloc: Global,
+    aliases: &[LentRecord<'a>],
+    last: &LentRecord<'a>,
+) -> Result<Vec<LentRecords<'a>>, OutOfMemory>
+    ensures { IfOk result (λ parts. in_parts parts.items ≡ aliases.now ++ last.now ∷ []) }
+{
+    let mut parts = Vec::with_capacity(alloc, aliases.len().saturating_add(2))?;
+    add_aliases(aliases, &mut parts)?;
+    parts.push(last.alone())?;
+    Ok(parts)
 }
 
 /// Adds each alias at the end, as a part.
@@ -191,7 +176,6 @@ fn add_aliases<'a>(
 ) -> Result<(), OutOfMemory>
     ensures { OnOk result (in_parts parts.new.items ≡ in_parts parts.old.items ++ aliases.now) }
 {
-    parts.reserve(aliases.len())?;
     for one in aliases {
         parts.push(one.alone())?;
     }
@@ -275,5 +259,21 @@ fn negative_soa(zone: &Zone) -> LentRecords<'_>
     match zone.soa() {
         None => LentRecords::none(),
         Some(soa) => LentRecords::negative(soa.as_slice()),
+    }
+}
+
+/// The same by the key of a name that has so many labels more than the origin.
+fn soa_by<'a>(map: &'a ZoneMap, key: &ZoneKey<'_>, depth: usize) -> LentRecords<'a>
+    requires origin { key.now.origin ≡ map.now.origin }
+    requires within { is_at_or_below key.now.name map.now.origin ≡ true }
+    requires depth { length map.now.origin + depth ≡ length key.now.name }
+    ensures { result ≡ negative_soa (contents map.now) }
+{
+    match map.sets(key, depth) {
+        None => LentRecords::none(),
+        Some(sets) => match sets.set(SOA) {
+            None => LentRecords::none(),
+            Some(set) => LentRecords::negative(set.records().as_slice()),
+        },
     }
 }

@@ -1,7 +1,45 @@
-use Rattle.dns_zone.proofs.Aliases.{looked_is}
+use Rattle.std.proofs.Common.{sym, ap, refl, ◌∙◌}
+use Rattle.dns_zone.specs.declared.look.Look.TheVariants.{Referral, NoName, Alias, Found, NoData}
+use Rattle.dns_zone.specs.Look.{look_of}
+use Rattle.dns_zone.specs.Lookup.{negative_soa}
+use Rattle.dns_zone.proofs.Aliases.{answer_is}
 use Rattle.dns_zone.proofs.zone.Zone.answer.Goals as goal
 
-pub returns-clause-is : goal.returns-clause-is
-returns-clause-is c =
-    looked_is c.args.self.now c.args.question.now.name c.args.question.now.qtype c.in_ok-look.look c.is_own-aa.result c.new-aliases.result.items c.in_ok-chain.chain
-    c.in_ok-look.ensures c.is_own-aa.ensures c.new-aliases.ensures.items c.in_ok-chain.ensures.is
+pub returns-in_ok-parts-in-Found-clause-is : goal.returns-in_ok-parts-in-Found-clause-is
+returns-in_ok-parts-in-Found-clause-is c =
+    let r = c.found.result in
+    let is = c.found.ensures in
+    answer_is c.args.self.now c.args.question.now.name c.args.question.now.qtype (Found c.in-Found.found) r.code r.aa r.answers r.authority
+    (sym c.in-Found.is ∙ c.in_ok-found.ensures ∙ ap (λ zone. look_of zone c.args.question.now.name c.args.question.now.qtype) c.map-map.ensures.is)
+    is.aa (rw (is.code, is.answers, c.in_ok-parts-in-Found.ensures, is.authority) refl)
+
+pub returns-in-Referral-clause-is : goal.returns-in-Referral-clause-is
+returns-in-Referral-clause-is c =
+    let r = c.referral.result in
+    let is = c.referral.ensures in
+    answer_is c.args.self.now c.args.question.now.name c.args.question.now.qtype (Referral c.in-Referral.ns) r.code r.aa r.answers r.authority
+    (sym c.in-Referral.is ∙ c.in_ok-found.ensures ∙ ap (λ zone. look_of zone c.args.question.now.name c.args.question.now.qtype) c.map-map.ensures.is)
+    is.aa (rw (is.code, is.answers, c.none.ensures, is.authority) refl)
+
+pub returns-in-NoName-clause-is : goal.returns-in-NoName-clause-is
+returns-in-NoName-clause-is c =
+    let r = c.negative.result in
+    let is = c.negative.ensures in
+    answer_is c.args.self.now c.args.question.now.name c.args.question.now.qtype NoName r.code r.aa r.answers r.authority
+    (sym c.in-NoName.is ∙ c.in_ok-found.ensures ∙ ap (λ zone. look_of zone c.args.question.now.name c.args.question.now.qtype) c.map-map.ensures.is)
+    is.aa (rw (is.code, is.answers, c.none-in-NoName.ensures, is.authority, c.soa_by-soa.ensures ∙ ap negative_soa c.map-map.ensures.is) refl)
+
+pub returns-in-NoData-clause-is : goal.returns-in-NoData-clause-is
+returns-in-NoData-clause-is c =
+    let r = c.negative-in-NoData.result in
+    let is = c.negative-in-NoData.ensures in
+    answer_is c.args.self.now c.args.question.now.name c.args.question.now.qtype NoData r.code r.aa r.answers r.authority
+    (sym c.in-NoData.is ∙ c.in_ok-found.ensures ∙ ap (λ zone. look_of zone c.args.question.now.name c.args.question.now.qtype) c.map-map.ensures.is)
+    is.aa (rw (is.code, is.answers, c.none-in-NoData.ensures, is.authority, c.soa_by-soa-in-NoData.ensures ∙ ap negative_soa c.map-map.ensures.is) refl)
+
+pub returns-in_ok-follow-in-Alias-clause-is : goal.returns-in_ok-follow-in-Alias-clause-is
+returns-in_ok-follow-in-Alias-clause-is c =
+    let r = c.in_ok-follow-in-Alias.field-0 in
+    answer_is c.args.self.now c.args.question.now.name c.args.question.now.qtype (Alias c.in-Alias.one) r.code r.aa r.answers r.authority
+    (sym c.in-Alias.is ∙ c.in_ok-found.ensures ∙ ap (λ zone. look_of zone c.args.question.now.name c.args.question.now.qtype) c.map-map.ensures.is)
+    c.in_ok-follow-in-Alias.ensures.own (rw c.new-aliases.ensures.items at c.in_ok-follow-in-Alias.ensures.is)

@@ -1,0 +1,23 @@
+use Rattle.std.proofs.Common.{◌∙◌, [], ap, map}
+use Rattle.dns_wire.specs.Given.{negative}
+use Rattle.dns_zone.specs.Lent.{records_or_none}
+use Rattle.dns_zone.proofs.Descending.{top_set}
+use Rattle.dns_zone.proofs.lookup.soa_by.Goals as goal
+
+pub returns-in-None : goal.returns-in-None
+returns-in-None c =
+    c.none.ensures
+    ∙ ap (map negative) (top_set c.args.map.now.origin c.args.map.now.records c.args.key.now.name c.args.depth 6 [] c.requires.within c.requires.depth c.in-None.ensures.sets)
+
+pub returns-in-None-set : goal.returns-in-None-set
+returns-in-None-set c =
+    c.none-in-None-set.ensures
+    ∙ ap (λ found. map negative (records_or_none found)) c.in-None-set.ensures
+    ∙ ap (map negative) (top_set c.args.map.now.origin c.args.map.now.records c.args.key.now.name c.args.depth 6 c.in-Some.sets.now c.requires.within c.requires.depth c.in-Some.ensures.sets)
+
+pub returns-in-Some-set : goal.returns-in-Some-set
+returns-in-Some-set c =
+    c.negative.ensures
+    ∙ ap (map negative) (c.as_slice.ensures ∙ c.records.ensures)
+    ∙ ap (λ found. map negative (records_or_none found)) c.in-Some-set.ensures
+    ∙ ap (map negative) (top_set c.args.map.now.origin c.args.map.now.records c.args.key.now.name c.args.depth 6 c.in-Some.sets.now c.requires.within c.requires.depth c.in-Some.ensures.sets)
