@@ -4,6 +4,7 @@ ghost use Rattle.std.specs.Prelude.{◌≡◌, ◌⊎◌, ◌≤◌, ◌<◌, �
 ghost use Rattle.dns_io.specs.Edge.{Rose};
 ghost use Rattle.dns_io.specs.declared.peer.Protocol.TheVariants as protocol;
 ghost use Rattle.dns_gateway.specs.Asks.{ask_of};
+ghost use Rattle.dns_quic.specs.Halves.{EndsHalf};
 ghost use Rattle.dns_gateway.specs.Quic.{other_id, AnswersMessage, Refuses, SendsReply, SettlesMessage, SettlesStream};
 
 use dns_book::{AccessControl, Ask, ReplyBytes, Settled};
@@ -30,7 +31,7 @@ pub fn settle_quic<T: RequestHandler, S: SendHalf, R: RecvHalf>(
     at: u64,
 ) -> Result<Settled, NetError>
     requires moment { at < 2 ^ 47 }
-    ensures settles { SettlesStream (T.serves access.now) T.skips S.taken S.ends R.left R.stops (ask_of peer protocol.Quic at)
+    ensures settles { SettlesStream (T.serves access.now) T.skips S.taken S.ends (EndsHalf S.ending S.faults) R.left R.stops (ask_of peer protocol.Quic at)
         handler.old stream.old result handler.new stream.new }
     ensures recv_faults { R.faults stream.old.recv ≤ R.faults stream.new.recv }
     ensures send_faults { S.faults stream.old.send ≤ S.faults stream.new.send }
@@ -60,7 +61,7 @@ fn answer<T: RequestHandler, S: SendHalf, R: RecvHalf>(
 ) -> Result<Settled, NetError>
     requires moment { ask.now.at < 2 ^ 47 }
     requires bytes { length ask.now.bytes ≤ 65535 }
-    ensures answers { AnswersMessage (T.serves access.now) T.skips S.taken S.ends (other_id ask.now.bytes) handler.old stream.old ask.now result handler.new stream.new }
+    ensures answers { AnswersMessage (T.serves access.now) T.skips S.taken S.ends (EndsHalf S.ending S.faults) (other_id ask.now.bytes) handler.old stream.old ask.now result handler.new stream.new }
     ensures recv { stream.new.recv ≡ stream.old.recv }
     ensures send_faults { S.faults stream.old.send ≤ S.faults stream.new.send }
     ensures failed { IsErrOf result NetError.Io → Rose (S.faults stream.old.send) (S.faults stream.new.send) }
@@ -90,7 +91,7 @@ fn refuse<S: SendHalf, R: RecvHalf>(
     stream: &mut QuicStream<S, R>,
     id: u16,
 ) -> Result<Settled, NetError>
-    ensures refuses { Refuses S.taken S.ends stream.old id result stream.new }
+    ensures refuses { Refuses S.taken S.ends (EndsHalf S.ending S.faults) stream.old id result stream.new }
     ensures recv { stream.new.recv ≡ stream.old.recv }
     ensures send_faults { S.faults stream.old.send ≤ S.faults stream.new.send }
     ensures calm { IsErrOf result NetError.Io → ⊥ }
@@ -110,7 +111,7 @@ fn settle<T: RequestHandler, S: SendHalf, R: RecvHalf>(
 ) -> Result<Settled, NetError>
     requires moment { ask.now.at < 2 ^ 47 }
     requires bytes { length ask.now.bytes ≤ 65535 }
-    ensures settles { SettlesMessage (T.serves access.now) T.skips S.taken S.ends handler.old stream.old ask.now result handler.new stream.new }
+    ensures settles { SettlesMessage (T.serves access.now) T.skips S.taken S.ends (EndsHalf S.ending S.faults) handler.old stream.old ask.now result handler.new stream.new }
     ensures recv { stream.new.recv ≡ stream.old.recv }
     ensures send_faults { S.faults stream.old.send ≤ S.faults stream.new.send }
     ensures failed { IsErrOf result NetError.Io → Rose (S.faults stream.old.send) (S.faults stream.new.send) }
@@ -127,7 +128,7 @@ fn send_reply<S: SendHalf, R: RecvHalf>(
     stream: &mut QuicStream<S, R>,
     reply: &Option<ReplyBytes>,
 ) -> Result<(), NetError>
-    ensures sends { SendsReply S.taken S.ends stream.old reply.now result stream.new }
+    ensures sends { SendsReply S.taken S.ends (EndsHalf S.ending S.faults) stream.old reply.now result stream.new }
     ensures recv { stream.new.recv ≡ stream.old.recv }
     ensures send_faults { S.faults stream.old.send ≤ S.faults stream.new.send }
     ensures failed { IsErrOf result NetError.Io → Rose (S.faults stream.old.send) (S.faults stream.new.send) }
@@ -143,7 +144,7 @@ fn send_whole<S: SendHalf, R: RecvHalf>(
     stream: &mut QuicStream<S, R>,
     bytes: &[u8],
 ) -> Result<(), NetError>
-    ensures sends { SendsReply S.taken S.ends stream.old (Some bytes.now) result stream.new }
+    ensures sends { SendsReply S.taken S.ends (EndsHalf S.ending S.faults) stream.old (Some bytes.now) result stream.new }
     ensures recv { stream.new.recv ≡ stream.old.recv }
     ensures send_faults { S.faults stream.old.send ≤ S.faults stream.new.send }
     ensures failed { IsErrOf result NetError.Io → Rose (S.faults stream.old.send) (S.faults stream.new.send) }

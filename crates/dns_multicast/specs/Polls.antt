@@ -2,6 +2,7 @@
 use Rattle.std.specs.Prelude.{◌≡◌, ℕ, List, [], ◌∷◌, Option, Some, None, Result, Ok, Err}
 use Rattle.dns_io.specs.Edge.{Told, Keeps, Takes, HasCause}
 use Rattle.dns_io.specs.declared.edge.IoFault.{IoFault}
+use Rattle.dns_io.specs.declared.edge.IoFault.TheVariants.{Failed, OutOfMemory}
 use Rattle.dns_multicast.specs.declared.packet.Packet.{Packet}
 use Rattle.dns_transport.specs.Faults.{of_io}
 use Rattle.dns_transport.specs.declared.error.NetError.{NetError}
@@ -16,12 +17,13 @@ GivesPacket before now (Ready None) = Told (λ left rest. (left ≡ []) × (rest
 GivesPacket before now (Ready (Some (Ok packet))) = Takes before now (packet ∷ [])
 GivesPacket before now (Ready (Some (Err fault))) = Keeps before now
 
--- the count of faults rose where a call failed, and stood still else
+-- the count of faults rose where a call failed, and stood still else: where there is none yet, a packet, the end or no memory
 abbrev pub HasPollCause : ℕ → ℕ → Poll (Option (Result Packet IoFault)) → Type 0
 HasPollCause before now Pending = now ≡ before
 HasPollCause before now (Ready None) = now ≡ before
 HasPollCause before now (Ready (Some (Ok packet))) = now ≡ before
-HasPollCause before now (Ready (Some (Err fault))) = HasCause {T = Packet} before now (Err fault)
+HasPollCause before now (Ready (Some (Err Failed))) = HasCause {T = Packet} before now (Err Failed)
+HasPollCause before now (Ready (Some (Err OutOfMemory))) = now ≡ before
 
 -- the answer of a source, with a fault as it is told outside
 abbrev pub told_as : Poll (Option (Result Packet IoFault)) → Poll (Option (Result Packet NetError))

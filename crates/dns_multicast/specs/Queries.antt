@@ -2,6 +2,7 @@
 use Rattle.std.specs.Prelude.{ℕ, ◌+◌, ◌*◌, ◌%◌, ◌^◌, nat_le, nat_lt, Bool, true, false, ◌&&◌, Option, Some, None}
 use Rattle.dns_io.specs.declared.peer.Ip.{Ip}
 use Rattle.dns_io.specs.declared.peer.Ip.TheVariants.{V4, V6}
+use Rattle.dns_io.specs.declared.peer.Peer.{Peer}
 use Rattle.dns_multicast.specs.declared.query_type.MdnsQueryType.{MdnsQueryType}
 use Rattle.dns_multicast.specs.declared.query_type.MdnsQueryType.TheVariants.{OneShot, Continuous, OneShotJoin, Passive}
 
@@ -37,3 +38,11 @@ port_of Passive word = None
 abbrev pub is_group : Ip → Bool
 is_group (V4 ip) = nat_le (224 * 2 ^ 24) ip && nat_lt ip (240 * 2 ^ 24)
 is_group (V6 ip) = nat_le (255 * 2 ^ 120) ip
+
+-- the group of multicast DNS by version 4, 224.0.0.251, and its port (RFC 6762 3)
+abbrev pub group_v4 : Peer
+group_v4 = record { ip = V4 (224 * 2 ^ 24 + 251); port = 5353 }
+
+-- the group of multicast DNS by version 6, ff02::fb, and its port (RFC 6762 3)
+abbrev pub group_v6 : Peer
+group_v6 = record { ip = V6 (255 * 2 ^ 120 + 2 * 2 ^ 112 + 251); port = 5353 }

@@ -4,8 +4,7 @@ ghost use Rattle.std.specs.Prelude.{◌≡◌, ◌⊎◌, ◌<◌, ◌≤◌, �
 ghost use Rattle.std.specs.Option.{is_some};
 ghost use Rattle.dns_io.specs.Edge.{Rose};
 ghost use Rattle.dns_multicast.specs.Polls.{IsIo, PollsNext, faults_of};
-ghost use Rattle.dns_multicast.specs.Queries.{is_group, is_joined, is_sender};
-ghost use Rattle.dns_multicast.specs.declared.address.TheConstants.{MDNS_IPV4, MDNS_IPV6};
+ghost use Rattle.dns_multicast.specs.Queries.{group_v4, group_v6, is_group, is_joined, is_sender};
 ghost use Rattle.dns_transport.specs.declared.error.NetError.TheVariants.{NotMulticast};
 
 use crate::packet::{Packet, PacketPoll};
@@ -48,7 +47,7 @@ impl<D: PacketPoll + Drop, M: PacketPoll + Drop> MdnsClientStream<D, M> {
         requires ttl { IfSome packet_ttl (λ ttl. 0 < ttl) }
         requires sends { is_some datagram ≡ is_sender kind }
         requires joins { is_some multicast ≡ is_joined kind }
-        ensures { result ≡ Ok (record { stream = record { addr = MDNS_IPV4; kind = kind; packet_ttl = packet_ttl; datagram = datagram; multicast = multicast } }) }
+        ensures { result ≡ Ok (record { stream = record { addr = group_v4; kind = kind; packet_ttl = packet_ttl; datagram = datagram; multicast = multicast } }) }
     {
         let stream = MdnsStream::new_ipv4(kind, packet_ttl, datagram, multicast)?;
         Ok(MdnsClientStream { stream })
@@ -64,7 +63,7 @@ impl<D: PacketPoll + Drop, M: PacketPoll + Drop> MdnsClientStream<D, M> {
         requires ttl { IfSome packet_ttl (λ ttl. 0 < ttl) }
         requires sends { is_some datagram ≡ is_sender kind }
         requires joins { is_some multicast ≡ is_joined kind }
-        ensures { result ≡ Ok (record { stream = record { addr = MDNS_IPV6; kind = kind; packet_ttl = packet_ttl; datagram = datagram; multicast = multicast } }) }
+        ensures { result ≡ Ok (record { stream = record { addr = group_v6; kind = kind; packet_ttl = packet_ttl; datagram = datagram; multicast = multicast } }) }
     {
         let stream = MdnsStream::new_ipv6(kind, packet_ttl, datagram, multicast)?;
         Ok(MdnsClientStream { stream })
@@ -84,6 +83,8 @@ impl<D: PacketPoll + Drop, M: PacketPoll + Drop> MdnsClientStream<D, M> {
         ensures later_datagram { faults_of D.faults self.old.stream.datagram ≤ faults_of D.faults self.new.stream.datagram }
         ensures later_multicast { faults_of M.faults self.old.stream.multicast ≤ faults_of M.faults self.new.stream.multicast }
         ensures cause { IsIo result → Rose (faults_of D.faults self.old.stream.datagram) (faults_of D.faults self.new.stream.datagram) ⊎ Rose (faults_of M.faults self.old.stream.multicast) (faults_of M.faults self.new.stream.multicast) }
+        ensures calm_datagram { ¬ (IsIo result) → faults_of D.faults self.new.stream.datagram ≡ faults_of D.faults self.old.stream.datagram }
+        ensures calm_multicast { ¬ (IsIo result) → faults_of M.faults self.new.stream.multicast ≡ faults_of M.faults self.old.stream.multicast }
     {
         self.stream.poll_next()
     }

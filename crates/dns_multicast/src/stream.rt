@@ -4,8 +4,7 @@ ghost use Rattle.std.specs.Prelude.{◌≡◌, ◌⊎◌, ◌<◌, ◌≤◌, �
 ghost use Rattle.std.specs.Option.{is_some};
 ghost use Rattle.dns_io.specs.Edge.{Rose};
 ghost use Rattle.dns_multicast.specs.Polls.{HasPollCause, IsAsked, IsIo, PollsNext, faults_of, told_as};
-ghost use Rattle.dns_multicast.specs.Queries.{is_group, is_joined, is_sender};
-ghost use Rattle.dns_multicast.specs.declared.address.TheConstants.{MDNS_IPV4, MDNS_IPV6};
+ghost use Rattle.dns_multicast.specs.Queries.{group_v4, group_v6, is_group, is_joined, is_sender};
 ghost use Rattle.dns_transport.specs.declared.error.NetError.TheVariants.{NotMulticast};
 
 use crate::address::{MDNS_IPV4, MDNS_IPV6, is_group};
@@ -62,7 +61,7 @@ impl<D: PacketPoll + Drop, M: PacketPoll + Drop> MdnsStream<D, M> {
         requires ttl { IfSome packet_ttl (λ ttl. 0 < ttl) }
         requires sends { is_some datagram ≡ is_sender kind }
         requires joins { is_some multicast ≡ is_joined kind }
-        ensures { result ≡ Ok (record { addr = MDNS_IPV4; kind = kind; packet_ttl = packet_ttl; datagram = datagram; multicast = multicast }) }
+        ensures { result ≡ Ok (record { addr = group_v4; kind = kind; packet_ttl = packet_ttl; datagram = datagram; multicast = multicast }) }
     {
         MdnsStream::new(MDNS_IPV4, kind, packet_ttl, datagram, multicast)
     }
@@ -77,7 +76,7 @@ impl<D: PacketPoll + Drop, M: PacketPoll + Drop> MdnsStream<D, M> {
         requires ttl { IfSome packet_ttl (λ ttl. 0 < ttl) }
         requires sends { is_some datagram ≡ is_sender kind }
         requires joins { is_some multicast ≡ is_joined kind }
-        ensures { result ≡ Ok (record { addr = MDNS_IPV6; kind = kind; packet_ttl = packet_ttl; datagram = datagram; multicast = multicast }) }
+        ensures { result ≡ Ok (record { addr = group_v6; kind = kind; packet_ttl = packet_ttl; datagram = datagram; multicast = multicast }) }
     {
         MdnsStream::new(MDNS_IPV6, kind, packet_ttl, datagram, multicast)
     }
@@ -97,6 +96,8 @@ impl<D: PacketPoll + Drop, M: PacketPoll + Drop> MdnsStream<D, M> {
         ensures later_datagram { faults_of D.faults self.old.datagram ≤ faults_of D.faults self.new.datagram }
         ensures later_multicast { faults_of M.faults self.old.multicast ≤ faults_of M.faults self.new.multicast }
         ensures cause { IsIo result → Rose (faults_of D.faults self.old.datagram) (faults_of D.faults self.new.datagram) ⊎ Rose (faults_of M.faults self.old.multicast) (faults_of M.faults self.new.multicast) }
+        ensures calm_datagram { ¬ (IsIo result) → faults_of D.faults self.new.datagram ≡ faults_of D.faults self.old.datagram }
+        ensures calm_multicast { ¬ (IsIo result) → faults_of M.faults self.new.multicast ≡ faults_of M.faults self.old.multicast }
     {
         match ask(&mut self.datagram) {
             Poll::Pending => told(ask(&mut self.multicast)),

@@ -2,10 +2,11 @@
 use Rattle.std.specs.Prelude.{◌≡◌, ℕ, ◌+◌, ◌*◌, ◌<◌, ◌≤◌, ◌==◌, nat_lt, true, List, [], ◌∷◌, ◌++◌, length, Option, Result, Ok, Err, MatchBool, MatchResult}
 use Rattle.std.specs.Int.{w16, to_be_bytes}
 use Rattle.dns_io.specs.Edge.{Told, Keeps, Grows, GrowsByPrefix}
+use Rattle.dns_io.specs.declared.edge.IoFault.{IoFault}
 use Rattle.dns_name.specs.declared.fault.ProtoError.{ProtoError}
 use Rattle.dns_wire.specs.declared.message.Message.{Message}
 use Rattle.dns_wire.specs.MessageBytes.{message_bytes, TellsTooLong}
-use Rattle.dns_transport.specs.Faults.{of_proto}
+use Rattle.dns_transport.specs.Faults.{of_io, of_proto}
 use Rattle.dns_transport.specs.Messages.{with_id_0, ReadsMessage}
 use Rattle.dns_transport.specs.declared.error.NetError.{NetError}
 use Rattle.dns_transport.specs.declared.error.NetError.TheVariants.{QuicMessageIdNot0, FinishedEarly, MaxBufferSizeExceeded, UnknownStream, Io, OutOfMemory}
@@ -57,18 +58,28 @@ SendsMessage taken ends before message result after =
     (λ bytes. SendsBytes taken ends before bytes result after)
     (λ fault. (result ≡ Err fault) × (after ≡ before))
 
+-- what a call of a half answers, as it is told outside
+abbrev pub told_as : Result (Unit {0}) IoFault → Result (Unit {0}) NetError
+told_as (Ok done) = Ok done
+told_as (Err fault) = Err (of_io fault)
+
+-- the half is ended so by one call, and what that answers is told
+abbrev pub EndsOnce : {S : Type 0} → (S → StreamEnd → Result (Unit {0}) IoFault → S → Type 0) → S → StreamEnd → Result (Unit {0}) NetError → S → Type 0
+EndsOnce ending before end result after = (answer : Result (Unit {0}) IoFault) × ending before end answer after × (result ≡ told_as answer)
+
 -- what ending the sending half so does, where it was not ended before: after a fault it is not
-abbrev pub EndsSo : {S R : Type 0} → (S → Option (List ℕ)) → (S → Option (List StreamEnd)) → QuicStream S R → StreamEnd → Result (Unit {0}) NetError → QuicStream S R → Type 0
-EndsSo taken ends before end result after =
-    Keeps (taken before.send) (taken after.send)
+abbrev pub EndsSo : {S R : Type 0} → (S → Option (List ℕ)) → (S → Option (List StreamEnd)) → (S → StreamEnd → Result (Unit {0}) IoFault → S → Type 0) → QuicStream S R → StreamEnd → Result (Unit {0}) NetError → QuicStream S R → Type 0
+EndsSo taken ends ending before end result after =
+    EndsOnce ending before.send end result after.send
+    × Keeps (taken before.send) (taken after.send)
     × MatchResult result
     (λ _. Grows (ends before.send) (ends after.send) (end ∷ []) × (after ≡ record before { send = after.send; is_ended = true }))
     (λ fault. IsIoFault fault × Keeps (ends before.send) (ends after.send) × (after ≡ record before { send = after.send }))
 
 -- what ending the sending half so does
-abbrev pub Ends : {S R : Type 0} → (S → Option (List ℕ)) → (S → Option (List StreamEnd)) → QuicStream S R → StreamEnd → Result (Unit {0}) NetError → QuicStream S R → Type 0
-Ends taken ends before end result after =
-    MatchBool before.is_ended ((result ≡ Err UnknownStream) × (after ≡ before)) (EndsSo taken ends before end result after)
+abbrev pub Ends : {S R : Type 0} → (S → Option (List ℕ)) → (S → Option (List StreamEnd)) → (S → StreamEnd → Result (Unit {0}) IoFault → S → Type 0) → QuicStream S R → StreamEnd → Result (Unit {0}) NetError → QuicStream S R → Type 0
+Ends taken ends ending before end result after =
+    MatchBool before.is_ended ((result ≡ Err UnknownStream) × (after ≡ before)) (EndsSo taken ends ending before end result after)
 
 -- what stopping the receiving half does
 abbrev pub Stops : {S R : Type 0} → (R → Option (List ℕ)) → (R → Option (List ℕ)) → QuicStream S R → ℕ → Result (Unit {0}) NetError → QuicStream S R → Type 0
@@ -123,25 +134,30 @@ ReceivesBytes left stops before result after =
     × (after ≡ record before { recv = after.recv }))
 
 -- a message must have the id 0 (RFC 9250 4.2.1): else the sending half is reset, whatever that answers
-abbrev pub ChecksId : {S R : Type 0} → (S → Option (List ℕ)) → (S → Option (List StreamEnd)) → QuicStream S R → Message → Result Message NetError → QuicStream S R → Type 0
-ChecksId taken ends before message result after =
+abbrev pub ChecksId : {S R : Type 0} → (S → Option (List ℕ)) → (S → Option (List StreamEnd)) → (S → StreamEnd → Result (Unit {0}) IoFault → S → Type 0) → QuicStream S R → Message → Result Message NetError → QuicStream S R → Type 0
+ChecksId taken ends ending before message result after =
     MatchBool (message.header.id == 0)
     ((result ≡ Ok message) × (after ≡ before))
     ((result ≡ Err (QuicMessageIdNot0 message.header.id))
-    × ((answer : Result (Unit {0}) NetError) × EndsSo taken ends before (Reset 2) answer after))
+    × ((answer : Result (Unit {0}) NetError) × EndsSo taken ends ending before (Reset 2) answer after))
 
 -- what a received message says: it reads, and has the id 0
-abbrev pub ReadsChecked : {S R : Type 0} → (S → Option (List ℕ)) → (S → Option (List StreamEnd)) → QuicStream S R → List ℕ → Result Message NetError → QuicStream S R → Type 0
-ReadsChecked taken ends before bytes result after =
+abbrev pub ReadsChecked : {S R : Type 0} → (S → Option (List ℕ)) → (S → Option (List StreamEnd)) → (S → StreamEnd → Result (Unit {0}) IoFault → S → Type 0) → QuicStream S R → List ℕ → Result Message NetError → QuicStream S R → Type 0
+ReadsChecked taken ends ending before bytes result after =
     (read : Result Message NetError) × ReadsMessage bytes read
     × MatchResult read
-    (λ message. ChecksId taken ends before message result after)
+    (λ message. ChecksId taken ends ending before message result after)
     (λ fault. (result ≡ Err fault) × (after ≡ before))
 
 -- what receiving a message does
-abbrev pub ReceivesMessage : {S R : Type 0} → (S → Option (List ℕ)) → (S → Option (List StreamEnd)) → (R → Option (List ℕ)) → (R → Option (List ℕ)) → QuicStream S R → Result Message NetError → QuicStream S R → Type 0
-ReceivesMessage {S} {R} taken ends left stops before result after =
+abbrev pub ReceivesMessage : {S R : Type 0} → (S → Option (List ℕ)) → (S → Option (List StreamEnd)) → (S → StreamEnd → Result (Unit {0}) IoFault → S → Type 0) → (R → Option (List ℕ)) → (R → Option (List ℕ)) → QuicStream S R → Result Message NetError → QuicStream S R → Type 0
+ReceivesMessage {S} {R} taken ends ending left stops before result after =
     (between : QuicStream S R) × (received : Result (List ℕ) NetError) × ReceivesBytes left stops before received between
     × MatchResult received
-    (λ bytes. ReadsChecked taken ends between bytes result after)
+    (λ bytes. ReadsChecked taken ends ending between bytes result after)
     (λ fault. (result ≡ Err fault) × (after ≡ between))
+
+-- a message was refused by its id
+abbrev pub IsOtherId : {T : Type 0} → Result T NetError → Type 0
+IsOtherId (Err (QuicMessageIdNot0 id)) = Unit {0}
+IsOtherId _ = ⊥

@@ -48,6 +48,7 @@ impl<T: RecvHalf> BodyStream<T> {
         ensures given { IfOk result (GivesBytes (left_behind self.old.waiting (T.left self.old.half)) (T.left self.new.half)) }
         ensures kept { OnErr result (Keeps (left_behind self.old.waiting (T.left self.old.half)) (T.left self.new.half)) }
         ensures none { self.new.waiting ≡ None }
+        ensures unstopped { Keeps (T.stops self.old.half) (T.stops self.new.half) }
         ensures cause { HasCause (T.faults self.old.half) (T.faults self.new.half) result }
         ensures calm { OnOk result (T.faults self.new.half ≡ T.faults self.old.half) }
         ensures uncounted { IsErrOf result IoFault.OutOfMemory → T.faults self.new.half ≡ T.faults self.old.half }
@@ -69,7 +70,15 @@ impl<T: RecvHalf> BodyPieces for BodyStream<T> {
 
     ghost faults = { λ b. T.faults b.half };
 
-    fn next(&mut self) -> Result<Option<Bytes>, IoFault> {
+    fn next(&mut self) -> Result<Option<Bytes>, IoFault>
+        ensures bytes { IfOk result HasBytes }
+        ensures bytes_given { IfOk result (GivesBytes (left_behind self.old.waiting (T.left self.old.half)) (left_behind self.new.waiting (T.left self.new.half))) }
+        ensures bytes_kept { OnErr result (Keeps (left_behind self.old.waiting (T.left self.old.half)) (left_behind self.new.waiting (T.left self.new.half))) }
+        ensures unstopped { Keeps (T.stops self.old.half) (T.stops self.new.half) }
+        ensures cause { HasCause (T.faults self.old.half) (T.faults self.new.half) result }
+        ensures calm { OnOk result (T.faults self.new.half ≡ T.faults self.old.half) }
+        ensures uncounted { IsErrOf result IoFault.OutOfMemory → T.faults self.new.half ≡ T.faults self.old.half }
+    {
         let Some(piece) = self.next_bytes()? else {
             return Ok(None);
         };

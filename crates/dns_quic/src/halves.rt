@@ -1,7 +1,8 @@
 //! The two halves of a stream of QUIC (RFC 9000 2).
 
-ghost use Rattle.std.specs.Prelude.{◌≡◌, ℕ, ◌<◌, ◌∷◌, [], List, Option, IfOk, OnOk, OnErr, IsErrOf};
+ghost use Rattle.std.specs.Prelude.{◌≡◌, ℕ, ◌<◌, ◌∷◌, [], List, Option, Result, IfOk, OnOk, OnErr, IsErrOf};
 ghost use Rattle.dns_io.specs.Edge.{HasCause, Keeps, Grows, GrowsByPrefix};
+ghost use Rattle.dns_io.specs.declared.edge.IoFault.{IoFault as Fault};
 ghost use Rattle.dns_quic.specs.Halves.{IsWithin};
 ghost use Rattle.dns_quic.specs.declared.halves.StreamEnd.{StreamEnd as End};
 ghost use Rattle.dns_quic.specs.declared.halves.StreamEnd.TheVariants.{Finished, Reset};
@@ -30,6 +31,9 @@ pub trait SendHalf {
     /// How many calls failed, up to `u64::MAX`.
     ghost faults: { Self → ℕ };
 
+    /// What one call that ends it so may answer, and how it may leave the half.
+    ghost ending: { Self → End → Result (Unit {0}) Fault → Self → Type 0 };
+
     /// Takes all the bytes. After an error a front of them was taken.
     fn write(&mut self, bytes: &[u8]) -> Result<(), IoFault>
         ensures ok { OnOk result (Grows (taken self.old) (taken self.new) bytes.now) }
@@ -41,6 +45,7 @@ pub trait SendHalf {
 
     /// Tells the other side that these are all bytes. After an error it is not ended.
     fn finish(&mut self) -> Result<(), IoFault>
+        ensures next { ending self.old Finished result self.new }
         ensures ok { OnOk result (Grows (ends self.old) (ends self.new) (Finished ∷ [])) }
         ensures err { OnErr result (Keeps (ends self.old) (ends self.new)) }
         ensures unwritten { Keeps (taken self.old) (taken self.new) }
@@ -50,6 +55,7 @@ pub trait SendHalf {
 
     /// Tells the other side, with this code, that no more bytes come. After an error it is not ended.
     fn reset(&mut self, code: u64) -> Result<(), IoFault>
+        ensures next { ending self.old (Reset code) result self.new }
         ensures ok { OnOk result (Grows (ends self.old) (ends self.new) (Reset code ∷ [])) }
         ensures err { OnErr result (Keeps (ends self.old) (ends self.new)) }
         ensures unwritten { Keeps (taken self.old) (taken self.new) }

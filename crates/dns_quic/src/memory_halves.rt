@@ -94,6 +94,8 @@ impl SendHalf for MemorySend {
 
     ghost faults = { λ s. s.faults };
 
+    ghost ending = { EndNext };
+
     fn write(&mut self, bytes: &[u8]) -> Result<(), IoFault>
         ensures ok { OnOk result (Grows (Some self.old.taken) (Some self.new.taken) bytes.now) }
         ensures err { OnErr result ((rest : List ℕ) × GrowsByPrefix (Some self.old.taken) (Some self.new.taken) bytes.now rest) }

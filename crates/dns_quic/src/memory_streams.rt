@@ -178,6 +178,7 @@ impl OpenStreams for MemoryStreams {
         ensures later { self.old.faults ≤ self.new.faults }
         ensures counted_out { 0 < out.faults → Rose self.old.faults self.new.faults }
         ensures counted_in { 0 < back.faults → Rose self.old.faults self.new.faults }
+        ensures calm { out.faults ≡ 0 → back.faults ≡ 0 → self.new.faults ≡ self.old.faults }
         ensures next { self.new ≡ returned self.old out back }
     {
         if has_faults(&out, &back) {

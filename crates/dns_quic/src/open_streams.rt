@@ -57,6 +57,7 @@ pub trait OpenStreams {
         ensures none_out { OnErr result (given_out self.new ≡ given_out self.old) }
         ensures unclosed { Keeps (closed self.old) (closed self.new) }
         ensures unaccepted { Keeps (coming self.old) (coming self.new) }
+        ensures calm { OnOk result (faults self.new ≡ faults self.old) }
         ensures cause { HasLinkCause (faults self.old) (faults self.new) result }
         ensures uncounted { IsErrOf result LinkFault.OutOfMemory → faults self.new ≡ faults self.old };
 
@@ -89,5 +90,6 @@ pub trait OpenStreams {
         ensures back { given_out self.new + 1 ≡ given_out self.old }
         ensures later { faults self.old ≤ faults self.new }
         ensures counted_out { 0 < Self.Out.faults out → Rose (faults self.old) (faults self.new) }
-        ensures counted_in { 0 < Self.In.faults back → Rose (faults self.old) (faults self.new) };
+        ensures counted_in { 0 < Self.In.faults back → Rose (faults self.old) (faults self.new) }
+        ensures calm { Self.Out.faults out ≡ 0 → Self.In.faults back ≡ 0 → faults self.new ≡ faults self.old };
 }

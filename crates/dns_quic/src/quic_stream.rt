@@ -4,7 +4,8 @@ ghost use Rattle.std.specs.Prelude.{◌≡◌, ◌≤◌, ◌++◌, ℕ, List, f
 ghost use Rattle.std.specs.Int.{w16, to_be_bytes};
 ghost use Rattle.dns_io.specs.Edge.{Keeps};
 ghost use Rattle.dns_quic.specs.Codes.{number_of};
-ghost use Rattle.dns_quic.specs.Streams.{ChecksId, Ends, EndsSo, Encodes, ReceivesBytes, ReadsChecked, ReceivesMessage, SendsBytes, SendsMessage, Stops, TakesBytes, frame_bytes};
+ghost use Rattle.dns_quic.specs.Halves.{EndsHalf};
+ghost use Rattle.dns_quic.specs.Streams.{ChecksId, Ends, EndsSo, Encodes, IsOtherId, ReceivesBytes, ReadsChecked, ReceivesMessage, SendsBytes, SendsMessage, Stops, TakesBytes, frame_bytes};
 ghost use Rattle.dns_quic.specs.declared.halves.StreamEnd.TheVariants.{Finished, Reset};
 ghost use Rattle.dns_transport.specs.Faults.{HasCause};
 
@@ -93,7 +94,7 @@ impl<S: SendHalf, R: RecvHalf> QuicStream<S, R> {
     /// Tells the other side that no more messages come. It is `UnknownStream` exactly where the sending half was finished
     /// or reset before. After a fault it is not finished.
     pub fn finish(&mut self) -> Result<(), NetError>
-        ensures ends { Ends S.taken S.ends self.old Finished result self.new }
+        ensures ends { Ends S.taken S.ends (EndsHalf S.ending S.faults) self.old Finished result self.new }
         ensures cause { HasCause (S.faults self.old.send) (S.faults self.new.send) result }
         ensures in_time { IsErrOf result NetError.Timeout → ⊥ }
     {
@@ -108,7 +109,7 @@ impl<S: SendHalf, R: RecvHalf> QuicStream<S, R> {
     /// Gives the sending half up with this code. It is `UnknownStream` exactly where that was finished or reset before.
     /// After a fault it is not reset.
     pub fn reset(&mut self, code: DoqErrorCode) -> Result<(), NetError>
-        ensures ends { Ends S.taken S.ends self.old (Reset (number_of code)) result self.new }
+        ensures ends { Ends S.taken S.ends (EndsHalf S.ending S.faults) self.old (Reset (number_of code)) result self.new }
         ensures cause { HasCause (S.faults self.old.send) (S.faults self.new.send) result }
     {
         if self.is_ended {
@@ -150,9 +151,10 @@ impl<S: SendHalf, R: RecvHalf> QuicStream<S, R> {
     /// Receives a message. Where its id is not 0, the sending half is reset with `ProtocolError`, whatever that answers
     /// (RFC 9250 4.2.1, 4.3.3).
     pub fn receive(&mut self, alloc: Global) -> Result<Message, NetError>
-        ensures receives { ReceivesMessage S.taken S.ends R.left R.stops self.old result self.new }
+        ensures receives { ReceivesMessage S.taken S.ends (EndsHalf S.ending S.faults) R.left R.stops self.old result self.new }
         ensures cause { HasCause (R.faults self.old.recv) (R.faults self.new.recv) result }
         ensures later { S.faults self.old.send ≤ S.faults self.new.send }
+        ensures calm_send { ¬ (IsOtherId result) → S.faults self.new.send ≡ S.faults self.old.send }
         ensures in_time { IsErrOf result NetError.Timeout → ⊥ }
     {
         match self.receive_bytes(alloc) {
@@ -163,8 +165,9 @@ impl<S: SendHalf, R: RecvHalf> QuicStream<S, R> {
 
     /// The message that stands in the bytes, if its id is 0.
     fn read_checked(&mut self, alloc: Global, bytes: &[u8]) -> Result<Message, NetError>
-        ensures reads { ReadsChecked S.taken S.ends self.old bytes.now result self.new }
+        ensures reads { ReadsChecked S.taken S.ends (EndsHalf S.ending S.faults) self.old bytes.now result self.new }
         ensures later { S.faults self.old.send ≤ S.faults self.new.send }
+        ensures calm_send { ¬ (IsOtherId result) → S.faults self.new.send ≡ S.faults self.old.send }
         ensures calm { IsErrOf result NetError.Io → ⊥ }
         ensures in_time { IsErrOf result NetError.Timeout → ⊥ }
         ensures recv { self.new.recv ≡ self.old.recv }
@@ -175,8 +178,9 @@ impl<S: SendHalf, R: RecvHalf> QuicStream<S, R> {
 
     /// A message whose id is 0; else the sending half is reset.
     fn checked(&mut self, message: Message) -> Result<Message, NetError>
-        ensures checks { ChecksId S.taken S.ends self.old message result self.new }
+        ensures checks { ChecksId S.taken S.ends (EndsHalf S.ending S.faults) self.old message result self.new }
         ensures later { S.faults self.old.send ≤ S.faults self.new.send }
+        ensures calm_send { ¬ (IsOtherId result) → S.faults self.new.send ≡ S.faults self.old.send }
         ensures calm { IsErrOf result NetError.Io → ⊥ }
         ensures in_time { IsErrOf result NetError.Timeout → ⊥ }
         ensures recv { self.new.recv ≡ self.old.recv }

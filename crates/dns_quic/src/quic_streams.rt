@@ -27,6 +27,7 @@ impl<O: OpenStreams> QuicStreams<O> {
         ensures gives { GivesStream (O.coming self.old.opener) (O.coming self.new.opener) result }
         ensures untold { Keeps (O.calls self.old.opener) (O.calls self.new.opener) }
         ensures unclosed { Keeps (O.closed self.old.opener) (O.closed self.new.opener) }
+        ensures out { O.given_out self.new.opener ≡ O.given_out self.old.opener }
         ensures cause { HasNextCause (O.faults self.old.opener) (O.faults self.new.opener) result }
     {
         match self.opener.accept() {

@@ -104,6 +104,7 @@ impl DnsUdpSocket for MemorySocket {
         ensures kept { OnErr result (Keeps (Some self.old.left) (Some self.new.left)) }
         ensures unsent { Keeps (Some self.old.sent) (Some self.new.sent) }
         ensures cause { HasCause self.old.faults self.new.faults result }
+        ensures calm { OnOk result (self.new.faults ≡ self.old.faults) }
         ensures uncounted { IsErrOf result IoFault.OutOfMemory → self.new.faults ≡ self.old.faults }
         ensures next { ReceivesNext self.old result self.new }
     {
@@ -131,6 +132,7 @@ impl DnsUdpSocket for MemorySocket {
         ensures kept { OnErr result (Keeps (Some self.old.sent) (Some self.new.sent)) }
         ensures unread { Keeps (Some self.old.left) (Some self.new.left) }
         ensures cause { HasCause self.old.faults self.new.faults result }
+        ensures calm { OnOk result (self.new.faults ≡ self.old.faults) }
         ensures uncounted { IsErrOf result IoFault.OutOfMemory → self.new.faults ≡ self.old.faults }
         ensures next { SendsNext self.old bytes.now to result self.new }
     {

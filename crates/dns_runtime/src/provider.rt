@@ -1,6 +1,6 @@
 //! What makes sockets, connections, timers and handles of tasks.
 
-ghost use Rattle.std.specs.Prelude.{◌≡◌, ℕ, Option, Result, IsErrOf};
+ghost use Rattle.std.specs.Prelude.{◌≡◌, ℕ, Option, Result, OnOk, IsErrOf};
 ghost use Rattle.dns_io.specs.Edge.{HasCause};
 ghost use Rattle.dns_io.specs.declared.edge.IoFault.{IoFault as Fault};
 ghost use Rattle.dns_io.specs.declared.peer.Peer.{Peer as Other};
@@ -46,11 +46,13 @@ pub trait RuntimeProvider {
     ) -> Result<Self::Tcp, IoFault>
         ensures next { connects self.old server bind limit result self.new }
         ensures cause { HasCause (faults self.old) (faults self.new) result }
+        ensures calm { OnOk result (faults self.new ≡ faults self.old) }
         ensures uncounted { IsErrOf result IoFault.OutOfMemory → faults self.new ≡ faults self.old };
 
     /// Binds a socket of datagrams to the address `local`, for talking to `server`.
     fn bind_udp(&mut self, local: Peer, server: Peer) -> Result<Self::Udp, IoFault>
         ensures next { binds self.old local server result self.new }
         ensures cause { HasCause (faults self.old) (faults self.new) result }
+        ensures calm { OnOk result (faults self.new ≡ faults self.old) }
         ensures uncounted { IsErrOf result IoFault.OutOfMemory → faults self.new ≡ faults self.old };
 }

@@ -1,6 +1,6 @@
 //! Datagrams and connections.
 
-ghost use Rattle.std.specs.Prelude.{◌≡◌, ℕ, ◌≤◌, ◌∷◌, [], List, Option, IfOk, OnErr, IsErrOf, length, take};
+ghost use Rattle.std.specs.Prelude.{◌≡◌, ℕ, ◌≤◌, ◌∷◌, [], List, Option, IfOk, OnOk, OnErr, IsErrOf, length, take};
 ghost use Rattle.dns_io.specs.Edge.{HasCause, Keeps, Grows};
 ghost use Rattle.dns_io.specs.declared.peer.Peer.{Peer as Other};
 ghost use Rattle.dns_runtime.specs.Datagrams.{TakesDatagram};
@@ -27,6 +27,7 @@ pub trait DnsUdpSocket {
         ensures kept { OnErr result (Keeps (left self.old) (left self.new)) }
         ensures unsent { Keeps (sent self.old) (sent self.new) }
         ensures cause { HasCause (faults self.old) (faults self.new) result }
+        ensures calm { OnOk result (faults self.new ≡ faults self.old) }
         ensures uncounted { IsErrOf result IoFault.OutOfMemory → faults self.new ≡ faults self.old };
 
     /// Sends the bytes as one datagram, and tells how many of them went. After an error none was sent.
@@ -36,6 +37,7 @@ pub trait DnsUdpSocket {
         ensures kept { OnErr result (Keeps (sent self.old) (sent self.new)) }
         ensures unread { Keeps (left self.old) (left self.new) }
         ensures cause { HasCause (faults self.old) (faults self.new) result }
+        ensures calm { OnOk result (faults self.new ≡ faults self.old) }
         ensures uncounted { IsErrOf result IoFault.OutOfMemory → faults self.new ≡ faults self.old };
 }
 
