@@ -1,12 +1,14 @@
 -- One more message that is settled in turn.
-use Rattle.std.proofs.Common.{◌≡◌, ℕ, ◌+◌, ◌<◌, List, [], ◌∷◌, ◌++◌, length, get_or, take, sym, ap, subst, ◌∙◌, Option}
+use Rattle.std.proofs.Common.{◌≡◌, ℕ, ◌+◌, ◌<◌, List, [], ◌∷◌, ◌++◌, length, get_or, take, refl, sym, ap, subst, ◌∙◌, Bool, false, Option, Some, None}
 use Rattle.std.proofs.lemmas.List.{take_more}
 use Rattle.dns_keeper.specs.declared.row.Row.{Row}
 use Rattle.dns_book.specs.declared.ask.Ask.{Ask}
 use Rattle.dns_book.specs.declared.ask.Settled.{Settled}
+use Rattle.dns_book.specs.declared.ask.SettledInto.{SettledInto}
+use Rattle.dns_book.specs.Into.{sent_for, SettlesInto}
 use Rattle.dns_book.specs.Access.{Access}
 use Rattle.dns_book.specs.Book.{SeenOf, Settles}
-use Rattle.dns_bench.specs.Turns.{reply_length, InTurn, OverAndOver}
+use Rattle.dns_bench.specs.Turns.{bytes_of, reply_length, InTurn, OverAndOver, SettlesOne}
 
 pub turn_more : {K : Type 0} (rows : K → Option (List Row)) (faults : K → ℕ) (access : Access) (before : SeenOf K) (all : List Ask) (i bytes more sum : ℕ) (between after : SeenOf K) (ask : Ask) (one : Settled) → i < length all → ask ≡ get_or all i ask
     → InTurn rows faults access before (take i all) bytes between → Settles rows faults access between ask one after → more ≡ reply_length one → sum ≡ bytes + more → InTurn rows faults access before (take (i + 1) all) sum after
@@ -15,6 +17,19 @@ turn_more rows faults access before all i bytes more sum between after ask one i
     let count : bytes + reply_length one ≡ sum = sym (total ∙ ap (λ n. bytes + n) size) in
     subst (λ (xs : List Ask). InTurn rows faults access before xs sum after) list
     (subst (λ (n : ℕ). InTurn rows faults access before (take i all ++ ask ∷ []) n after) count (InTurn.settled (take i all) bytes between turn ask one after settles))
+
+-- a message was settled, whose reply is all that a buffer has
+reply_bytes : (reply : Option (List ℕ)) → length (sent_for false reply) ≡ bytes_of reply
+reply_bytes None = refl
+reply_bytes (Some bytes) = refl
+
+pub one_settled : {K : Type 0} (rows : K → Option (List Row)) (faults : K → ℕ) (access : Access) (before after : SeenOf K) (ask : Ask) (empty items : List ℕ) (into : SettledInto) (bytes : ℕ) → empty ≡ []
+    → SettlesInto (λ settled. Settles rows faults access before ask settled after) false empty items into → bytes ≡ length items → SettlesOne rows faults access before ask bytes after
+one_settled rows faults access before after ask empty items into bytes none i size = record {
+  settled = i.settled;
+  settles = i.is;
+  length = size ∙ ap length (i.sent ∙ ap (λ (b : List ℕ). b ++ sent_for false i.settled.reply) none) ∙ reply_bytes i.settled.reply;
+}
 
 -- one more turn over all of them
 pub turns_more : {K : Type 0} (rows : K → Option (List Row)) (faults : K → ℕ) (access : Access) (before : SeenOf K) (asks : List Ask) (turns bytes more sum : ℕ) (between after : SeenOf K) → OverAndOver rows faults access before asks turns bytes between

@@ -1,5 +1,5 @@
 -- Messages that are settled in turn, over and over, and how many bytes their replies have.
-use Rattle.std.specs.Prelude.{ℕ, ◌+◌, ◌<◌, ◌≤◌, ◌^◌, List, [], ◌∷◌, ◌++◌, length, Option, Some, None}
+use Rattle.std.specs.Prelude.{◌≡◌, ℕ, ◌+◌, ◌<◌, ◌≤◌, ◌^◌, List, [], ◌∷◌, ◌++◌, length, Option, Some, None}
 use Rattle.dns_keeper.specs.declared.row.Row.{Row}
 use Rattle.dns_book.specs.declared.ask.Ask.{Ask}
 use Rattle.dns_book.specs.declared.ask.Settled.{Settled}
@@ -18,6 +18,12 @@ bytes_of (Some bytes) = length bytes
 
 abbrev pub reply_length : Settled → ℕ
 reply_length settled = bytes_of settled.reply
+
+-- one message is settled, and its reply has so many bytes
+pub record SettlesOne {K : Type 0} (rows : K → Option (List Row)) (faults : K → ℕ) (access : Access) (before : SeenOf K) (ask : Ask) (bytes : ℕ) (after : SeenOf K) : Type 0 where
+  pub settled : Settled
+  pub settles : Settles rows faults access before ask settled after
+  pub length : bytes ≡ reply_length settled
 
 -- each of these messages is settled by one call, in order, and their replies have so many bytes together
 pub data InTurn {K : Type 0} (rows : K → Option (List Row)) (faults : K → ℕ) (access : Access) (before : SeenOf K) : List Ask → ℕ → SeenOf K → Type 0 where

@@ -75,7 +75,7 @@ fn reply_bytes(rt: &HostRuntime, origin: &String, path: &String, turns: &String)
     let text = io::read_to_string(rt.alloc(), rt.reader())?;
     let asks = asks_of(rt.alloc(), text.as_str())?;
     let access = AccessControl::new(rt.alloc());
-    Ok(settle_turns(&mut book, &access, asks.as_slice(), turns)?)
+    Ok(settle_turns(rt.alloc(), &mut book, &access, asks.as_slice(), turns)?)
 }
 
 /// The zone of a file's text.

@@ -1,14 +1,16 @@
 //! Messages that are settled in turn, over and over.
 
 ghost use Rattle.std.specs.Prelude.{◌≡◌, ◌+◌, IfOk, All};
-ghost use Rattle.dns_bench.specs.Turns.{CanBeSettled, reply_length, InTurn, OverAndOver};
+ghost use Rattle.dns_bench.specs.Turns.{CanBeSettled, InTurn, OverAndOver, SettlesOne};
 
 use crate::fault::BenchFault;
-use dns_book::{AccessControl, Ask, Book, Settled};
+use dns_book::{AccessControl, Ask, Book};
 use dns_keeper::Keeper;
+use std::alloc::Global;
 
 /// Settles messages so many times over, and tells how many bytes the replies have, together.
 pub fn settle_turns<K: Keeper>(
+    alloc: Global,
     book: &mut Book<K>,
     access: &AccessControl,
     asks: &[Ask],
@@ -17,39 +19,47 @@ pub fn settle_turns<K: Keeper>(
     requires { All CanBeSettled asks.now }
     ensures { IfOk result (λ bytes. OverAndOver K.rows K.faults access.now book.old asks.now turns bytes book.new) }
 {
+    let mut reply = Vec::new(alloc);
     let mut bytes = 0u64;
     for _turn in 0..turns {
-        let more = settle_each(book, access, asks)?;
+        let more = settle_each(book, access, asks, &mut reply)?;
         bytes = together(bytes, more)?;
     }
     Ok(bytes)
 }
 
-/// Settles messages, each by one call and in order, and tells how many bytes the replies have, together.
+/// Settles messages, each by one call and in order, and tells how many bytes the replies have, together. They go into one buffer, one
+/// after the other.
 fn settle_each<K: Keeper>(
     book: &mut Book<K>,
     access: &AccessControl,
     asks: &[Ask],
+    reply: &mut Vec<u8>,
 ) -> Result<u64, BenchFault>
     requires { All CanBeSettled asks.now }
     ensures { IfOk result (λ bytes. InTurn K.rows K.faults access.now book.old asks.now bytes book.new) }
 {
     let mut bytes = 0u64;
     for ask in asks {
-        let settled = book.settle(access, ask)?;
-        bytes = together(bytes, reply_length(&settled))?;
+        let more = settle_one(book, access, ask, reply)?;
+        bytes = together(bytes, more)?;
     }
     Ok(bytes)
 }
 
-/// How many bytes the reply has, 0 where none is owed.
-fn reply_length(settled: &Settled) -> u64
-    ensures { result ≡ reply_length settled.now }
+/// Settles a message, and tells how many bytes the reply has, 0 where none is owed.
+fn settle_one<K: Keeper>(
+    book: &mut Book<K>,
+    access: &AccessControl,
+    ask: &Ask,
+    reply: &mut Vec<u8>,
+) -> Result<u64, BenchFault>
+    requires { CanBeSettled ask.now }
+    ensures { IfOk result (λ bytes. SettlesOne K.rows K.faults access.now book.old ask.now bytes book.new) }
 {
-    match &settled.reply {
-        Some(bytes) => bytes.len() as u64,
-        None => 0,
-    }
+    reply.clear();
+    let _into = book.settle_into(access, ask, reply, false)?;
+    Ok(reply.len() as u64)
 }
 
 /// The sum of two numbers of bytes.

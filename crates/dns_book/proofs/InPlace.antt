@@ -1,10 +1,8 @@
 -- A query that is looked at and not built: what is decided of it.
-use Rattle.std.proofs.Common.{◌≡◌, ℕ, List, [], ◌∷◌, Bool, true, false, not, is_err, is_some, if◌then◌else◌, Option, Some, None, refl, sym, ap, ◌∙◌, subst}
-use Rattle.std.specs.Prelude.{◌==◌, ◌||◌, IfSome}
+use Rattle.std.proofs.Common.{◌≡◌, ℕ, List, Bool, true, false, not, is_err, Option, Some, None, refl, subst}
+use Rattle.std.specs.Prelude.{◌||◌, IfSome}
 use Rattle.dns_name.specs.Name.{is_at_or_below}
 use Rattle.dns_wire.specs.declared.header.Header.{Header}
-use Rattle.dns_wire.specs.declared.edns.Edns.{Edns}
-use Rattle.dns_wire.specs.declared.message.Message.{Message}
 use Rattle.dns_wire.specs.declared.question.Question.{Question}
 use Rattle.dns_wire.specs.Header.{header_of}
 use Rattle.dns_wire.specs.Messages.{MessageAt}
@@ -13,15 +11,14 @@ use Rattle.dns_query.specs.Query.{IsPlainQuery, message_of}
 use Rattle.dns_zone_map.specs.Zone.{Contents}
 use Rattle.dns_book.specs.declared.ask.Ask.{Ask}
 use Rattle.dns_book.specs.declared.decision.Request.{Request}
-use Rattle.dns_book.specs.declared.decision.Decision.{Decision}
 use Rattle.dns_book.specs.declared.decision.Case.{Case}
-use Rattle.dns_book.specs.declared.decision.Case.TheVariants.{Query, UnsupportedVersion, NotImplemented, Foreign, Update}
-use Rattle.dns_book.specs.declared.outcome.Change.{Change}
+use Rattle.dns_book.specs.declared.decision.Case.TheVariants.{Query}
 use Rattle.dns_book.specs.declared.outcome.Outcome.{Outcome}
-use Rattle.dns_book.specs.Outcome.{ArePassing, updates_in, IsOutcome, IsMade, ComesTo}
+use Rattle.dns_book.specs.declared.in_place.Counted.{Counted}
+use Rattle.dns_book.specs.Outcome.{IsMade, IsAnswered, IsAnsweredBy, ComesTo}
 use Rattle.dns_book.specs.Access.{Access, lets_in}
 use Rattle.dns_book.specs.Sources.{sanitized}
-use Rattle.dns_book.specs.Cases.{is_newer, is_foreign, query_case, question_case, only_question, message_case, request_in, request_of, request_by, Decides, read}
+use Rattle.dns_book.specs.Cases.{is_newer, is_foreign, message_case, request_of, Decides, read}
 
 -- the question of a query
 abbrev pub question_in : Looked → Question
@@ -78,22 +75,18 @@ pub silent_at : (zone : Contents) (allow_update : Bool) (access : Access) (ask :
     → Decides zone access ask None
 silent_at zone allow_update access ask found comes is = subst (ComesTo zone allow_update access ask) is comes
 
--- a query in place comes to what was made of it
-pub comes_some : (zone : Contents) (allow_update : Bool) (access : Access) (ask : Ask) (found : Option Outcome) → is_some found ≡ true → IfSome found (IsMade zone allow_update access ask)
-    → ComesTo zone allow_update access ask found
-comes_some zone allow_update access ask None some made = absurd cc
-comes_some zone allow_update access ask (Some outcome) some made = made
-
-idle_passes : (zone : Contents) (change : Option Change) → change ≡ None → ArePassing zone (updates_in change)
-idle_passes zone change is = subst (λ (c : Option Change). ArePassing zone (updates_in c)) (sym is) tt
-
--- a query in place was made ready
-pub made_in_place : (zone : Contents) (allow_update : Bool) (access : Access) (ask : Ask) (request : Request) (question : Question) (outcome : Outcome)
-    → Decides zone access ask (Some (record { request = request; case = Query question })) → IsOutcome zone allow_update ask.protocol (record { request = request; case = Query question }) outcome
-    → outcome.change ≡ None → IsMade zone allow_update access ask outcome
-made_in_place zone allow_update access ask request question outcome decided is idle = record {
-  decision = record { request = request; case = Query question };
-  decided = decided;
-  is = is;
-  passing = idle_passes zone outcome.change idle;
+-- a query in place was answered
+pub answered_in_place : (zone : Contents) (allow_update : Bool) (access : Access) (ask : Ask) (request : Request) (question : Question) (framed : Bool) (before after : List ℕ) (counted : Counted)
+    → Decides zone access ask (Some (record { request = request; case = Query question }))
+    → IsAnsweredBy zone allow_update ask.protocol (record { request = request; case = Query question }) framed before after counted → IsAnswered zone allow_update access ask framed before after counted
+answered_in_place zone allow_update access ask request question framed before after counted decided a = record {
+  bytes = a.bytes;
+  made = record { decision = record { request = request; case = Query question }; decided = decided; is = a.is; passing = tt };
+  short = a.short;
+  sent = a.sent;
 }
+
+-- so it was, where something was counted
+pub answered_at : (zone : Contents) (allow_update : Bool) (access : Access) (ask : Ask) (framed : Bool) (before after : List ℕ) (found : Option Counted) (counted : Counted)
+    → IfSome found (IsAnswered zone allow_update access ask framed before after) → found ≡ Some counted → IsAnswered zone allow_update access ask framed before after counted
+answered_at zone allow_update access ask framed before after found counted all is = subst (λ (f : Option Counted). IfSome f (IsAnswered zone allow_update access ask framed before after)) is all

@@ -71,6 +71,7 @@ pub both_ok : {T E : Type 0} (result : Result T E) (P Q R : T → Type 0) → ((
 both_ok (Ok t) P Q R step p q = step t p q
 both_ok (Err e) P Q R step p q = tt
 
-pub on_err : {T E : Type 0} (result : Result T E) (P Q : Type 0) → (P → Q) → OnErr result P → OnErr result Q
-on_err (Ok t) P Q step p = tt
-on_err (Err e) P Q step p = step p
+-- what holds in any case holds where a call was refused
+pub err_holds : {T E : Type 0} (result : Result T E) (P : Type 0) → P → OnErr result P
+err_holds (Ok t) P holds = tt
+err_holds (Err e) P holds = holds

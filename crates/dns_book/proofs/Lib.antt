@@ -12,4 +12,5 @@ pub mod FirstBits
 pub mod Fronts
 pub mod KindsTaken
 pub mod InPlace
+pub mod IntoBuffer
 pub mod ReadRows

@@ -6,6 +6,8 @@ pub mod Owed
 pub mod Counted
 pub mod Book
 pub mod Crash
+pub mod Framed
+pub mod Into
 pub mod Outcome
 pub mod Opening
 pub mod Recovering

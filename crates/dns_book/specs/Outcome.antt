@@ -1,10 +1,10 @@
 -- What is made ready for a message before anything of a book changes, and what is then done.
-use Rattle.std.specs.Prelude.{◌≡◌, ℕ, List, [], Option, Some, None, Bool, true, false, Result, Ok, Err}
+use Rattle.std.specs.Prelude.{◌≡◌, ℕ, ◌≤◌, List, [], ◌++◌, length, Option, Some, None, Bool, true, false, Result, Ok, Err}
 use Rattle.std.specs.List.{AllByRecursion}
 use Rattle.dns_io.specs.declared.peer.Protocol.{Protocol}
 use Rattle.dns_wire.specs.declared.record.Record.{Record}
 use Rattle.dns_wire.specs.declared.reply.Reply.{Reply}
-use Rattle.dns_wire.specs.Written.{Written}
+use Rattle.dns_wire.specs.Written.{Written, sent_as}
 use Rattle.dns_keeper.specs.declared.row.Row.{Row}
 use Rattle.dns_keeper.specs.declared.keeper.KeepFault.{KeepFault}
 use Rattle.dns_keeper.specs.declared.keeper.KeepFault.TheVariants as keep
@@ -13,6 +13,7 @@ use Rattle.dns_wire.specs.ReadBack.{ReadsBack}
 use Rattle.dns_update.specs.declared.verdict.Verdict.TheVariants.{Passes}
 use Rattle.dns_update.specs.Verdict.{prescan}
 use Rattle.dns_update.specs.Change.{batch_of}
+use Rattle.dns_counts.specs.declared.asked.Replied.{Replied}
 use Rattle.dns_counts.specs.Counters.{recorded}
 use Rattle.dns_book.specs.declared.ask.Ask.{Ask}
 use Rattle.dns_book.specs.declared.ask.Receipt.{Receipt}
@@ -21,6 +22,7 @@ use Rattle.dns_book.specs.declared.decision.Decision.{Decision}
 use Rattle.dns_book.specs.declared.outcome.ReadyReply.{ReadyReply}
 use Rattle.dns_book.specs.declared.outcome.Change.{Change}
 use Rattle.dns_book.specs.declared.outcome.Outcome.{Outcome}
+use Rattle.dns_book.specs.declared.in_place.Counted.{Counted}
 use Rattle.dns_book.specs.Access.{Access}
 use Rattle.dns_book.specs.Cases.{Decides}
 use Rattle.dns_book.specs.Owed.{limit_of, reply_of, case_batch}
@@ -80,6 +82,31 @@ pub record IsMade (zone : Contents) (allow_update : Bool) (access : Access) (ask
 abbrev pub ComesTo : Contents → Bool → Access → Ask → Option Outcome → Type 0
 ComesTo zone allow_update access ask None = Decides zone access ask None
 ComesTo zone allow_update access ask (Some outcome) = IsMade zone allow_update access ask outcome
+
+-- what a message comes to that changes nothing, of which these bytes are the reply
+abbrev pub idle_outcome : Counted → List ℕ → Outcome
+idle_outcome counted bytes = record { asked = counted.asked; reply = record { replied = counted.replied; bytes = bytes }; change = None }
+
+-- a reply was added to what a buffer had, and this is told of it
+pub record IsPut (protocol : Protocol) (reply : Reply) (framed : Bool) (before after : List ℕ) (replied : Replied) : Type 0 where
+  pub bytes : List ℕ
+  pub ready : IsReady protocol reply (record { replied = replied; bytes = bytes })
+  pub short : length bytes ≤ 65535
+  pub sent : after ≡ before ++ sent_as framed bytes
+
+-- a message of which this was decided was answered at the end of a buffer
+pub record IsAnsweredBy (zone : Contents) (allow_update : Bool) (protocol : Protocol) (d : Decision) (framed : Bool) (before after : List ℕ) (counted : Counted) : Type 0 where
+  pub bytes : List ℕ
+  pub is : IsOutcome zone allow_update protocol d (idle_outcome counted bytes)
+  pub short : length bytes ≤ 65535
+  pub sent : after ≡ before ++ sent_as framed bytes
+
+-- a message was answered at the end of a buffer, and changes nothing
+pub record IsAnswered (zone : Contents) (allow_update : Bool) (access : Access) (ask : Ask) (framed : Bool) (before after : List ℕ) (counted : Counted) : Type 0 where
+  pub bytes : List ℕ
+  pub made : IsMade zone allow_update access ask (idle_outcome counted bytes)
+  pub short : length bytes ≤ 65535
+  pub sent : after ≡ before ++ sent_as framed bytes
 
 -- the reply that is given, where the journal failed or not
 abbrev pub given_of : Outcome → Option Change → Bool → ReadyReply

@@ -1,10 +1,13 @@
 //! What is asked, and what a message that was settled leaves.
 
-ghost use Rattle.std.specs.Prelude.{◌≡◌};
+ghost use Rattle.std.specs.Prelude.{◌≡◌, ◌≤◌, ◌+◌, true, drop, length, vec_len, IfOk, IfSome, OnErr};
+ghost use Rattle.std.specs.Vec.{vec_capacity};
+ghost use Rattle.dns_book.specs.Framed.{IsFrame};
+ghost use Rattle.dns_book.specs.Into.{settled_of, SettlesInto};
 ghost use Rattle.dns_book.specs.Sources.{sanitized};
 
-use crate::reply_bytes::ReplyBytes;
-use dns_io::{Ip, Octets, Peer, Protocol};
+use crate::reply_bytes::{LENGTH_LEN, ReplyBytes};
+use dns_io::{Ip, Octets, OutOfMemory, Peer, Protocol};
 
 /// One whole message that came in.
 #[derive(Debug, Drop)]
@@ -37,6 +40,68 @@ pub struct Receipt {
 pub struct Settled {
     /// The reply in its written form, none where none is owed.
     pub reply: Option<ReplyBytes>,
+    /// How many rows the journal then has.
+    pub length: u64,
+    /// The rows that were added, none where none were.
+    pub receipt: Option<Receipt>,
+}
+
+impl Settled {
+    /// What settling a message gave whose reply, where one is owed, is all that a buffer has, behind the two bytes of its length.
+    /// Takes no memory.
+    pub fn from_frame(into: SettledInto, frame: Vec<u8>) -> Settled
+        requires { into.is_owed ≡ true → IsFrame frame.items }
+        ensures { result ≡ settled_of into frame.items }
+    {
+        let reply = if into.is_owed {
+            Some(ReplyBytes::from_frame(frame))
+        } else {
+            None
+        };
+        Settled {
+            reply,
+            length: into.length,
+            receipt: into.receipt,
+        }
+    }
+
+    /// Adds the reply, where one is owed, to what a buffer has: as it is, or behind the two bytes of its length, as it goes over a
+    /// connection (RFC 1035 4.2.2). Where memory ran out the buffer has what it had.
+    pub fn add_to(&self, out: &mut Vec<u8>, is_framed: bool) -> Result<SettledInto, OutOfMemory>
+        ensures ok { IfOk result (SettlesInto (λ settled. settled ≡ self.now) is_framed out.old.items out.new.items) }
+        ensures err { OnErr result (out.new.items ≡ out.old.items) }
+    {
+        if let Some(reply) = &self.reply {
+            out.reserve(reply.len() + LENGTH_LEN)?;
+        }
+        Ok(self.put_into(out, is_framed))
+    }
+
+    /// Adds the reply, where one is owed, to a buffer that has the room. Takes no memory.
+    pub(crate) fn put_into(&self, out: &mut Vec<u8>, is_framed: bool) -> SettledInto
+        requires { IfSome self.now.reply (λ bytes. vec_len out.old + (length bytes + 2) ≤ vec_capacity out.old) }
+        ensures { SettlesInto (λ settled. settled ≡ self.now) is_framed out.old.items out.new.items result }
+    {
+        let is_owed = match &self.reply {
+            Some(reply) => {
+                reply.append_to(out, is_framed);
+                true
+            }
+            None => false,
+        };
+        SettledInto {
+            is_owed,
+            length: self.length,
+            receipt: self.receipt,
+        }
+    }
+}
+
+/// What settling a message gave whose reply went into a buffer.
+#[derive(Clone, Copy, Debug)]
+pub struct SettledInto {
+    /// Whether a reply is owed: then it stands at the end of the buffer.
+    pub is_owed: bool,
     /// How many rows the journal then has.
     pub length: u64,
     /// The rows that were added, none where none were.

@@ -3,11 +3,13 @@
 ghost use Rattle.std.specs.Prelude.{◌≡◌, ◌≤◌, ◌<◌, ◌^◌, length, IfOk, OnOk, OnErr, None};
 ghost use Rattle.dns_zone_map.specs.Zone.{serial_of};
 ghost use Rattle.dns_book.specs.Book.{IsKept, Settles, IsLeft};
+ghost use Rattle.dns_book.specs.Into.{SettlesInto};
 ghost use Rattle.dns_book.specs.Crash.{SettlesLeaving, LeavesUnsettled, LeavesOn};
 
 use crate::access::AccessControl;
-use crate::ask::{Ask, Settled};
-use crate::outcome::outcome_for;
+use crate::ask::{Ask, Settled, SettledInto};
+use crate::in_place::answer_query;
+use crate::outcome::{outcome_for, reply_room};
 use dns_counts::Counts;
 use dns_io::OutOfMemory;
 use dns_keeper::Keeper;
@@ -55,10 +57,58 @@ impl<K: Keeper> Book<K> {
         ensures left_unsettled { OnErr result (LeavesUnsettled K.rows K.may_leave access.now self.old ask.now self.new) }
         ensures left_on { LeavesOn K.rows K.may_leave self.old → LeavesOn K.rows K.may_leave self.new }
     {
+        let mut frame = Vec::new(self.alloc);
+        let into = self.settle_into(access, ask, &mut frame, true)?;
+        Ok(Settled::from_frame(into, frame))
+    }
+
+    /// Settles one message as [`Book::settle`] does, and adds its reply, where one is owed, to what a buffer has: as it is, or behind the
+    /// two bytes of its length, as it goes over a connection (RFC 1035 4.2.2). Where memory ran out, part of a reply may have been added.
+    pub fn settle_into(
+        &mut self,
+        access: &AccessControl,
+        ask: &Ask,
+        out: &mut Vec<u8>,
+        is_framed: bool,
+    ) -> Result<SettledInto, OutOfMemory>
+        requires moment { ask.now.at < 2 ^ 47 }
+        requires bytes { length ask.now.bytes ≤ 65535 }
+        ensures ok { IfOk result (SettlesInto (λ settled. Settles K.rows K.faults access.now self.old ask.now settled self.new) is_framed out.old.items out.new.items) }
+        ensures book { IsKept K.rows self.new }
+        ensures err { OnErr result (IsLeft K.rows K.faults self.old self.new) }
+        ensures left { IfOk result (SettlesInto (λ settled. SettlesLeaving K.rows K.faults K.may_leave access.now self.old ask.now settled self.new) is_framed out.old.items out.new.items) }
+        ensures left_unsettled { OnErr result (LeavesUnsettled K.rows K.may_leave access.now self.old ask.now self.new) }
+        ensures left_on { LeavesOn K.rows K.may_leave self.old → LeavesOn K.rows K.may_leave self.new }
+    {
         let (alloc, zone, question) = (self.alloc, &self.zone, &mut self.question);
-        match outcome_for(alloc, zone, self.allow_update, access, ask, question)? {
-            Some(outcome) => self.carry_out(ask, outcome),
+        match answer_query(alloc, zone, access, ask, question, out, is_framed)? {
+            Some(counted) => Ok(self.count(&counted)),
+            None => self.settle_whole(access, ask, out, is_framed),
+        }
+    }
+
+    /// Settles a message that is read whole. Once there is room for its reply, nothing but the keeper can fail.
+    fn settle_whole(
+        &mut self,
+        access: &AccessControl,
+        ask: &Ask,
+        out: &mut Vec<u8>,
+        is_framed: bool,
+    ) -> Result<SettledInto, OutOfMemory>
+        requires moment { ask.now.at < 2 ^ 47 }
+        ensures left { IfOk result (SettlesInto (λ settled. SettlesLeaving K.rows K.faults K.may_leave access.now self.old ask.now settled self.new) is_framed out.old.items out.new.items) }
+        ensures book { IsKept K.rows self.new }
+        ensures err { OnErr result (IsLeft K.rows K.faults self.old self.new) }
+        ensures left_unsettled { OnErr result (LeavesUnsettled K.rows K.may_leave access.now self.old ask.now self.new) }
+        ensures left_on { LeavesOn K.rows K.may_leave self.old → LeavesOn K.rows K.may_leave self.new }
+    {
+        match outcome_for(self.alloc, &self.zone, self.allow_update, access, ask)? {
             None => Ok(self.unanswered()),
+            Some(outcome) => {
+                out.reserve(reply_room(&outcome))?;
+                let settled = self.carry_out(ask, outcome)?;
+                Ok(settled.put_into(out, is_framed))
+            }
         }
     }
 

@@ -7,7 +7,7 @@ ghost use Rattle.dns_book.specs.Counted.{counted_question, asked_of, kinds_of, c
 use crate::decision::{Case, Decision};
 use dns_counts::{Asked, Counts, Pairs, Replied};
 use dns_io::OutOfMemory;
-use dns_wire::{LentRecords, LentReply, Record, Reply, WrittenReply};
+use dns_wire::{Appended, LentRecords, LentReply, Record, Reply, WrittenReply};
 use dns_zone::Zone;
 use std::alloc::Global;
 
@@ -56,18 +56,18 @@ pub(crate) fn replied_of(
 pub(crate) fn replied_of_lent(
     alloc: Global,
     reply: &LentReply<'_>,
-    written: &WrittenReply,
+    appended: &Appended,
 ) -> Result<Replied, OutOfMemory>
     ensures { IfOk result (λ told. told ≡ record {
       code = reply.now.code;
-      flags = written.now.flags;
-      answers = kinds_of written.now.answers reply.now.answers;
+      flags = appended.now.flags;
+      answers = kinds_of appended.now.answers reply.now.answers;
     }) }
 {
     Ok(Replied {
         code: reply.code,
-        flags: written.flags,
-        answers: kinds_in(alloc, reply.answers, written.answers)?,
+        flags: appended.flags,
+        answers: kinds_in(alloc, reply.answers, appended.answers)?,
     })
 }
 

@@ -9,8 +9,8 @@ ghost use Rattle.dns_book.specs.Opening.{HadNoRow, Begins, BeginsNot, BeginsNotW
 
 use crate::book::Book;
 use crate::counted::counts_of_zone;
+use crate::in_place::no_question;
 use crate::opening_records::opening_of;
-use crate::query_outcome::no_question;
 use crate::recovering::{Recovered, keeper_kind, read_back};
 use dns_keeper::{KeepFault, Keeper};
 use dns_name::Name;

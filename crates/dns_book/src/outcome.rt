@@ -1,22 +1,21 @@
 //! What a message comes to: its replies, made ready before anything changes, and the update that it asks for.
 
-ghost use Rattle.std.specs.Prelude.{◌≡◌, ℕ, IfOk, IfSome, true, false};
+ghost use Rattle.std.specs.Prelude.{◌≡◌, ◌≤◌, ◌+◌, ℕ, Bool, length, IfOk, true, false};
 ghost use Rattle.dns_wire.specs.declared.reply.Reply.{Reply as Owing};
 ghost use Rattle.dns_book.specs.Owed.{reply_of, HasRoom, IsFit};
-ghost use Rattle.dns_book.specs.Outcome.{IsReady, ArePassing, batch_in, updates_in, IsFailedReady, IsOutcome, ComesTo};
+ghost use Rattle.dns_book.specs.Outcome.{IsReady, ArePassing, batch_in, updates_in, IsFailedReady, IsOutcome, ComesTo, given_of};
 
 use crate::access::AccessControl;
 use crate::ask::Ask;
 use crate::counted::{asked_of, replied_of};
 use crate::decision::{Decision, decide};
 use crate::owed::{Owed, limit_of, owed_by};
-use crate::query_outcome::query_outcome;
 use crate::reply_bytes::ReplyBytes;
 use dns_counts::{Asked, Replied};
 use dns_io::{OutOfMemory, Protocol};
 use dns_update::laws::read_updates;
 use dns_wire::response_code::SERV_FAIL;
-use dns_wire::{Question, Records, Reply};
+use dns_wire::{Records, Reply};
 use dns_zone::Zone;
 use std::alloc::Global;
 
@@ -49,22 +48,17 @@ pub(crate) struct Outcome {
     pub(crate) change: Option<Change>,
 }
 
-/// Makes everything ready for a message, so that nothing but the keeper can fail afterwards; none where it is owed no reply. A query
-/// of plain form is looked at and not built; any other message is read whole. `question` is used for the former.
+/// Reads a message whole, and makes everything ready for it, so that nothing but the keeper can fail afterwards; none where it is owed
+/// no reply.
 pub(crate) fn outcome_for(
     alloc: Global,
     zone: &Zone,
     allow_update: bool,
     access: &AccessControl,
     ask: &Ask,
-    question: &mut Question,
 ) -> Result<Option<Outcome>, OutOfMemory>
     ensures { IfOk result (ComesTo zone.now allow_update access.now ask.now) }
 {
-    let outcome = query_outcome(alloc, zone, access, ask, question)?;
-    if outcome.is_some() {
-        return Ok(outcome);
-    }
     let Some(decision) = decide(alloc, zone, access, ask)? else {
         return Ok(None);
     };
@@ -120,4 +114,16 @@ fn ready_reply(alloc: Global, protocol: Protocol, reply: &Reply) -> Result<Ready
     let replied = replied_of(alloc, reply, &written)?;
     let bytes = ReplyBytes::new(written.bytes)?;
     Ok(ReadyReply { replied, bytes })
+}
+
+/// How much room a message's reply takes, whichever is given, behind its length.
+pub(crate) fn reply_room(outcome: &Outcome) -> usize
+    ensures { (fails : Bool) → length (given_of outcome.now outcome.now.change fails).bytes + 2 ≤ result }
+{
+    let len = outcome.reply.bytes.len();
+    let most = match &outcome.change {
+        Some(change) => len.max(change.failed.bytes.len()),
+        None => len,
+    };
+    most + 2
 }

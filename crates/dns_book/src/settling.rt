@@ -1,14 +1,15 @@
 //! How what a message comes to is carried out: the one append, the zone, the counts.
 
-ghost use Rattle.std.specs.Prelude.{◌≡◌, ◌<◌, ◌^◌, IfOk, OnErr, None, Some};
+ghost use Rattle.std.specs.Prelude.{◌≡◌, ◌<◌, ◌^◌, IfOk, OnErr, None, Some, true, false};
 ghost use Rattle.dns_counts.specs.Counters.{recorded, changed};
 ghost use Rattle.dns_book.specs.Book.{IsKept, IsLeft};
 ghost use Rattle.dns_book.specs.Crash.{LeavesBatch, LeavesBy, LeavesOn, receipt_in};
 ghost use Rattle.dns_book.specs.Outcome.{IsPassing, ArePassing, batch_in, updates_in, Journals, CarriesOut};
 ghost use Rattle.dns_update.specs.Change.{batch_of};
 
-use crate::ask::{Ask, Receipt, Settled};
+use crate::ask::{Ask, Receipt, Settled, SettledInto};
 use crate::book::Book;
+use crate::in_place::Counted;
 use crate::outcome::{Change, Outcome, ReadyReply};
 use dns_counts::{Asked, Counts};
 use dns_io::OutOfMemory;
@@ -99,12 +100,26 @@ impl<K: Keeper> Book<K> {
         }
     }
 
-    /// What settling a message gives that is owed no reply.
-    pub(crate) fn unanswered(&self) -> Settled
-        ensures { result ≡ record { reply = None; length = self.now.row_count; receipt = None } }
+    /// Counts a query and its reply, which stands in a buffer.
+    pub(crate) fn count(&mut self, counted: &Counted) -> SettledInto
+        ensures book { self.new ≡ record self.old { counts = recorded counted.now.asked counted.now.replied self.old.counts } }
+        ensures kept { IsKept K.rows self.new }
+        ensures told { result ≡ record { is_owed = true; length = self.old.row_count; receipt = None } }
     {
-        Settled {
-            reply: None,
+        self.counts.record(&counted.asked, &counted.replied);
+        SettledInto {
+            is_owed: true,
+            length: self.row_count,
+            receipt: None,
+        }
+    }
+
+    /// What settling a message gives that is owed no reply.
+    pub(crate) fn unanswered(&self) -> SettledInto
+        ensures { result ≡ record { is_owed = false; length = self.now.row_count; receipt = None } }
+    {
+        SettledInto {
+            is_owed: false,
             length: self.row_count,
             receipt: None,
         }

@@ -9,6 +9,7 @@ use Rattle.dns_io.proofs.ToldContents.{Keeps-more}
 use Rattle.dns_keeper.specs.declared.row.Row.{Row}
 use Rattle.dns_zone_map.specs.Zone.{serial_of}
 use Rattle.dns_book.specs.Book.{SeenOf}
+use Rattle.dns_server.proofs.FailedUpdates.{few_failed_updates}
 use Rattle.dns_command.specs.declared.status.Status.{Status}
 use Rattle.dns_command.specs.declared.status.Status.TheVariants as status
 use Rattle.dns_command.specs.declared.opening.Opening.{Opening}
@@ -131,6 +132,7 @@ module _ {K U T R W C : Type 0} (rows : K → Option (List Row)) (faults : K →
     ports = served.ports;
     stopped = served.read.end;
     closed = served.closed;
+    few = few_failed_updates rows faults _ _ _ _ _ _ _ _ _ _ _ _ _ _ _ _ _ served.ports.worked.sockets _ _ served.ports.worked.listeners _ last served.closed;
     left = ap rows (sym is);
     counted = ap faults (sym is);
     text = refl;

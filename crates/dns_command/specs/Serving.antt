@@ -8,6 +8,7 @@ use Rattle.dns_keeper.specs.declared.row.Row.{Row}
 use Rattle.dns_zone_map.specs.Zone.{serial_of}
 use Rattle.dns_book.specs.Access.{Access}
 use Rattle.dns_book.specs.Book.{SeenOf}
+use Rattle.dns_server_core.specs.Books.{RoseBy}
 use Rattle.dns_ports.specs.declared.hub.Opening.{Opening as Opened}
 use Rattle.dns_ports.specs.declared.hub.Opening.TheVariants.{Socket, Listeners}
 use Rattle.dns_ports.specs.Ports.{IsFresh}
@@ -19,6 +20,7 @@ use Rattle.dns_ticket_lock.specs.Passes.{PassSeen, ClosedFor}
 use Rattle.dns_server.specs.declared.worker.Worker.{Worker}
 use Rattle.dns_server.specs.Sockets.{IsAtEnd}
 use Rattle.dns_server.specs.Servers.{ServedSocket, ServedListener, Matches, IsDone, their_ports, their_passes}
+use Rattle.dns_server.specs.FailedUpdates.{failed_by_socket, failed_by_listener, added_up}
 use Rattle.dns_command.specs.declared.status.Status.{Status}
 use Rattle.dns_command.specs.declared.status.Status.TheVariants as status
 use Rattle.dns_command.specs.declared.opening.Opening.{Opening}
@@ -113,6 +115,15 @@ module _ {K U T R W C : Type 0} (rows : K → Option (List Row)) (faults : K →
     pub sockets_done : AllByRecursion IsDone after.sockets
     pub listeners_done : AllByRecursion IsDone after.listeners
 
+  -- how many steps of all ports together answered an update with ServFail because the journal failed (RFC 2136 3.8)
+  abbrev pub failed_updates : (access : Access) (before after : Crew U T) → WorksToItsEnd access before after → ℕ
+  failed_updates access before after worked =
+      added_up (failed_by_socket rows faults access of_socket.left of_socket.received of_socket.taken of_socket.faults) before.sockets after.sockets worked.sockets
+      + added_up
+      (failed_by_listener rows faults access of_listener.unread of_listener.read_faults of_listener.taken of_listener.flushed of_listener.write_faults (Ticks of_listener.last)
+      of_listener.left of_listener.accepted of_listener.ended of_listener.faults)
+      before.listeners after.listeners worked.listeners
+
   -- the openings of the hub are those of the words, and no other; each port had a worker, and the hub has it back
   pub record ServesPorts (hub : HubAround U T) (listening : Listening) (t : Terms) (access : Access) (before after : Crew U T) : Type 0 where
     pub opened : Grows hub.opened_before hub.opened_after (openings_of listening)
@@ -123,7 +134,8 @@ module _ {K U T R W C : Type 0} (rows : K → Option (List Row)) (faults : K →
 
   -- everything was served, and this is the output: the serial of the zone that the rows of the closing book stand for, and their
   -- number. Those rows begin with the opening ones and with all that each worker's pass has seen, and past the opening they are
-  -- exactly those of the passes' receipts
+  -- exactly those of the passes' receipts. Of all ports together no more updates got ServFail than the keeper's count of faults rose
+  -- from the opening to the closing, unless that stands at its last value
   pub record Serves (w : World) (hub : HubAround U T) (written : List ℕ) : Type 0 where
     pub service : Service
     pub first : SeenOf K
@@ -134,6 +146,7 @@ module _ {K U T R W C : Type 0} (rows : K → Option (List Row)) (faults : K →
     pub ports : ServesPorts hub service.listening (terms_at rows faults first (seats_of service.listening)) (access_of service.options) opened crew
     pub stopped : IsAtEnd w.events.after ⊎ Rose w.events.faults_before w.events.faults_after
     pub closed : ClosedFor rows faults (terms_at rows faults first (seats_of service.listening)) (passes_of crew) last
+    pub few : RoseBy (failed_updates (access_of service.options) opened crew ports.worked) (faults first.keeper) (faults last.keeper)
     pub left : rows last.keeper ≡ w.journal.after
     pub counted : faults last.keeper ≡ w.journal.faults_after
     pub text : written ≡ serve_lines (serial_of last.zone.records) last.row_count

@@ -1,11 +1,18 @@
 -- Runs that follow one another.
-use Rattle.std.proofs.Common.{◌≡◌, ◌∙◌, ℕ, List, [], ◌∷◌, ◌++◌, Result, Ok, Err, refl, sym, ap, subst, inl, inr}
+use Rattle.std.proofs.Common.{◌≡◌, ◌∙◌, ℕ, true, Option, Some, None, List, [], ◌∷◌, ◌++◌, Result, Ok, Err, refl, sym, ap, subst, inl, inr}
 use Rattle.std.proofs.lemmas.List.{append_assoc, append-nil}
 use Rattle.std.specs.Result.{OnErr}
 use Rattle.dns_book.specs.declared.ask.Ask.{Ask}
 use Rattle.dns_book.specs.declared.ask.Settled.{Settled}
+use Rattle.dns_book.specs.declared.ask.SettledInto.{SettledInto}
+use Rattle.dns_book.specs.Into.{sent_for, SettlesInto}
 use Rattle.dns_requests.specs.Replies.{frame_for}
 use Rattle.dns_requests.specs.Runs.{Run, Adds, Halts}
+
+-- a reply goes into a buffer as it goes over a connection
+sent_framed : (reply : Option (List ℕ)) → sent_for true reply ≡ frame_for reply
+sent_framed None = refl
+sent_framed (Some bytes) = refl
 
 module _ {H : Type 0} (serves : H → Ask → Settled → H → Type 0) where
   -- a run, and then another
@@ -26,6 +33,14 @@ module _ {H : Type 0} (serves : H → Ask → Settled → H → Type 0) where
 
   pub Adds-none : (a : H) (old : List ℕ) → Adds serves a [] a old old
   Adds-none a old = record { bytes = []; run = (refl, refl); added = sym (append-nil old) }
+
+  -- one message was settled, whose reply went into a buffer behind its length
+  pub Adds-one : (a b : H) (ask : Ask) (old new : List ℕ) (into : SettledInto) → SettlesInto (λ settled. serves a ask settled b) true old new into → Adds serves a (ask ∷ []) b old new
+  Adds-one a b ask old new into i = record {
+    bytes = frame_for i.settled.reply;
+    run = Run-one a b ask i.settled i.is;
+    added = i.sent ∙ ap (λ (frame : List ℕ). old ++ frame) (sent_framed i.settled.reply);
+  }
 
   pub Adds-append : (a b c : H) (xs ys : List Ask) (old mid new : List ℕ) → Adds serves a xs b old mid → Adds serves b ys c mid new → Adds serves a (xs ++ ys) c old new
   Adds-append a b c xs ys old mid new p q = record {
@@ -59,9 +74,6 @@ module _ {H : Type 0} (serves : H → Ask → Settled → H → Type 0) where
 
     pub Halts-skips : (a b : H) (all : List Ask) → skips a b → Halts serves skips a all b
     Halts-skips a b all s = record { first = []; others = all; parts = refl; last = a; bytes = []; run = (refl, refl); end = inr s }
-
-    pub Halts-one : (a b : H) (ask : Ask) (settled : Settled) → serves a ask settled b → Halts serves skips a (ask ∷ []) b
-    Halts-one a b ask settled s = record { first = ask ∷ []; others = []; parts = refl; last = b; bytes = frame_for settled.reply; run = Run-one a b ask settled s; end = inl refl }
 
     -- behind those that were settled
     pub Goes-halts : (a b c : H) (all part more : List Ask) (old mid : List ℕ) → Goes a all b (part ++ more) old mid → Halts serves skips b part c → Halts serves skips a all c

@@ -1,11 +1,10 @@
 //! Messages of a connection that are settled, and the bytes of their replies.
 
-ghost use Rattle.std.specs.Prelude.{◌≡◌, ◌+◌, ◌*◌, ◌≤◌, ◌<◌, ◌-◌, ◌^◌, ◌∷◌, [], ◌++◌, length, drop, map, IfOk, OnOk, OnErr};
+ghost use Rattle.std.specs.Prelude.{◌≡◌, ◌+◌, ◌*◌, ◌≤◌, ◌<◌, ◌-◌, ◌^◌, ◌∷◌, [], length, drop, map, IfOk, OnOk, OnErr};
 ghost use Rattle.dns_frames.specs.Frames.{frames};
-ghost use Rattle.dns_requests.specs.Replies.{frame_for, frame_of};
 ghost use Rattle.dns_requests.specs.Runs.{Adds, Halts};
 
-use dns_book::{AccessControl, Ask, ReplyBytes};
+use dns_book::{AccessControl, Ask};
 use dns_frames::first_frame;
 use dns_server_core::RequestHandler;
 use dns_wire::{Octets, OutOfMemory};
@@ -105,25 +104,6 @@ fn settle_message<T: RequestHandler>(
     ensures ok { OnOk result (Adds (T.serves access.now) handler.old (ask.now ∷ []) handler.new replies.old.items replies.new.items) }
     ensures err { OnErr result (Halts (T.serves access.now) T.skips handler.old (ask.now ∷ []) handler.new) }
 {
-    let settled = handler.handle_request(access, ask)?;
-    add_reply(&settled.reply, replies)
-}
-
-/// Adds a reply, where one is owed, to the bytes that go over a connection.
-fn add_reply(reply: &Option<ReplyBytes>, replies: &mut Vec<u8>) -> Result<(), OutOfMemory>
-    ensures { OnOk result (replies.new.items ≡ replies.old.items ++ frame_for reply.now) }
-{
-    match reply {
-        None => Ok(()),
-        Some(reply) => add_frame(reply, replies),
-    }
-}
-
-/// Adds a reply behind the two bytes of its length (RFC 1035 4.2.2).
-fn add_frame(reply: &ReplyBytes, replies: &mut Vec<u8>) -> Result<(), OutOfMemory>
-    ensures { OnOk result (replies.new.items ≡ replies.old.items ++ frame_of reply.now) }
-{
-    replies.extend_from_slice(&(reply.len() as u16).to_be_bytes())?;
-    replies.extend_from_slice(reply.as_slice())?;
+    let _settled = handler.handle_into(access, ask, replies, true)?;
     Ok(())
 }

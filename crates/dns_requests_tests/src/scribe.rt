@@ -1,7 +1,7 @@
 //! A handler that gives each message back with the last digit of its moment, and leaves empty messages without a reply.
 
 use dns_io::OutOfMemory;
-use dns_server_core::{AccessControl, Ask, ReplyBytes, RequestHandler, Settled};
+use dns_server_core::{AccessControl, Ask, ReplyBytes, RequestHandler, Settled, SettledInto};
 
 /// How many messages came.
 #[derive(Drop)]
@@ -25,6 +25,16 @@ impl RequestHandler for Scribe {
             length: 0,
             receipt: None,
         })
+    }
+
+    fn handle_into(
+        &mut self,
+        access: &AccessControl,
+        ask: &Ask,
+        out: &mut Vec<u8>,
+        is_framed: bool,
+    ) -> Result<SettledInto, OutOfMemory> {
+        self.handle_request(access, ask)?.add_to(out, is_framed)
     }
 }
 

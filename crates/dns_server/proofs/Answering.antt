@@ -14,7 +14,7 @@ use Rattle.dns_ticket_lock.specs.Passes.{SettledBy, LeftBy}
 use Rattle.dns_server.specs.Sockets as sockets
 use Rattle.dns_server.specs.Listeners as listeners
 use Rattle.dns_server.specs.declared.worker.Worker.{Worker}
-use Rattle.dns_server.specs.Servers.{AnswersFor, IsDone, IsServingError, Matches, MatchesOnce, RoseAt, ServedListener, ServedSocket, ServerSeen, post_of, answer_of, as_net, first_fault, or_later, or_reading}
+use Rattle.dns_server.specs.Servers.{AnswersFor, IsAnswerWhileReading, IsDone, IsServingError, Matches, MatchesOnce, RoseAt, ServedListener, ServedSocket, ServerSeen, post_of, answer_of, as_net, first_fault, or_later, or_reading}
 
 or_done : (first later : Result (Unit {0}) IoFault) → or_later first later ≡ Ok tt → (first ≡ Ok tt) × (later ≡ Ok tt)
 or_done (Ok done) later e = (refl, e)
@@ -79,6 +79,12 @@ answers_reading socket_faults listener_faults before after (Ok done) (Ok end) a 
 answers_reading socket_faults listener_faults before after (Ok done) (Err Failed) a k = absurd cc
 answers_reading socket_faults listener_faults before after (Ok done) (Err OutOfMemory) a k = record { sockets = tt; listeners = tt; failed = λ e. absurd cc; kind = inr refl }
 answers_reading socket_faults listener_faults before after (Err error) reading a k = a
+
+pub answer_while_reading : (answer : Result (Unit {0}) NetError) (reading : Result (Unit {0}) IoFault) → IfErr reading (λ fault. fault ≡ OutOfMemory) → IsAnswerWhileReading answer (or_reading answer reading)
+answer_while_reading (Ok done) (Ok end) k = inl refl
+answer_while_reading (Ok done) (Err Failed) k = absurd cc
+answer_while_reading (Ok done) (Err OutOfMemory) k = inr (refl, refl)
+answer_while_reading (Err error) reading k = inl refl
 
 pub reading_ended : (answer : Result (Unit {0}) NetError) (reading : Result (Unit {0}) IoFault) (A : Type 0) → OnOk reading A → OnOk (or_reading answer reading) A
 reading_ended (Ok done) (Ok end) A a = a

@@ -3,3 +3,4 @@ pub mod Attending
 pub mod SamePasses
 pub mod AllPasses
 pub mod Answering
+pub mod FailedUpdates

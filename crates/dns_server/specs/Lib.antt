@@ -1,3 +1,4 @@
 pub mod Sockets
 pub mod Listeners
 pub mod Servers
+pub mod FailedUpdates

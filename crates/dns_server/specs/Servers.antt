@@ -136,6 +136,10 @@ abbrev pub or_reading : Result (Unit {0}) NetError → Result (Unit {0}) IoFault
 or_reading (Ok done) reading = as_net reading
 or_reading (Err error) reading = Err error
 
+-- the answer is that of the workers, or where each of them ended well, that no memory was found to read what is served until
+abbrev pub IsAnswerWhileReading : Result (Unit {0}) NetError → Result (Unit {0}) NetError → Type 0
+IsAnswerWhileReading theirs result = (result ≡ theirs) ⊎ ((theirs ≡ Ok tt) × (result ≡ Err OutOfMemory))
+
 -- a port's count of faults rose
 abbrev pub RoseAt : {P : Type 0} → (P → ℕ) → Worker P → Worker P → Type 0
 RoseAt faults before after = Rose (faults before.port) (faults after.port)

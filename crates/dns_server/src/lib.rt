@@ -1,6 +1,8 @@
 //! The server: workers that serve sockets and listeners by one shared book, each on a thread of its own.
 #![tactic(auto)]
 
+ghost use Rattle.std.specs.Prelude.{◌≡◌, codes};
+
 mod crew;
 mod fault;
 mod limit;
@@ -23,6 +25,8 @@ pub use socket_worker::serve_socket;
 pub use worker::Worker;
 
 /// The version of the server that this one behaves like.
-pub fn version() -> &'static str {
+pub fn version() -> &'static str
+    ensures { result.now ≡ codes "0.26.3" }
+{
     "0.26.3"
 }

@@ -6,7 +6,7 @@ ghost use Rattle.dns_io.specs.declared.edge.IoFault.TheVariants.{OutOfMemory as 
 ghost use Rattle.dns_io.specs.Edge.{Rose, Takes};
 ghost use Rattle.dns_requests.specs.Arrivals.{Ticks};
 ghost use Rattle.dns_server.specs.Sockets.{IsAtEnd};
-ghost use Rattle.dns_server.specs.Servers.{AnswersFor, IsOf, IsServer, Matches, ServedListener, ServedSocket, answer_of, as_net, first_fault, or_later, or_reading, their_passes};
+ghost use Rattle.dns_server.specs.Servers.{AnswersFor, IsAnswerWhileReading, IsOf, IsServer, Matches, ServedListener, ServedSocket, answer_of, as_net, first_fault, or_later, or_reading, their_passes};
 
 use crate::listener_threads::run_listeners;
 use crate::server::ThreadServer;
@@ -30,13 +30,15 @@ where
     T::Time: Send,
 {
     /// Starts each worker on a thread of its own, and waits until all have ended; a worker whose thread is refused is run behind the
-    /// others. It is `Ok` at once where there is none. `Io` only where a port's count of faults rose; `OutOfMemory` also where memory
-    /// was wanting for a message, an answer or a connection, and its worker went on.
+    /// others. It is `Ok` at once where there is none. The answer is the first fault of the workers of sockets, else of listeners, each
+    /// in order of registration: `Io` only where a port's count of faults rose; `OutOfMemory` also where memory was wanting for a
+    /// message, an answer or a connection, and its worker went on.
     pub fn block_until_done<R: Threads + Wait + Sync>(&mut self, rt: &R) -> Result<(), NetError>
         ensures sockets { Matches (ServedSocket K.rows K.faults U.left U.received U.taken U.faults self.old.access) self.old.sockets self.new.sockets }
         ensures listeners { Matches (ServedListener K.rows K.faults T.In.left T.In.faults T.Out.taken T.Out.flushed T.Out.faults (Ticks T.Time.last) T.left T.accepted T.ended T.faults self.old.access) self.old.listeners self.new.listeners }
         ensures others { IsServer self.old self.new }
         ensures answer { AnswersFor U.faults T.faults self.old self.new result }
+        ensures first { result ≡ answer_of self.new }
     {
         self.run(rt);
         self.answer()
@@ -48,13 +50,15 @@ where
         ensures listeners { Matches (ServedListener K.rows K.faults T.In.left T.In.faults T.Out.taken T.Out.flushed T.Out.faults (Ticks T.Time.last) T.left T.accepted T.ended T.faults self.old.access) self.old.listeners self.new.listeners }
         ensures others { IsServer self.old self.new }
         ensures answer { AnswersFor U.faults T.faults self.old self.new result }
+        ensures first { result ≡ answer_of self.new }
     {
         self.token.stop();
         self.block_until_done(rt)
     }
 
     /// As [`ThreadServer::block_until_done`], while the caller reads `until` to its end or first fault, and then stops the token. `Ok`
-    /// only where `until` has nothing left or its count of faults rose.
+    /// only where `until` has nothing left or its count of faults rose; where each worker ended well, `OutOfMemory` says that no memory
+    /// was found to read it.
     pub fn serve_until<E: Source, R: Threads + Wait + Sync>(
         &mut self,
         rt: &R,
@@ -64,6 +68,7 @@ where
         ensures listeners { Matches (ServedListener K.rows K.faults T.In.left T.In.faults T.Out.taken T.Out.flushed T.Out.faults (Ticks T.Time.last) T.left T.accepted T.ended T.faults self.old.access) self.old.listeners self.new.listeners }
         ensures others { IsServer self.old self.new }
         ensures answer { AnswersFor U.faults T.faults self.old self.new result }
+        ensures first { IsAnswerWhileReading (answer_of self.new) result }
         ensures until { OnOk result (IsAtEnd (E.left until.new) ⊎ Rose (E.faults until.old) (E.faults until.new)) }
         ensures read { (bytes : List ℕ) × Takes (E.left until.old) (E.left until.new) bytes }
         ensures later { E.faults until.old ≤ E.faults until.new }

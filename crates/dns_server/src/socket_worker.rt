@@ -1,10 +1,10 @@
 //! The worker of a socket.
 
-ghost use Rattle.std.specs.Prelude.{◌≡◌, ◌≤◌, ◌<◌, ◌^◌, length, take, true, false, OnOk, IfOk, OnErr, IsErrOf, IsSome};
+ghost use Rattle.std.specs.Prelude.{◌≡◌, ◌≤◌, ◌<◌, ◌^◌, length, take, true, false, if◌then◌else◌, OnOk, IfOk, OnErr, IsErrOf, Some, None};
 ghost use Rattle.dns_io.specs.Edge.{Grows, HasCause, Keeps};
 ghost use Rattle.dns_server.specs.Sockets.{Ended, Handles, WorksSocket, answer_to, ask_for};
 
-use dns_book::{AccessControl, Ask, ReplyBytes};
+use dns_book::{AccessControl, Ask};
 use dns_io::{IoFault, Octets, OutOfMemory, Peer, Protocol};
 use dns_ports::{Arrived, UdpPort};
 use dns_server_core::RequestHandler;
@@ -15,8 +15,15 @@ use std::sync::Wait;
 /// The most bytes that a datagram has (RFC 768).
 const ROOM: usize = 65_535;
 
-/// Receives datagrams until the socket gives no more, has each settled, and answers its sender. From datagram to datagram nothing is
-/// allocated but what a reply takes.
+/// What a worker uses for one datagram after the other.
+#[derive(Drop)]
+struct Buffers {
+    message: Octets,
+    reply: Vec<u8>,
+}
+
+/// Receives datagrams until the socket gives no more, has each settled, and answers its sender. Messages and replies go into the same two
+/// buffers, one after the other.
 ///
 /// A receiving that fails or finds no memory ends it. A reply that the socket refuses is lost, and a message for which no memory is
 /// found gets none; it goes on behind both, and where memory was wanting it answers `OutOfMemory` at the end.
@@ -32,13 +39,24 @@ pub fn serve_socket<H: RequestHandler, U: UdpPort, R: Wait>(
     let Ok(mut room) = room_in(alloc) else {
         return Err(IoFault::OutOfMemory);
     };
-    let mut buffer = Octets::new(alloc);
+    let mut buffers = Buffers {
+        message: Octets::new(alloc),
+        reply: Vec::new(alloc),
+    };
     let mut is_short = false;
     for _ in rt.forever() {
         match socket.receive(room.as_mut_slice()) {
             Ok(Some(arrived)) => {
                 let (bytes, _) = room.split_at(arrived.len);
-                let found = handle(alloc, handler, access, socket, &mut buffer, bytes, &arrived);
+                let found = handle(
+                    alloc,
+                    handler,
+                    access,
+                    socket,
+                    &mut buffers,
+                    bytes,
+                    &arrived,
+                );
                 is_short = is_short_then(is_short, found);
             }
             Ok(None) => return ended(is_short),
@@ -74,14 +92,13 @@ pub(crate) fn is_short_then(is_short: bool, found: bool) -> bool
     is_short || !found
 }
 
-/// Has a datagram with these bytes settled, and its sender answered; whether memory was found for both. The buffer is used for one
-/// datagram after the other.
+/// Has a datagram with these bytes settled, and its sender answered; whether memory was found for both.
 fn handle<H: RequestHandler, U: UdpPort>(
     alloc: Global,
     handler: &mut H,
     access: &AccessControl,
     socket: &mut U,
-    buffer: &mut Octets,
+    buffers: &mut Buffers,
     bytes: &[u8],
     arrived: &Arrived,
 ) -> bool
@@ -89,11 +106,11 @@ fn handle<H: RequestHandler, U: UdpPort>(
     requires bytes { length bytes.now ≤ 65535 }
     ensures { Handles (H.serves access.now) H.skips U.left U.received U.taken U.faults (record { handler = handler.old; port = socket.old }) (record { handler = handler.new; port = socket.new }) (ask_for (bytes.now, arrived.now.from, arrived.now.at)) result }
 {
-    let Ok(ask) = ask_in(alloc, buffer, bytes, arrived) else {
+    let Ok(ask) = ask_in(alloc, &mut buffers.message, bytes, arrived) else {
         return false;
     };
-    let found = settle(handler, access, socket, &ask);
-    *buffer = ask.bytes;
+    let found = settle(handler, access, socket, &ask, &mut buffers.reply);
+    buffers.message = ask.bytes;
     found
 }
 
@@ -118,21 +135,23 @@ fn ask_in(
     })
 }
 
-/// Has a message settled, and its sender answered; whether memory was found for both.
+/// Has a message settled, and its sender answered, by a buffer whatever it has; whether memory was found for both.
 fn settle<H: RequestHandler, U: UdpPort>(
     handler: &mut H,
     access: &AccessControl,
     socket: &mut U,
     ask: &Ask,
+    reply: &mut Vec<u8>,
 ) -> bool
     requires moment { ask.now.at < 2 ^ 47 }
     requires bytes { length ask.now.bytes ≤ 65535 }
     ensures { Handles (H.serves access.now) H.skips U.left U.received U.taken U.faults (record { handler = handler.old; port = socket.old }) (record { handler = handler.new; port = socket.new }) ask.now result }
 {
-    let Ok(settled) = handler.handle_request(access, ask) else {
+    reply.clear();
+    let Ok(into) = handler.handle_into(access, ask, reply, false) else {
         return false;
     };
-    match answer(socket, ask.source, &settled.reply) {
+    match answer(socket, ask.source, into.is_owed, reply.as_slice()) {
         Ok(()) => true,
         Err(IoFault::Failed) => true,
         Err(IoFault::OutOfMemory) => false,
@@ -140,16 +159,16 @@ fn settle<H: RequestHandler, U: UdpPort>(
 }
 
 /// Hands a reply, where one is owed, to the socket.
-fn answer<U: UdpPort>(socket: &mut U, to: Peer, reply: &Option<ReplyBytes>) -> Result<(), IoFault>
-    ensures ok { OnOk result (Grows (U.taken socket.old) (U.taken socket.new) (answer_to to reply.now)) }
+fn answer<U: UdpPort>(socket: &mut U, to: Peer, is_owed: bool, reply: &[u8]) -> Result<(), IoFault>
+    ensures ok { OnOk result (Grows (U.taken socket.old) (U.taken socket.new) (answer_to to (if is_owed then Some reply.now else None))) }
     ensures err { OnErr result (Keeps (U.taken socket.old) (U.taken socket.new)) }
-    ensures owed { OnErr result (IsSome reply.now) }
+    ensures owed { OnErr result (is_owed ≡ true) }
     ensures left { Keeps (U.left socket.old) (U.left socket.new) }
     ensures received { Keeps (U.received socket.old) (U.received socket.new) }
     ensures cause { HasCause (U.faults socket.old) (U.faults socket.new) result }
 {
-    match reply {
-        None => Ok(()),
-        Some(reply) => socket.answer(to, reply.as_slice()),
+    if is_owed {
+        return socket.answer(to, reply);
     }
+    Ok(())
 }

@@ -13,7 +13,7 @@ mod valid;
 
 pub use dns_book::{
     AccessControl, Ask, BeginFault, Book, IpNet, OpenFault, OpenKind, Receipt, ReplyBytes, Settled,
-    UnsafeSource, sanitize_src_address,
+    SettledInto, UnsafeSource, sanitize_src_address,
 };
 pub use event::{Event, Out, Receiver};
 pub use fault::RunFault;

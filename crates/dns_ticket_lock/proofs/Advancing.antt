@@ -1,6 +1,6 @@
 -- What one settle of the book comes to, whatever it answered.
-use Rattle.std.proofs.Common.{◌≡◌, ℕ, zero, suc, ◌+◌, ◌≤◌, ◌<◌, ◌==◌, ◌&&◌, eq-eqb, Bool, true, false, ℤ, pos, ◌+ℤ◌, List, [], ◌∷◌, ◌++◌, drop, length, replicate, Option, Some, None, Result, Ok, Err, OnErr, IfOk, refl, sym, ap, ◌∙◌, subst, arith}
-use Rattle.std.proofs.lemmas.List.{append-nil, length-append}
+use Rattle.std.proofs.Common.{◌≡◌, ℕ, zero, suc, ◌+◌, ◌==◌, eq-eqb, Bool, true, false, ℤ, pos, ◌+ℤ◌, List, [], ◌∷◌, ◌++◌, drop, length, replicate, Option, Some, None, Result, Ok, Err, OnErr, IfOk, refl, sym, ap, ◌∙◌, subst₂, arith}
+use Rattle.std.proofs.lemmas.List.{append-nil}
 use Rattle.std.proofs.Math.Seq.{drop-append_seam}
 use Rattle.dns_io.specs.declared.fault.OutOfMemory.{OutOfMemory}
 use Rattle.dns_io.specs.Edge.{Told, Keeps}
@@ -11,9 +11,10 @@ use Rattle.dns_keeper.specs.Keeping.{GrowsByBatch}
 use Rattle.dns_book.specs.Access.{Access}
 use Rattle.dns_book.specs.declared.ask.Ask.{Ask}
 use Rattle.dns_book.specs.declared.ask.Receipt.{Receipt}
-use Rattle.dns_book.specs.declared.ask.Settled.{Settled}
+use Rattle.dns_book.specs.declared.ask.SettledInto.{SettledInto}
+use Rattle.dns_book.specs.Into.{SettlesInto}
 use Rattle.dns_book.specs.Book.{SeenOf, HasRows, IsKept, Ends, Settles, IsLeft}
-use Rattle.dns_ticket_lock.specs.Places.{all_bear, places_of, places_from, listed}
+use Rattle.dns_ticket_lock.specs.Places.{all_bear, places_from}
 use Rattle.dns_ticket_lock.specs.Naming.{NamesRows, AreTold, IsBatch, Advances, opening_rows, batch_after, blank_row}
 use Rattle.dns_ticket_lock.specs.Settling.{receipt_in}
 use Rattle.dns_ticket_lock.proofs.Places.{true_both}
@@ -84,12 +85,14 @@ module _ {K : Type 0} (krows : K → Option (List Row)) (kfaults : K → ℕ) wh
   )
   ended_advances before ask batch true (Some receipt) after x = elim x [ ]
 
-  pub advances : (access : Access) (before : SeenOf K) (ask : Ask) (answer : Result Settled OutOfMemory) (after : SeenOf K) → IfOk answer (λ settled. Settles krows kfaults access before ask settled after) → OnErr answer (IsLeft krows kfaults before after)
+  pub advances : (access : Access) (before : SeenOf K) (ask : Ask) (framed : Bool) (had has : List ℕ) (answer : Result SettledInto OutOfMemory) (after : SeenOf K)
+      → IfOk answer (SettlesInto (λ settled. Settles krows kfaults access before ask settled after) framed had has) → OnErr answer (IsLeft krows kfaults before after)
       → (count : ℕ) × Advances krows kfaults ask.client before (receipt_in answer) count after
-  advances access before ask (Ok settled) after ok err =
-      let e = ended_advances before ask _ ok.failed settled.receipt ok.ended ok.ends in
-      (e.0, subst (Advances krows kfaults ask.client before settled.receipt e.0) (sym ok.counted) (record { rows = e.1.rows; counted = e.1.counted; places = e.1.places; origin = e.1.origin; updates = e.1.updates; faults = e.1.faults }))
-  advances access before ask (Err fault) after ok err =
+  advances access before ask framed had has (Ok into) after ok err =
+      let e = ended_advances before ask _ ok.is.failed ok.settled.receipt ok.is.ended ok.is.ends in
+      let receipt : into.receipt ≡ ok.settled.receipt = ap (λ (t : SettledInto). t.receipt) ok.told in
+      (e.0, subst₂ (λ (r : Option Receipt) (b : SeenOf K). Advances krows kfaults ask.client before r e.0 b) (sym receipt) (sym ok.is.counted) (record { rows = e.1.rows; counted = e.1.counted; places = e.1.places; origin = e.1.origin; updates = e.1.updates; faults = e.1.faults }))
+  advances access before ask framed had has (Err fault) after ok err =
       let left : IsLeft krows kfaults before after = err in (
         0,
         record {

@@ -14,7 +14,7 @@ use Rattle.dns_ticket_lock.specs.declared.view.Account.{Account}
 use Rattle.dns_ticket_lock.specs.declared.view.Terms.{Terms}
 use Rattle.dns_ticket_lock.specs.declared.view.View.{View}
 use Rattle.dns_ticket_lock.specs.Lists.{StartsWith, total, only_first, but_first}
-use Rattle.dns_ticket_lock.specs.Places.{bearing, places_of, all_within}
+use Rattle.dns_ticket_lock.specs.Places.{bearing, all_within}
 use Rattle.dns_ticket_lock.specs.Shares.{share_of, marks_stand, last, new_member}
 use Rattle.dns_ticket_lock.specs.Settling.{ClosedAs, HasTerms, Names}
 use Rattle.dns_ticket_lock.specs.Passes.{PassSeen, ClosedFor, pass_faults}

@@ -14,7 +14,7 @@ use Rattle.dns_ticket_lock.specs.declared.view.Terms.{Terms}
 use Rattle.dns_ticket_lock.specs.declared.view.View.{View}
 use Rattle.dns_ticket_lock.specs.Lists.{StartsWith, with_head}
 use Rattle.dns_ticket_lock.specs.Places.{places_from, places_of, listed, all_bear, all_within}
-use Rattle.dns_ticket_lock.specs.Rule.{Naming, Fits, Stands, Meets, NoneHas, Kept, Done, IsDone, busy, size, waits, has, member_of, settled, with_member, has_counted, rests, FindsOwn, Draws, Takes, Looks, LooksAt, Counts, Passes}
+use Rattle.dns_ticket_lock.specs.Rule.{Naming, Fits, Stands, Meets, NoneHas, Kept, Done, IsDone, busy, size, waits, has, member_of, settled, with_member, has_counted, rests, FindsOwn, Draws, Takes, Looks, Counts, Passes}
 use Rattle.dns_ticket_lock.proofs.Totals.{total_set, total_below}
 use Rattle.dns_ticket_lock.proofs.Places.{still_bears, bears_more, numbered_after, places_of-append}
 use Rattle.dns_ticket_lock.proofs.Seats.{begins_within, begins_more, begins_itself, within, same_at, all_set, apart_same, home_stays, length_head, restand}

@@ -1,7 +1,5 @@
 -- Passes put into a list in the order of their numbers.
 use Rattle.std.proofs.Common.{◌≡◌, ⊎_elim, ℕ, zero, suc, ◌+◌, ◌<◌, List, [], ◌∷◌, ◌++◌, length, replicate, refl, sym, ap, ◌∙◌, arith}
-use mathlib.Core.Option.{some}
-use lib.ListN.{get_elem?}
 use Rattle.atomic_table.proofs.Lists.{at_longer, at_last}
 use Rattle.dns_ticket_lock.specs.declared.view.Account.{Account}
 use Rattle.dns_ticket_lock.specs.declared.view.Terms.{Terms}

@@ -1,5 +1,5 @@
 -- What one turn of a seat with one account comes to.
-use Rattle.std.proofs.Common.{◌≡◌, ◌⊎◌, inl, inr, ⊎_elim, ℕ, ◌+◌, ◌<◌, ◌||◌, Bool, true, false, Option, Some, None, Result, Ok, Err, IfOk, OnErr, List, [], ◌∷◌, ◌++◌, set, drop, length, refl, sym, ap, subst, ◌∙◌, arith}
+use Rattle.std.proofs.Common.{◌≡◌, ◌⊎◌, inl, inr, ⊎_elim, ℕ, ◌+◌, ◌<◌, ◌||◌, Bool, true, false, Option, Some, None, Result, Ok, Err, IfOk, OnErr, List, [], ◌∷◌, ◌++◌, set, length, refl, sym, ap, subst, ◌∙◌, arith}
 use Rattle.std.proofs.lemmas.List.{length-append, append-nil}
 use mathlib.Core.Option.{some}
 use lib.ListN.{get_elem?}
@@ -11,6 +11,8 @@ use Rattle.dns_book.specs.Access.{Access}
 use Rattle.dns_book.specs.declared.ask.Ask.{Ask}
 use Rattle.dns_book.specs.declared.ask.Receipt.{Receipt}
 use Rattle.dns_book.specs.declared.ask.Settled.{Settled}
+use Rattle.dns_book.specs.declared.ask.SettledInto.{SettledInto}
+use Rattle.dns_book.specs.Into.{SettlesInto}
 use Rattle.dns_book.specs.Book.{SeenOf, Ends, Settles, IsLeft}
 use Rattle.dns_ticket_lock.specs.declared.held.Member.{Member}
 use Rattle.dns_ticket_lock.specs.declared.held.Told.{Told}
@@ -19,10 +21,11 @@ use Rattle.dns_ticket_lock.specs.declared.view.Terms.{Terms}
 use Rattle.dns_ticket_lock.specs.declared.view.View.{View}
 use Rattle.dns_ticket_lock.specs.Passes.{PassSeen, IsSame, SettledBy}
 use Rattle.dns_ticket_lock.specs.Lists.{StartsWith, with_head}
-use Rattle.dns_ticket_lock.specs.Places.{all_bear, listed, places_of, places_from}
+use Rattle.dns_ticket_lock.specs.Places.{listed, places_from}
 use Rattle.dns_ticket_lock.specs.Naming.{NamesRows, Advances, batch_after}
 use Rattle.dns_ticket_lock.specs.Rule.{own, settled, member_of, with_member, FindsOwn, Done, IsDone}
 use Rattle.dns_ticket_lock.specs.Settling.{HasTerms, SettledAs, LeftAs, asked_by, done_by, receipt_in}
+use Rattle.dns_book.proofs.IntoBuffer.{into_map}
 use Rattle.dns_ticket_lock.proofs.Advancing.{Follows, follows}
 use Rattle.dns_ticket_lock.proofs.Seats.{within}
 
@@ -138,19 +141,21 @@ module _ {K : Type 0} (krows : K → Option (List Row)) (kfaults : K → ℕ) wh
       begins_further : (rows seen batch : List Row) → StartsWith rows seen → StartsWith (rows ++ batch) seen
       begins_further rows seen batch begins = Rattle.dns_ticket_lock.proofs.Seats.begins_more rows seen (rows ++ batch) (batch, refl) begins
 
-  pub answered : (t : Terms) (access : Access) (number : ℕ) (accounts : List Account) (low : ℕ) (members : List Member) (ask : Ask) (answer : Result Settled OutOfMemory) (rows : List Row) (book later : SeenOf K) (told : Told)
-      → 0 < length accounts → FindsOwn accounts low rows members → HasTerms t book → NamesRows krows book rows → ask.client ≡ number → IfOk answer (λ s. Settles krows kfaults access book ask s later)
+  pub answered : (t : Terms) (access : Access) (number : ℕ) (accounts : List Account) (low : ℕ) (members : List Member) (ask : Ask) (framed : Bool) (had has : List ℕ) (answer : Result SettledInto OutOfMemory) (rows : List Row)
+      (book later : SeenOf K) (told : Told)
+      → 0 < length accounts → FindsOwn accounts low rows members → HasTerms t book → NamesRows krows book rows → ask.client ≡ number → IfOk answer (SettlesInto (λ s. Settles krows kfaults access book ask s later) framed had has)
       → IsTurn number rows book later told → told.receipt ≡ receipt_in answer → kfaults book.keeper + told.rise ≡ kfaults later.keeper
       → (Rose (kfaults book.keeper) (kfaults later.keeper) → (0 < told.rise) ⊎ (told.mark ≡ true))
-      → IfOk answer (λ s. SettledAs krows kfaults t access number (own accounts) ask s (own (with_head (settled rows (done_by krows number rows later told)) accounts)))
-  answered t access number accounts low members ask (Ok s) rows book later told some_own found terms named client ok turn receipt rise rose =
-      settles t access number accounts low members ask s rows book later told some_own found terms named client ok turn receipt rise rose
-  answered t access number accounts low members ask (Err fault) rows book later told some_own found terms named client ok turn receipt rise rose = tt
+      → IfOk answer (SettlesInto (λ s. SettledAs krows kfaults t access number (own accounts) ask s (own (with_head (settled rows (done_by krows number rows later told)) accounts))) framed had has)
+  answered t access number accounts low members ask framed had has (Ok into) rows book later told some_own found terms named client ok turn receipt rise rose =
+      into_map (λ s. Settles krows kfaults access book ask s later) (λ s. SettledAs krows kfaults t access number (own accounts) ask s (own (with_head (settled rows (done_by krows number rows later told)) accounts))) framed had has into
+      (λ s is step. settles t access number accounts low members ask s rows book later told some_own found terms named client step turn (receipt ∙ ap (λ (i : SettledInto). i.receipt) is) rise rose) ok
+  answered t access number accounts low members ask framed had has (Err fault) rows book later told some_own found terms named client ok turn receipt rise rose = tt
 
-  pub unanswered : (number : ℕ) (accounts : List Account) (low : ℕ) (members : List Member) (answer : Result Settled OutOfMemory) (rows : List Row) (book later : SeenOf K) (told : Told)
+  pub unanswered : (number : ℕ) (accounts : List Account) (low : ℕ) (members : List Member) (answer : Result SettledInto OutOfMemory) (rows : List Row) (book later : SeenOf K) (told : Told)
       → 0 < length accounts → FindsOwn accounts low rows members → OnErr answer (IsLeft krows kfaults book later) → told.receipt ≡ receipt_in answer → kfaults book.keeper + told.rise ≡ kfaults later.keeper
       → OnErr answer (LeftAs (own accounts) (own (with_head (settled rows (done_by krows number rows later told)) accounts)))
-  unanswered number accounts low members (Ok s) rows book later told some_own found err receipt rise = tt
+  unanswered number accounts low members (Ok into) rows book later told some_own found err receipt rise = tt
   unanswered number accounts low members (Err fault) rows book later told some_own found err receipt rise =
       let left : IsLeft krows kfaults book later = err in
       let same = left.uncounted in
@@ -180,15 +185,14 @@ asked_once krows kfaults t access number before ask answer after s = record {
 }
 
 -- what the turn of a seat comes to for its pass
-pub settled_by : {K : Type 0} (krows : K → Option (List Row)) (kfaults : K → ℕ) (access : Access) (before after : PassSeen) (ask asked : Ask) (answer : Result Settled OutOfMemory) (old new : View)
+pub settled_by : {K : Type 0} (krows : K → Option (List Row)) (kfaults : K → ℕ) (access : Access) (before after : PassSeen) (ask asked : Ask) (answer : Settled) (old new : View)
     → before.terms ≡ old.terms → before.number ≡ old.low + 1 → before.account ≡ own old.accounts → asked ≡ asked_by before.number ask → IsSame before after → after.account ≡ own new.accounts
-    → IfOk answer (λ s. SettledAs krows kfaults old.terms access (old.low + 1) (own old.accounts) asked s (own new.accounts))
-    → IfOk answer (λ s. SettledBy krows kfaults access before ask s after)
-settled_by krows kfaults access before after ask asked (Ok s) old new terms number account ask_is same account2 ok =
+    → SettledAs krows kfaults old.terms access (old.low + 1) (own old.accounts) asked answer (own new.accounts)
+    → SettledBy krows kfaults access before ask answer after
+settled_by krows kfaults access before after ask asked s old new terms number account ask_is same account2 ok =
     let a = subst (λ (x : Account). SettledAs krows kfaults old.terms access (old.low + 1) (own old.accounts) asked s x) (sym account2) ok in
     let b = subst (λ (x : Account). SettledAs krows kfaults old.terms access (old.low + 1) x asked s after.account) (sym account) a in
     let c = subst (λ (n : ℕ). SettledAs krows kfaults old.terms access n before.account asked s after.account) (sym number) b in
     let d = subst (λ (t : Terms). SettledAs krows kfaults t access before.number before.account asked s after.account) (sym terms) c in
     let e = subst (λ (q : Ask). SettledAs krows kfaults before.terms access before.number before.account q s after.account) ask_is d in
     record { same = same; account = asked_once krows kfaults before.terms access before.number before.account ask s after.account e }
-settled_by krows kfaults access before after ask asked (Err fault) old new terms number account ask_is same account2 ok = tt

@@ -1,6 +1,6 @@
 -- The rows of a book that is shared. Where its keeper tells its rows, they are these. A keeper may stop telling them at any
 -- settle, and then the rows that a batch adds are made up: as many as it has, which bear the seat's number.
-use Rattle.std.specs.Prelude.{◌≡◌, ℕ, ℤ, pos, ◌+◌, ◌≤◌, true, List, [], ◌++◌, length, drop, replicate, Option, Some, None}
+use Rattle.std.specs.Prelude.{◌≡◌, ℕ, pos, ◌+◌, ◌≤◌, true, List, [], ◌++◌, length, drop, replicate, Option, Some, None}
 use Rattle.dns_keeper.specs.declared.row.Row.{Row}
 use Rattle.dns_io.specs.Edge.{Told}
 use Rattle.dns_book.specs.declared.ask.Receipt.{Receipt}

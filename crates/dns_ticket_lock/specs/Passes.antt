@@ -1,5 +1,5 @@
 -- What contracts see of a shared book and of its passes.
-use Rattle.std.specs.Prelude.{◌≡◌, ◌<◌, ◌+◌, true, drop, length, ℕ, List, [], ◌∷◌, Option}
+use Rattle.std.specs.Prelude.{◌≡◌, ◌<◌, ◌+◌, true, drop, length, ℕ, List, Option}
 use mathlib.Core.Option.{some}
 use lib.ListN.{get_elem?}
 use Rattle.atomic_table.specs.Seated.{TableId}

@@ -1,14 +1,15 @@
 -- What a settle by the lock does to the account of its number, and what all accounts say of the book at the end.
-use Rattle.std.specs.Prelude.{◌≡◌, ◌⊎◌, ℕ, ◌+◌, ◌<◌, ◌≤◌, Bool, true, false, List, [], ◌∷◌, ◌++◌, length, drop, Option, Some, None, Result, Ok, Err}
+use Rattle.std.specs.Prelude.{◌≡◌, ◌⊎◌, ℕ, ◌+◌, ◌<◌, true, List, ◌++◌, length, drop, Option, None, Result, Ok, Err}
 use mathlib.Core.Option.{some}
 use lib.ListN.{get_elem?}
 use Rattle.dns_keeper.specs.declared.row.Row.{Row}
 use Rattle.dns_book.specs.declared.ask.Ask.{Ask}
 use Rattle.dns_book.specs.declared.ask.Settled.{Settled}
+use Rattle.dns_book.specs.declared.ask.SettledInto.{SettledInto}
 use Rattle.dns_book.specs.declared.ask.Receipt.{Receipt}
 use Rattle.dns_io.specs.declared.fault.OutOfMemory.{OutOfMemory}
 use Rattle.dns_book.specs.Access.{Access}
-use Rattle.dns_book.specs.Book.{SeenOf, IsKept, Settles}
+use Rattle.dns_book.specs.Book.{SeenOf, Settles}
 use Rattle.dns_ticket_lock.specs.declared.held.Member.{Member}
 use Rattle.dns_ticket_lock.specs.declared.held.Told.{Told}
 use Rattle.dns_ticket_lock.specs.declared.view.Account.{Account}
@@ -66,8 +67,8 @@ pub record LeftAs (before after : Account) : Type 0 where
   pub mark : before.marked ≡ true → after.marked ≡ true
 
 -- the receipt of an answer, if it has one
-abbrev pub receipt_in : Result Settled OutOfMemory → Option Receipt
-receipt_in (Ok settled) = settled.receipt
+abbrev pub receipt_in : Result SettledInto OutOfMemory → Option Receipt
+receipt_in (Ok into) = into.receipt
 receipt_in (Err fault) = None
 
 -- what the accounts of all numbers, in order, say of the book at the end

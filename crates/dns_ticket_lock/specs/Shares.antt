@@ -1,5 +1,5 @@
 -- The list beside the book, with one member per number.
-use Rattle.std.specs.Prelude.{ℕ, ◌-◌, ◌^◌, ◌==◌, ◌&&◌, Bool, true, false, if◌then◌else◌, List, [], ◌∷◌}
+use Rattle.std.specs.Prelude.{ℕ, ◌==◌, ◌&&◌, Bool, true, false, if◌then◌else◌, List, [], ◌∷◌}
 use Rattle.dns_ticket_lock.specs.declared.held.Member.{Member}
 
 -- the last value of a count of faults

@@ -4,6 +4,7 @@ ghost use Rattle.std.specs.Prelude.{◌≡◌, ℕ, ◌+◌, ◌<◌, ◌≤◌,
 ghost use mathlib.Core.Option.{some};
 ghost use lib.ListN.{get_elem?};
 ghost use Rattle.dns_io.specs.Edge.{Rose};
+ghost use Rattle.dns_book.specs.Into.{SettlesInto};
 ghost use Rattle.dns_book.specs.Book.{Settles, IsLeft, IsKept};
 ghost use Rattle.dns_ticket_lock.specs.Lists.{total};
 ghost use Rattle.dns_ticket_lock.specs.Shares.{share_of, marks_stand, new_member, last};
@@ -11,7 +12,7 @@ ghost use Rattle.dns_ticket_lock.specs.Naming.{Advances};
 ghost use Rattle.dns_ticket_lock.specs.Settling.{Names, receipt_in};
 
 use crate::steps::Carried;
-use dns_book::{AccessControl, Ask, Book, Receipt, Settled};
+use dns_book::{AccessControl, Ask, Book, Receipt, SettledInto};
 use dns_io::OutOfMemory;
 use dns_keeper::Keeper;
 use std::alloc::{AllocFailed, Global};
@@ -122,11 +123,11 @@ fn rows_since<K: Keeper>(book: &Book<K>, before: u64) -> u64
 }
 
 /// The receipt of an answer, if it has one.
-fn receipt_of(answer: &Result<Settled, OutOfMemory>) -> Option<Receipt>
+fn receipt_of(answer: &Result<SettledInto, OutOfMemory>) -> Option<Receipt>
     ensures { result ≡ receipt_in answer.now }
 {
     match answer {
-        Ok(settled) => settled.receipt,
+        Ok(into) => into.receipt,
         Err(_) => None,
     }
 }
@@ -142,15 +143,17 @@ fn member_after(member: Member, rise: u64, mark: bool) -> Member
     }
 }
 
-/// Settles one message by the book, and tells what that did.
+/// Settles one message by the book, which adds its reply to a buffer, and tells what that did.
 fn settle_book<K: Keeper>(
     book: &mut Book<K>,
     access: &AccessControl,
     ask: &Ask,
-) -> (Result<Settled, OutOfMemory>, Told)
+    out: &mut Vec<u8>,
+    is_framed: bool,
+) -> (Result<SettledInto, OutOfMemory>, Told)
     requires moment { ask.now.at < 2 ^ 47 }
     requires bytes { length ask.now.bytes ≤ 65535 }
-    ensures ok { IfOk result.0 (λ settled. Settles K.rows K.faults access.now book.old ask.now settled book.new) }
+    ensures ok { IfOk result.0 (SettlesInto (λ settled. Settles K.rows K.faults access.now book.old ask.now settled book.new) is_framed out.old.items out.new.items) }
     ensures err { OnErr result.0 (IsLeft K.rows K.faults book.old book.new) }
     ensures advances { Advances K.rows K.faults ask.now.client book.old result.1.receipt result.1.count book.new }
     ensures receipt { result.1.receipt ≡ receipt_in result.0 }
@@ -161,7 +164,7 @@ fn settle_book<K: Keeper>(
 {
     let before = book.journal_len();
     let was = book.fault_count();
-    let answer = book.settle(access, ask);
+    let answer = book.settle_into(access, ask, out, is_framed);
     let told = Told {
         receipt: receipt_of(&answer),
         count: rows_since(book, before),
@@ -171,17 +174,20 @@ fn settle_book<K: Keeper>(
     (answer, told)
 }
 
-/// Settles one message by the number low + 1, and adds to its member what that did to the keeper's count of faults.
+/// Settles one message by the number low + 1, with its reply in a buffer, and adds to its member what that did to the keeper's count of
+/// faults.
 pub(crate) fn settle_held<K: Keeper>(
     held: &mut Held<K>,
     low: usize,
     access: &AccessControl,
     ask: &Ask,
-) -> (Result<Settled, OutOfMemory>, Told)
+    out: &mut Vec<u8>,
+    is_framed: bool,
+) -> (Result<SettledInto, OutOfMemory>, Told)
     requires moment { ask.now.at < 2 ^ 47 }
     requires bytes { length ask.now.bytes ≤ 65535 }
     requires low { low < length held.old.members.items }
-    ensures ok { IfOk result.0 (λ settled. Settles K.rows K.faults access.now held.old.book ask.now settled held.new.book) }
+    ensures ok { IfOk result.0 (SettlesInto (λ settled. Settles K.rows K.faults access.now held.old.book ask.now settled held.new.book) is_framed out.old.items out.new.items) }
     ensures err { OnErr result.0 (IsLeft K.rows K.faults held.old.book held.new.book) }
     ensures advances { Advances K.rows K.faults ask.now.client held.old.book result.1.receipt result.1.count held.new.book }
     ensures receipt { result.1.receipt ≡ receipt_in result.0 }
@@ -190,7 +196,7 @@ pub(crate) fn settle_held<K: Keeper>(
     ensures members { (m : _) → get_elem? held.old.members.items low ≡ some m → held.new.members.items ≡ slice_set held.old.members.items low (record { share = m.share + result.1.rise; mark = m.mark || result.1.mark }) }
     ensures start { held.new.start ≡ held.old.start }
 {
-    let (answer, told) = settle_book(&mut held.book, access, ask);
+    let (answer, told) = settle_book(&mut held.book, access, ask, out, is_framed);
     let member = held.members[low];
     held.members[low] = member_after(member, told.rise, told.mark);
     (answer, told)

@@ -4,7 +4,7 @@ ghost use Rattle.std.specs.Prelude.{◌≡◌, ◌<◌, ◌≤◌, ◌^◌, leng
 ghost use Rattle.dns_ticket_lock.specs.Passes.{IsPass};
 
 use crate::pass::{Pass, TicketBook};
-use dns_book::{AccessControl, Ask, Settled};
+use dns_book::{AccessControl, Ask, Settled, SettledInto};
 use dns_io::OutOfMemory;
 use dns_keeper::Keeper;
 use dns_server_core::RequestHandler;
@@ -66,5 +66,16 @@ impl<'a, K: Keeper, R: Wait> RequestHandler for Seated<'a, K, R> {
         ask: &Ask,
     ) -> Result<Settled, OutOfMemory> {
         self.book.settle(self.rt, &mut self.pass, access, ask)
+    }
+
+    fn handle_into(
+        &mut self,
+        access: &AccessControl,
+        ask: &Ask,
+        out: &mut Vec<u8>,
+        is_framed: bool,
+    ) -> Result<SettledInto, OutOfMemory> {
+        self.book
+            .settle_into(self.rt, &mut self.pass, access, ask, out, is_framed)
     }
 }

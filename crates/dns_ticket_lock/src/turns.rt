@@ -1,6 +1,7 @@
 //! A turn of a pass: it draws a ticket, takes the book when its turn comes, settles one message, and gives the book back.
 
-ghost use Rattle.std.specs.Prelude.{◌≡◌, ℕ, ◌+◌, ◌<◌, ◌≤◌, ◌^◌, length, [], ◌∷◌, ◌++◌, Some, None, IfOk, OnOk, OnErr};
+ghost use Rattle.std.specs.Prelude.{◌≡◌, ℕ, ◌+◌, ◌<◌, ◌≤◌, ◌^◌, true, length, [], ◌∷◌, ◌++◌, Some, None, IfOk, OnOk, OnErr};
+ghost use Rattle.dns_book.specs.Into.{SettlesInto};
 ghost use Rattle.dns_ticket_lock.specs.Lists.{with_head};
 ghost use Rattle.dns_ticket_lock.specs.Rule.{Takes, IsDone, waits, has, has_counted, rests, own, settled, with_member};
 ghost use Rattle.dns_ticket_lock.specs.Settling.{Names, SettledAs, LeftAs, done_by, asked_by};
@@ -12,7 +13,7 @@ use crate::pass::{Pass, TicketBook};
 use crate::steps::{Board, Carried, draw, give, leave, take, wait_for_turn};
 use crate::view::View;
 use atomic_table::{Badge, Seat};
-use dns_book::{AccessControl, Ask, Settled};
+use dns_book::{AccessControl, Ask, Settled, SettledInto};
 use dns_io::{Octets, OutOfMemory};
 use dns_keeper::Keeper;
 use std::mem;
@@ -50,14 +51,17 @@ fn end_turn<K: Keeper>(
     leave(board, seat);
 }
 
-/// One turn of a seat with one account: the message's client is its number. Tells how many rows there are then.
+/// One turn of a seat with one account: the message's client is its number. The reply goes into a buffer. Tells how many rows there are
+/// then.
 fn settle_seat<K: Keeper, R: Wait>(
     rt: &R,
     board: &Board<Box<Held<K>>>,
     seat: &mut Seat<Option<Box<Held<K>>>, View>,
     access: &AccessControl,
     ask: &Ask,
-) -> (Result<Settled, OutOfMemory>, u64)
+    out: &mut Vec<u8>,
+    is_framed: bool,
+) -> (Result<SettledInto, OutOfMemory>, u64)
     requires board { (board.now.table_id.words ≡ 3) × (board.now.table_id.slots ≡ 1) × (seat.old.table_id ≡ board.now.table_id) }
     requires idle { (seat.old.me.1 ≡ []) × (seat.old.me.0.phase ≡ 0) × (length seat.old.me.0.accounts ≡ 1) }
     requires number { ask.now.client ≡ seat.old.me.0.low + 1 }
@@ -67,12 +71,12 @@ fn settle_seat<K: Keeper, R: Wait>(
     ensures idle { (seat.new.me.1 ≡ []) × (seat.new.me.0.phase ≡ 0) × (length seat.new.me.0.accounts ≡ 1) }
     ensures low { (seat.new.me.0.low ≡ seat.old.me.0.low) × (seat.new.me.0.terms ≡ seat.old.me.0.terms) }
     ensures seen { length (own seat.new.me.0.accounts).seen ≡ result.1 }
-    ensures ok { IfOk result.0 (λ settled. SettledAs K.rows K.faults seat.old.me.0.terms access.now (seat.old.me.0.low + 1) (own seat.old.me.0.accounts) ask.now settled (own seat.new.me.0.accounts)) }
+    ensures ok { IfOk result.0 (SettlesInto (λ settled. SettledAs K.rows K.faults seat.old.me.0.terms access.now (seat.old.me.0.low + 1) (own seat.old.me.0.accounts) ask.now settled (own seat.new.me.0.accounts)) is_framed out.old.items out.new.items) }
     ensures err { OnErr result.0 (LeftAs (own seat.old.me.0.accounts) (own seat.new.me.0.accounts)) }
 {
     let low = ask.client as usize - 1;
     let mut held = begin_turn(rt, board, seat);
-    let (answer, told) = settle_held(held.as_mut(), low, access, ask);
+    let (answer, told) = settle_held(held.as_mut(), low, access, ask, out, is_framed);
     let rows = held.book.journal_len();
     end_turn(board, seat, held, &told);
     (answer, rows)
@@ -121,12 +125,43 @@ impl<K: Keeper> TicketBook<K> {
         ensures ok { IfOk result (λ settled. SettledBy K.rows K.faults access.now pass.old ask.now settled pass.new) }
         ensures err { OnErr result (LeftBy pass.old pass.new) }
     {
+        let mut frame = Vec::new(pass.alloc);
+        let into = self.settle_into(rt, pass, access, ask, &mut frame, true)?;
+        Ok(Settled::from_frame(into, frame))
+    }
+
+    /// Settles one message as [`TicketBook::settle`] does, and adds its reply, where one is owed, to what a buffer has: as it is, or
+    /// behind the two bytes of its length, as it goes over a connection (RFC 1035 4.2.2). Where memory ran out, part of a reply may have
+    /// been added.
+    pub fn settle_into<R: Wait>(
+        &self,
+        rt: &R,
+        pass: &mut Pass,
+        access: &AccessControl,
+        ask: &Ask,
+        out: &mut Vec<u8>,
+        is_framed: bool,
+    ) -> Result<SettledInto, OutOfMemory>
+        requires pass { pass.old.book ≡ self.now.id }
+        requires moment { ask.now.at < 2 ^ 47 }
+        requires bytes { length ask.now.bytes ≤ 65535 }
+        ensures ok { IfOk result (SettlesInto (λ settled. SettledBy K.rows K.faults access.now pass.old ask.now settled pass.new) is_framed out.old.items out.new.items) }
+        ensures err { OnErr result (LeftBy pass.old pass.new) }
+    {
         copy_into(&mut pass.bytes, &ask.bytes)?;
         let copy = mem::replace(&mut pass.bytes, Vec::new(pass.alloc));
         let asked = asked_as(copy, ask, pass.number);
         let badge = mem::replace(&mut pass.badge, Badge::blank());
         let mut seat: Seat<Option<Box<Held<K>>>, View> = badge.into_seat();
-        let (answer, rows) = settle_seat(rt, &self.table.shared, &mut seat, access, &asked);
+        let (answer, rows) = settle_seat(
+            rt,
+            &self.table.shared,
+            &mut seat,
+            access,
+            &asked,
+            out,
+            is_framed,
+        );
         pass.badge = seat.into_badge();
         pass.seen = rows;
         let Ask { bytes, .. } = asked;

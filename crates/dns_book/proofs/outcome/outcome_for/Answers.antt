@@ -1,10 +1,5 @@
-use Rattle.std.proofs.Common.{sym, ◌∙◌}
 use Rattle.dns_book.proofs.Deciding.{fit_decided}
-use Rattle.dns_book.proofs.InPlace.{comes_some}
 use Rattle.dns_book.proofs.outcome.outcome_for.Goals as goal
-
-pub returns-then-is_some : goal.returns-then-is_some
-returns-then-is_some c = comes_some _ _ _ _ _ (sym c.is_some.ensures ∙ c.if-is_some.true) (c.in_ok-outcome.ensures c.args.allow_update)
 
 pub outcome_of-requires : goal.outcome_of-requires
 outcome_of-requires c = fit_decided c.args.zone.now c.args.access.now c.args.ask.now _ c.in-Some.decision c.as_slice.result.now c.read_updates.ensures c.as_slice.ensures c.in_ok-decision.ensures c.in-Some.is

@@ -1,4 +1,4 @@
-use Rattle.std.proofs.Common.{◌≡◌, ℕ, List, length, ap, ◌∙◌, arith}
+use Rattle.std.proofs.Common.{List, length, ap, ◌∙◌, arith}
 use Rattle.dns_ticket_lock.specs.declared.held.Member.{Member}
 use Rattle.dns_ticket_lock.specs.Lists.{total}
 use Rattle.dns_ticket_lock.specs.Shares.{share_of, marks_stand}

@@ -1,15 +1,14 @@
 use Rattle.std.proofs.Common.{◌≡◌, ℕ, subst₂, sym, arith}
 use Rattle.dns_ticket_lock.specs.Naming.{Advances}
-use Rattle.dns_ticket_lock.specs.Settling.{receipt_in}
 use Rattle.dns_ticket_lock.proofs.Advancing.{advances}
 use Rattle.dns_ticket_lock.proofs.held.settle_book.Goals as goal
 
 pub returns-clause-advances : goal.returns-clause-advances
 returns-clause-advances g c =
-    let s = c.settle-answer.ensures in
+    let s = c.settle_into-answer.ensures in
     let before = c.args.book.now in
-    let after = c.settle-answer.new.self in
-    let all = advances g.K.Keeper.rows g.K.Keeper.faults c.args.access.now before c.args.ask.now c.settle-answer.result after s.ok s.err in
+    let after = c.settle_into-answer.new.self in
+    let all = advances g.K.Keeper.rows g.K.Keeper.faults c.args.access.now before c.args.ask.now _ _ _ c.settle_into-answer.result after s.ok s.err in
     let rows = c.journal_len-before.ensures.is in
     let since = c.rows_since.ensures in
     let now = all.1.counted in
@@ -19,16 +18,16 @@ returns-clause-advances g c =
 
 pub rows_since-requires : goal.rows_since-requires
 rows_since-requires g c =
-    let s = c.settle-answer.ensures in
-    let all = advances g.K.Keeper.rows g.K.Keeper.faults c.args.access.now c.args.book.now c.args.ask.now c.settle-answer.result c.settle-answer.new.self s.ok s.err in
+    let s = c.settle_into-answer.ensures in
+    let all = advances g.K.Keeper.rows g.K.Keeper.faults c.args.access.now c.args.book.now c.args.ask.now _ _ _ c.settle_into-answer.result c.settle_into-answer.new.self s.ok s.err in
     let rows = c.journal_len-before.ensures.is in
     let now = all.1.counted in
     omega arith
 
 pub rise_since-requires : goal.rise_since-requires
 rise_since-requires g c =
-    let s = c.settle-answer.ensures in
-    let all = advances g.K.Keeper.rows g.K.Keeper.faults c.args.access.now c.args.book.now c.args.ask.now c.settle-answer.result c.settle-answer.new.self s.ok s.err in
+    let s = c.settle_into-answer.ensures in
+    let all = advances g.K.Keeper.rows g.K.Keeper.faults c.args.access.now c.args.book.now c.args.ask.now _ _ _ c.settle_into-answer.result c.settle_into-answer.new.self s.ok s.err in
     let was = c.fault_count-was.ensures in
     let now = all.1.faults in
     omega arith

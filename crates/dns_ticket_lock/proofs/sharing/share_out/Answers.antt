@@ -2,7 +2,6 @@ use Rattle.std.proofs.Common.{◌≡◌, ℕ, ◌+◌, ◌-◌, ◌≤◌, List,
 use Rattle.std.proofs.lemmas.List.{length-append, length-replicate}
 use Rattle.atomic_table.specs.Table.{Me}
 use Rattle.dns_ticket_lock.specs.declared.view.Account.{Account}
-use Rattle.dns_ticket_lock.specs.declared.view.Terms.{Terms}
 use Rattle.dns_ticket_lock.specs.declared.view.View.{View}
 use Rattle.dns_ticket_lock.specs.Lists.{only_first, but_first}
 use Rattle.dns_ticket_lock.specs.Rule.{fresh, own, terms_of}

@@ -1,19 +1,16 @@
-use Rattle.std.proofs.Common.{◌≡◌, ℕ, ◌<◌, ◌+◌, ◌++◌, List, Option, Some, None, Result, Ok, Err, IfOk, OnErr, ap, sym, ◌∙◌, subst, subst₂, ◌-◌, ◌||◌, set, length, arith}
+use Rattle.std.proofs.Common.{◌≡◌, ℕ, ◌+◌, ◌++◌, List, IfOk, OnErr, ap, sym, ◌∙◌, subst, subst₂, ◌-◌, ◌||◌, set, length, arith}
 use Rattle.atomic_table.specs.Table.{Me}
 use Rattle.dns_keeper.specs.declared.row.Row.{Row}
-use Rattle.dns_io.specs.declared.fault.OutOfMemory.{OutOfMemory}
-use Rattle.dns_book.specs.declared.ask.Settled.{Settled}
-use Rattle.dns_book.specs.Book.{Settles, IsLeft}
+use Rattle.dns_book.specs.Into.{SettlesInto}
 use Rattle.dns_ticket_lock.specs.declared.held.Member.{Member}
 use Rattle.dns_ticket_lock.specs.declared.view.Account.{Account}
 use Rattle.dns_ticket_lock.specs.declared.view.View.{View}
 use Rattle.dns_ticket_lock.specs.Lists.{with_head}
-use Rattle.dns_ticket_lock.specs.Rule.{Done, has, waits, own, settled, with_member, FindsOwn, IsDone}
-use Rattle.dns_ticket_lock.specs.Settling.{Names, HasTerms, SettledAs, LeftAs, done_by}
+use Rattle.dns_ticket_lock.specs.Rule.{has, waits, own, settled, with_member, IsDone}
+use Rattle.dns_ticket_lock.specs.Settling.{Names, SettledAs, LeftAs, done_by}
 use Rattle.dns_ticket_lock.specs.Naming.{Advances}
 use mathlib.Core.Option.{some}
 use lib.ListN.{get_elem?}
-use Rattle.dns_ticket_lock.proofs.Seats.{length_head}
 use Rattle.dns_ticket_lock.proofs.Turning.{finds_place, members_are, answered, unanswered, seen_is, turn_of}
 use Rattle.dns_ticket_lock.proofs.turns.settle_seat.Goals as goal
 
@@ -118,8 +115,8 @@ returns-clause-ok g c =
     let accounts : c.end_turn.new.seat.me.0.accounts ≡ with_head (settled took.1 done) v.accounts =
     ap (λ (m : Me _ View). m.0.accounts) c.end_turn.ensures.rests
     ∙ ap (λ (x : View). with_head (settled x.rows (done_by g.K.Keeper.rows (x.low + 1) x.rows then.book now.1)) x.accounts) view in
-    subst (λ (l : List Account). IfOk now.0 (λ s. SettledAs g.K.Keeper.rows g.K.Keeper.faults v.terms c.args.access.now (v.low + 1) (own v.accounts) c.args.ask.now s (own l))) (sym accounts)
-    (answered g.K.Keeper.rows g.K.Keeper.faults v.terms c.args.access.now (v.low + 1) v.accounts v.low took.2 c.args.ask.now now.0 took.1 was.book then.book now.1 (omega arith) took.4.1 n.same_terms n.has_rows c.requires.number e.ok turn e.receipt e.rise e.rose)
+    subst (λ (l : List Account). IfOk now.0 (SettlesInto (λ s. SettledAs g.K.Keeper.rows g.K.Keeper.faults v.terms c.args.access.now (v.low + 1) (own v.accounts) c.args.ask.now s (own l)) c.args.is_framed c.args.out.now.items c.settle_held-answer.new.out.items)) (sym accounts)
+    (answered g.K.Keeper.rows g.K.Keeper.faults v.terms c.args.access.now (v.low + 1) v.accounts v.low took.2 c.args.ask.now _ _ _ now.0 took.1 was.book then.book now.1 (omega arith) took.4.1 n.same_terms n.has_rows c.requires.number e.ok turn e.receipt e.rise e.rose)
 
 pub returns-clause-err : goal.returns-clause-err
 returns-clause-err g c =

@@ -1,6 +1,6 @@
 -- The answer of all workers and of the reading.
 use Rattle.dns_requests.specs.Arrivals.{Ticks}
-use Rattle.dns_server.proofs.Answering.{answers_for, answers_reading, listener_rose, socket_rose}
+use Rattle.dns_server.proofs.Answering.{answer_while_reading, answers_for, answers_reading, listener_rose, socket_rose}
 use Rattle.dns_server.proofs.server.ThreadServer.serve_until.Goals as goal
 
 pub returns-clause-answer : goal.returns-clause-answer
@@ -13,3 +13,6 @@ returns-clause-answer g c =
     (listener_rose g.K.Keeper.rows g.K.Keeper.faults g.T.In.Source.left g.T.In.Source.faults g.T.Out.Sink.taken g.T.Out.Sink.flushed g.T.Out.Sink.faults (Ticks g.T.Time.Clock.last) g.T.TcpPort.left g.T.TcpPort.accepted g.T.TcpPort.ended g.T.TcpPort.faults before.access)
     before after c.run_while-reading.ensures.sockets c.run_while-reading.ensures.listeners c.answer.result c.answer.ensures)
     c.run_while-reading.ensures.memory)
+
+pub returns-clause-first : goal.returns-clause-first
+returns-clause-first g c = rw (c.or_reading.ensures, c.answer.ensures) (answer_while_reading _ c.run_while-reading.result c.run_while-reading.ensures.memory)

@@ -1,6 +1,5 @@
 use Rattle.std.proofs.Common.{◌≡◌, List, [], ◌∷◌, ◌++◌, length, sym, refl, subst, subst₂, ap, ◌∙◌, Option, Some}
 use Rattle.atomic_table.specs.Table.{opening}
-use Rattle.dns_book.specs.Book.{SeenOf}
 use Rattle.dns_ticket_lock.specs.declared.view.Terms.{Terms}
 use Rattle.dns_ticket_lock.specs.Naming.{NamesRows, terms_at}
 use Rattle.dns_ticket_lock.specs.Rule.{Kept, first_view, terms_of}

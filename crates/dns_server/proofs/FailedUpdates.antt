@@ -1,0 +1,186 @@
+-- No more updates got ServFail than the keeper's count of faults rose.
+use Rattle.std.proofs.Common.{◌≡◌, ◌≤◌, ◌<◌, ◌+◌, ◌⊎◌, inl, inr, ⊎_elim, ℕ, suc, Bool, true, false, if◌then◌else◌, List, [], ◌∷◌, ◌++◌, Option, Some, None, Result, Ok, Err, refl, arith}
+use mathlib.Core.Option.{some}
+use lib.ListN.{get_elem?}
+use Rattle.dns_wire.specs.declared.record.Record.{Record}
+use Rattle.dns_keeper.specs.declared.row.Row.{Row}
+use Rattle.dns_book.specs.declared.ask.Ask.{Ask}
+use Rattle.dns_book.specs.declared.ask.Receipt.{Receipt}
+use Rattle.dns_book.specs.declared.ask.Settled.{Settled}
+use Rattle.dns_book.specs.Access.{Access}
+use Rattle.dns_book.specs.Book.{SeenOf, Ends as BatchEnds, idle, journalled, failed, Settles}
+use Rattle.dns_server_core.specs.Books.{RoseBy}
+use Rattle.dns_ports.specs.Ports.{Datagram, Reply}
+use Rattle.dns_ports.specs.declared.port.Accepted.{Accepted}
+use Rattle.dns_requests.specs.declared.serve_fault.ServeFault.{ServeFault}
+use Rattle.dns_requests.specs.declared.serve_fault.ServeFault.TheVariants.{Read, Write, Turns, TimedOut, OutOfMemory}
+use Rattle.dns_requests.specs.Ends.{Ends, Parts, Terms as ServeTerms}
+use Rattle.dns_requests.specs.Runs.{Run as MessageRun, BreaksOff}
+use Rattle.dns_ticket_lock.specs.declared.view.Terms.{Terms}
+use Rattle.dns_ticket_lock.specs.Lists.{total}
+use Rattle.dns_ticket_lock.specs.Shares.{last}
+use Rattle.dns_ticket_lock.specs.Passes.{PassSeen, SettledBy, LeftBy, ClosedFor, pass_faults}
+use Rattle.dns_ticket_lock.proofs.Totals.{total_append}
+use Rattle.dns_server.specs.declared.worker.Worker.{Worker}
+use Rattle.dns_server.specs.Sockets.{Fate, Answered, Refused, Skipped, Handled, Steps, Run as DatagramRun, ask_for}
+use Rattle.dns_server.specs.Listeners.{HandedBack, TreatsBy, Run as ConnectionRun}
+use Rattle.dns_server.specs.Servers.{Matches, ServedSocket, ServedListener, their_passes}
+use Rattle.dns_server.specs.FailedUpdates.{failed_by_step, failed_by_datagram, failed_by_datagrams, failed_by_messages, failed_by_serving, failed_by_connection, failed_by_connections, failed_by_socket, failed_by_listener, added_up}
+
+-- the pass counted so many faults more at least, or it has the mark; and a mark stays
+record GrewBy (n : ℕ) (p q : PassSeen) : Type 0 where
+  few : (p.account.faults + n ≤ q.account.faults) ⊎ (q.account.marked ≡ true)
+  mark : p.account.marked ≡ true → q.account.marked ≡ true
+
+few_more : (a b n x y z : ℕ) (marked marked' : Bool) → n ≡ a + b → (x + a ≤ y) ⊎ (marked ≡ true) → (y + b ≤ z) ⊎ (marked' ≡ true) → (marked ≡ true → marked' ≡ true) → (x + n ≤ z) ⊎ (marked' ≡ true)
+few_more a b n x y z marked marked' e (inl h) (inl k) keeps = inl (omega (arith, e, h, k))
+few_more a b n x y z marked marked' e (inl h) (inr k) keeps = inr k
+few_more a b n x y z marked marked' e (inr h) k keeps = inr (keeps h)
+
+GrewBy-more : (a b n : ℕ) (p q r : PassSeen) → n ≡ a + b → GrewBy a p q → GrewBy b q r → GrewBy n p r
+GrewBy-more a b n p q r e g h = record {
+  few = few_more a b n p.account.faults q.account.faults r.account.faults q.account.marked r.account.marked e g.few h.few h.mark;
+  mark = λ m. h.mark (g.mark m);
+}
+
+and_none : (n : ℕ) → n ≡ n + 0
+and_none n = omega arith
+
+GrewBy-refl : (p : PassSeen) → GrewBy 0 p p
+GrewBy-refl p = record { few = inl (omega arith); mark = λ m. m }
+
+GrewBy-none : (p q : PassSeen) → q ≡ p → GrewBy 0 p q
+GrewBy-none p q e = rw e (GrewBy-refl p)
+
+GrewBy-left : (p q : PassSeen) → LeftBy p q → GrewBy 0 p q
+GrewBy-left p q l = record { few = inl (let e = l.account.faults in omega (arith, e)); mark = l.account.mark }
+
+few_by_step : (flag : Bool) (a b x y : ℕ) (marked : Bool) → b + x ≡ a + y → x ≤ y → (flag ≡ true → (a < b) ⊎ (marked ≡ true)) → (a + (if flag then 1 else 0) ≤ b) ⊎ (marked ≡ true)
+few_by_step true a b x y marked counted later fails = ⊎_elim (λ (less : a < b). inl (omega (arith, less))) (λ (m : marked ≡ true). inr m) (fails refl)
+few_by_step false a b x y marked counted later fails = inl (omega (arith, counted, later))
+
+-- a run of steps by a pass
+module _ {K : Type 0} (krows : K → Option (List Row)) (kfaults : K → ℕ) (access : Access) where
+  batch_later : (before : SeenOf K) (ask : Ask) (batch : List Record) (flag : Bool) (receipt : Option Receipt) (after : SeenOf K) → BatchEnds krows kfaults before ask batch flag receipt after
+      → kfaults before.keeper ≤ kfaults after.keeper
+  batch_later before ask batch flag receipt after (idle none) = omega arith
+  batch_later before ask batch flag receipt after (journalled some_of keeper grown later) = omega (arith, later)
+  batch_later before ask batch flag receipt after (failed some_of keeper kept later rose) = omega (arith, later)
+
+  settles_later : (before : SeenOf K) (ask : Ask) (settled : Settled) (after : SeenOf K) → Settles krows kfaults access before ask settled after → kfaults before.keeper ≤ kfaults after.keeper
+  settles_later before ask settled after s = rw s.counted (batch_later before ask _ s.failed settled.receipt s.ended s.ends)
+
+  step_grew : (p : PassSeen) (ask : Ask) (settled : Settled) (q : PassSeen) → (s : SettledBy krows kfaults access p ask settled q) → GrewBy (failed_by_step krows kfaults access p ask settled q s) p q
+  step_grew p ask settled q s = record {
+    few = few_by_step s.account.settles.failed p.account.faults q.account.faults (kfaults s.account.book.keeper) (kfaults s.account.later.keeper) q.account.marked
+        s.account.counted (settles_later s.account.book _ settled s.account.later s.account.settles) s.account.failed;
+    mark = s.account.mark;
+  }
+
+  datagram_grew : (p : PassSeen) (ask : Ask) (fate : Fate) (q : PassSeen) → (s : Steps (SettledBy krows kfaults access) LeftBy p ask fate q) → GrewBy (failed_by_datagram krows kfaults access p ask fate q s) p q
+  datagram_grew p ask (Answered settled) q s = step_grew p ask settled q s
+  datagram_grew p ask (Refused settled fault) q s = step_grew p ask settled q s.0
+  datagram_grew p ask Skipped q s = ⊎_elim (λ (e : q ≡ p). GrewBy-none p q e) (λ (l : LeftBy p q). GrewBy-left p q l) s
+
+  datagrams_grew : (p : PassSeen) (handled : List Handled) (q : PassSeen) → (run : DatagramRun (SettledBy krows kfaults access) LeftBy p handled q)
+      → GrewBy (failed_by_datagrams krows kfaults access p handled q run) p q
+  datagrams_grew p [] q run = GrewBy-none p q run
+  datagrams_grew p (one ∷ others) q run =
+      GrewBy-more _ _ _ p run.0 q refl (datagram_grew p (ask_for one.datagram) one.fate run.0 run.1) (datagrams_grew run.0 others q run.2)
+
+  messages_grew : (p : PassSeen) (asks : List Ask) (bytes : List ℕ) (q : PassSeen) → (run : MessageRun (SettledBy krows kfaults access) p asks bytes q)
+      → GrewBy (failed_by_messages krows kfaults access p asks bytes q run) p q
+  messages_grew p [] bytes q run = GrewBy-none p q run.0
+  messages_grew p (ask ∷ asks) bytes q run =
+      GrewBy-more _ _ _ p run.1 q refl (step_grew p ask run.0 run.1 run.3) (messages_grew run.1 asks run.2 q run.5)
+
+  breaks_grew : (p : PassSeen) (asks : List Ask) (q : PassSeen) (taken now : Option (List ℕ)) → (b : BreaksOff (SettledBy krows kfaults access) LeftBy p asks q taken now)
+      → GrewBy (failed_by_messages krows kfaults access p b.first b.answered.bytes b.last b.answered.run) p q
+  breaks_grew p asks q taken now b =
+      GrewBy-more _ 0 _ p b.last q (and_none _)
+      (messages_grew p b.first b.answered.bytes b.last b.answered.run)
+      (⊎_elim (λ (e : q ≡ b.last). GrewBy-none b.last q e) (λ (l : LeftBy b.last q). GrewBy-left b.last q l) b.end)
+
+  serving_grew : {S W C : Type 0} (left : S → Option (List ℕ)) (read_faults : S → ℕ) (taken : W → Option (List ℕ)) (write_faults : W → ℕ) (ticks : C → ℕ → C → Type 0) (terms : ServeTerms) (before after : Parts PassSeen S W C) (answer : Result ℕ ServeFault)
+      → (e : Ends (SettledBy krows kfaults access) LeftBy left read_faults taken write_faults ticks terms before after answer)
+      → GrewBy (failed_by_serving krows kfaults access left read_faults taken write_faults ticks terms before after answer e) before.handler after.handler
+  serving_grew left read_faults taken write_faults ticks terms before after (Ok n) e = messages_grew _ _ _ _ e.answers.run
+  serving_grew left read_faults taken write_faults ticks terms before after (Err Read) e = messages_grew _ _ _ _ e.answers.run
+  serving_grew left read_faults taken write_faults ticks terms before after (Err Write) e = messages_grew _ _ _ _ e.answers.run
+  serving_grew left read_faults taken write_faults ticks terms before after (Err (Turns n)) e = messages_grew _ _ _ _ e.answers.run
+  serving_grew left read_faults taken write_faults ticks terms before after (Err (TimedOut since limit at)) e = messages_grew _ _ _ _ e.answers.run
+  serving_grew left read_faults taken write_faults ticks terms before after (Err OutOfMemory) e = breaks_grew _ _ _ _ _ e.answers
+
+  module _ {R W C : Type 0} (left_of : R → Option (List ℕ)) (read_faults : R → ℕ) (taken flushed : W → Option (List ℕ)) (write_faults : W → ℕ) (ticks : C → ℕ → C → Type 0) (limit : ℕ) where
+    connection_grew : (p : PassSeen) (came back : Accepted R W C) (answer : Option (Result ℕ ServeFault)) (q : PassSeen)
+        → (t : TreatsBy (SettledBy krows kfaults access) LeftBy left_of read_faults taken flushed write_faults ticks limit p came back answer q)
+        → GrewBy (failed_by_connection krows kfaults access left_of read_faults taken flushed write_faults ticks limit p came back answer q t) p q
+    connection_grew p came back None q t = GrewBy-none p q t.still
+    connection_grew p came back (Some answer) q t = serving_grew left_of read_faults taken write_faults ticks _ _ _ answer t.ends
+
+    connections_grew : (p : PassSeen) (handled : List (HandedBack R W C)) (q : PassSeen)
+        → (run : ConnectionRun (SettledBy krows kfaults access) LeftBy left_of read_faults taken flushed write_faults ticks limit p handled q)
+        → GrewBy (failed_by_connections krows kfaults access left_of read_faults taken flushed write_faults ticks limit p handled q run) p q
+    connections_grew p [] q run = GrewBy-none p q run
+    connections_grew p (one ∷ others) q run =
+        GrewBy-more _ _ _ p run.0 q refl (connection_grew p one.came one.back one.answer run.0 run.1) (connections_grew run.0 others q run.2)
+
+-- one of them has the mark
+abbrev AnyMarked : List PassSeen → Type 0
+AnyMarked [] = ⊥
+AnyMarked (p ∷ ps) = (p.account.marked ≡ true) ⊎ AnyMarked ps
+
+marked_before : (ps qs : List PassSeen) → AnyMarked ps → AnyMarked (ps ++ qs)
+marked_before [] qs a = absurd a
+marked_before (p ∷ ps) qs (inl m) = inl m
+marked_before (p ∷ ps) qs (inr a) = inr (marked_before ps qs a)
+
+marked_behind : (ps qs : List PassSeen) → AnyMarked qs → AnyMarked (ps ++ qs)
+marked_behind [] qs a = a
+marked_behind (p ∷ ps) qs a = inr (marked_behind ps qs a)
+
+-- what follows of each that has it
+by_mark : (A : Type 0) (ps : List PassSeen) → ((i : ℕ) (p : PassSeen) → get_elem? ps i ≡ some p → p.account.marked ≡ true → A) → AnyMarked ps → A
+by_mark A [] f a = absurd a
+by_mark A (p ∷ ps) f (inl m) = f 0 p refl m
+by_mark A (p ∷ ps) f (inr a) = by_mark A ps (λ i. f (suc i)) a
+
+few_with : (x n rest more : ℕ) (p : PassSeen) (ps : List PassSeen) → (x + n ≤ p.account.faults) ⊎ (p.account.marked ≡ true) → (rest + more ≤ total pass_faults ps) ⊎ AnyMarked ps
+    → ((x + rest) + (n + more) ≤ total pass_faults (p ∷ ps)) ⊎ AnyMarked (p ∷ ps)
+few_with x n rest more p ps (inl h) (inl k) = inl (omega (arith, h, k))
+few_with x n rest more p ps (inl h) (inr a) = inr (inr a)
+few_with x n rest more p ps (inr m) k = inr (inl m)
+
+-- the workers' passes counted as many faults more, or one has the mark
+module _ {P : Type 0} {R : Worker P → Worker P → Type 0} (f : (x y : Worker P) → R x y → ℕ) (grew : (x y : Worker P) (r : R x y) → GrewBy (f x y r) x.pass y.pass) where
+  workers_grew : (xs ys : List (Worker P)) (m : Matches R xs ys) → (total pass_faults (their_passes xs) + added_up f xs ys m ≤ total pass_faults (their_passes ys)) ⊎ AnyMarked (their_passes ys)
+  workers_grew [] [] m = inl (omega arith)
+  workers_grew [] (y ∷ ys) m = absurd m
+  workers_grew (x ∷ xs) [] m = absurd m
+  workers_grew (x ∷ xs) (y ∷ ys) m =
+      few_with x.pass.account.faults (f x y m.0) (total pass_faults (their_passes xs)) (added_up f xs ys m.1) y.pass (their_passes ys) (grew x y m.0).few (workers_grew xs ys m.1)
+
+rose_by_both : (a b n k : ℕ) (start now : ℕ) (ps qs : List PassSeen) → (a + n ≤ total pass_faults ps) ⊎ AnyMarked ps → (b + k ≤ total pass_faults qs) ⊎ AnyMarked qs
+    → start + total pass_faults (ps ++ qs) ≡ now → (AnyMarked (ps ++ qs) → now ≡ last) → RoseBy (n + k) start now
+rose_by_both a b n k start now ps qs (inl h) (inl j) rise marked = let both = total_append pass_faults ps qs in omega (arith, h, j, rise, both)
+rose_by_both a b n k start now ps qs (inl h) (inr m) rise marked = let e = marked (marked_behind ps qs m) in omega (arith, e)
+rose_by_both a b n k start now ps qs (inr m) j rise marked = let e = marked (marked_before ps qs m) in omega (arith, e)
+
+-- of a book that was closed for the passes of all workers, at most as many steps answered an update with ServFail as the keeper's count
+-- rose since it was shared, or that stands at its last value
+pub few_failed_updates : {K U T R W C : Type 0} (krows : K → Option (List Row)) (kfaults : K → ℕ) (access : Access)
+    (left received : U → Option (List Datagram)) (taken : U → Option (List Reply)) (faults : U → ℕ)
+    (left_of : R → Option (List ℕ)) (read_faults : R → ℕ) (taken_by flushed : W → Option (List ℕ)) (write_faults : W → ℕ) (ticks : C → ℕ → C → Type 0)
+    (unaccepted accepted ended : T → Option (List (Accepted R W C))) (listener_faults : T → ℕ)
+    (xs ys : List (Worker U)) (m : Matches (ServedSocket krows kfaults left received taken faults access) xs ys)
+    (vs ws : List (Worker T)) (n : Matches (ServedListener krows kfaults left_of read_faults taken_by flushed write_faults ticks unaccepted accepted ended listener_faults access) vs ws)
+    (t : Terms) (book : SeenOf K) → ClosedFor krows kfaults t (their_passes ys ++ their_passes ws) book
+    → RoseBy (added_up (failed_by_socket krows kfaults access left received taken faults) xs ys m
+    + added_up (failed_by_listener krows kfaults access left_of read_faults taken_by flushed write_faults ticks unaccepted accepted ended listener_faults) vs ws n) t.start (kfaults book.keeper)
+few_failed_updates krows kfaults access left received taken faults left_of read_faults taken_by flushed write_faults ticks unaccepted accepted ended listener_faults xs ys m vs ws n t book closed =
+    rose_by_both _ _ _ _ t.start (kfaults book.keeper) (their_passes ys) (their_passes ws)
+    (workers_grew (failed_by_socket krows kfaults access left received taken faults)
+    (λ x y s. datagrams_grew krows kfaults access x.pass s.works.work.handled y.pass s.works.work.run) xs ys m)
+    (workers_grew (failed_by_listener krows kfaults access left_of read_faults taken_by flushed write_faults ticks unaccepted accepted ended listener_faults)
+    (λ x y s. connections_grew krows kfaults access left_of read_faults taken_by flushed write_faults ticks x.limit x.pass s.works.work.handled y.pass s.works.work.run) vs ws n)
+    closed.rise (by_mark (kfaults book.keeper ≡ last) (their_passes ys ++ their_passes ws) closed.marked)
