@@ -26,6 +26,7 @@ import wire
 
 ZONES = (7, 50_000, 500_000)  # names
 WINDOW = {"udp": 64, "tcp": 64}
+WINDOWS = (1, 8, 64)  # queries under way on each of two connections
 UPDATES = 2_000
 TICKS = os.sysconf("SC_CLK_TCK")
 
@@ -85,9 +86,9 @@ def serving(load, seconds, folder):
                 line(f"{count} names, {way}", measured(load, server.run, server.port, way, seconds, names), bare[way])
 
 
-def replies_of(load, port, seconds, names, connections):
-    """Replies a second over so many connections at once."""
-    command = [load, "tcp", str(port), str(seconds), str(WINDOW["tcp"]), names]
+def replies_of(load, port, seconds, names, connections, window):
+    """Replies a second over so many connections at once, with so many queries under way on each."""
+    command = [load, "tcp", str(port), str(seconds), str(window), names]
     runs = [subprocess.Popen(command, stdout=subprocess.PIPE, text=True) for _ in range(connections)]
     outs = [run.communicate()[0].split() for run in runs]
     return sum(int(replies) / float(passed) for replies, passed, _lost in outs)
@@ -97,8 +98,10 @@ def second_worker(load, seconds, folder):
     """What a second worker adds: two connections, each served by a worker of its own, beside one."""
     zone, names = zone_of(ZONES[0], folder)
     with clients.Serving(zone=zone, workers=2) as server:
-        one, two = (replies_of(load, server.port, seconds, names, count) for count in (1, 2))
-    print(f"{ZONES[0]} names, tcp, two workers: {two:,.0f} a second; the second adds {two / one - 1:.2f} of the first's {one:,.0f}", flush=True)
+        for window in WINDOWS:
+            one, two = (replies_of(load, server.port, seconds, names, count, window) for count in (1, 2))
+            print(f"{ZONES[0]} names, tcp, two workers, {window} under way: {two:,.0f} a second; the second adds {two / one - 1:.2f} of the "
+                  f"first's {one:,.0f}", flush=True)
 
 
 def updated(folder):
