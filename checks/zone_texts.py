@@ -184,14 +184,47 @@ def string_of(word):
     return bytes([len(string)]) + string
 
 
-def opaque_of(words, number):
-    """The bytes in general form (RFC 3597 5). The types that have a form of their own are not read so, for now."""
-    if any(is_quoted for _, is_quoted in words) or len(words) < 2 or words[0][0] != b"\\#" or number in TYPES.values():
+SIZES = {"address": 4, "long address": 16, "short": 2, "long": 4, "time": 4}
+
+
+def taken(field, data):
+    """The bytes of a field at the front of data, a name in small letters, and the bytes behind it. No name holds a pointer
+    (RFC 3597 4)."""
+    end = 1 + data[0] if field == "string" and data else SIZES.get(field, 1)
+    if field == "name":
+        end = 0
+        while end < len(data) and 0 < data[end] < 64:
+            end += 1 + data[end]
+        end += 1
+        if end > 255 or data[end - 1 : end] != b"\0":
+            raise Refused("Data")
+    if len(data) < end:
+        raise Refused("Data")
+    # A length byte is below the capitals.
+    return data[:end].lower() if field == "name" else data[:end], data[end:]
+
+
+def bytes_of(number, data):
+    """The bytes in general form, read as data of their type where it has a form of its own (RFC 3597 5)."""
+    if number not in TYPES.values():
+        return data
+    found, form = b"", list(FORMS.get(number, []))
+    while form or (number not in FORMS and data):
+        field, data = taken(form.pop(0) if form else "string", data)
+        found += field
+    if data:
+        raise Refused("Data")
+    return found
+
+
+def general_of(words, number):
+    """The data that the general form writes (RFC 3597 5)."""
+    if any(is_quoted for _, is_quoted in words) or len(words) < 2 or words[0][0] != b"\\#":
         raise Refused("Data")
     size, digits = number_of(words[1], 2, "Data"), b"".join(text for text, _ in words[2:])
     if size == bytes(2) or not re.fullmatch(rb"[0-9a-fA-F]*", digits) or len(digits) != 2 * int.from_bytes(size, "big"):
         raise Refused("Data")
-    return bytes.fromhex(digits.decode())
+    return bytes_of(number, bytes.fromhex(digits.decode()))
 
 
 def plain(read):
@@ -229,7 +262,7 @@ FORMS = {
 def data_of(number, is_numbered, words, origin):
     """The data of a type, as it stands in a message."""
     if is_numbered:
-        return opaque_of(words, number)
+        return general_of(words, number)
     form = FORMS.get(number, ["string"] * max(1, len(words)))
     if len(form) != len(words):
         raise Refused("Data")
@@ -400,6 +433,16 @@ ALPHABETS = {
 }
 GENERAL = b"TYPE65280 type1234 TYPE43 TYPE127 TYPE256 TYPE65535 TYPE40".split()
 FAULTY_GENERAL = [rb"\# 1", rb"# 1 00", rb"\# 0", rb"\# 1 000", rb"\# 1 00 0", rb"\# 1 g0", rb'\# 1 "00"', rb"\# x 00", b""]
+KNOWN = [
+    *(rb"TYPE1 \# 4 c0000201", rb"TYPE1 \# 3 c00002", rb"TYPE1 \# 5 c000020100", rb"TYPE28 \# 16 " + b"0a" * 16),
+    *(rb"TYPE28 \# 15 " + b"0a" * 15, rb"TYPE2 \# 3 014200", rb"TYPE5 \# 5 0142015a00", rb"TYPE12 \# 1 00"),
+    *(rb"TYPE12 \# 2 c000", rb"TYPE12 \# 2 c00b", rb"TYPE12 \# 2 c00c", rb"TYPE12 \# 4 0142c00b", rb"TYPE12 \# 4 01420000"),
+    *(rb"TYPE12 \# 2 0142", rb"TYPE12 \# 3 404200", rb"TYPE15 \# 5 4142014200", rb"TYPE15 \# 2 4142", rb"TYPE15 \# 4 0001c000"),
+    *(rb"TYPE33 \# 9 414243444546014200", rb"TYPE33 \# 8 000100010001c000", rb"TYPE16 \# 4 03416263", rb"TYPE16 \# 3 034162"),
+    *(rb"TYPE16 \# 1 00", rb"TYPE16 \# 2 0061", rb"TYPE6 \# 29 014100014200 " + b"00" * 20 + b" 000000", rb"TYPE6 \# 22 " + b"00" * 22),
+    *(rb"TYPE6 \# 23 00c000" + b"00" * 20, rb"TYPE6 \# 21 " + b"00" * 21),
+]
+WIRE_NAMES = [[], [b"a"], [b"A", b"z"], [b"b", b"Z"], [b"*", b"a.B"], [b"@[`{"], [b"L" * 63] * 3 + [b"l" * 61], [b"\0\xff"]]
 FAULTY_FRONTS = [b"CH", b"IN IN", b"1 1", b"1 IN 1", b'"IN"', b'"1"', b"CLASS1", b"1 CH", b"1IN"]
 FAULTY_ENTRIES = [
     *(b"$INCLUDE f", b"$", b"$TTL", b"$ORIGIN", b"$ORIGIN a b", b"$TTL 1 1", b"$TTL 1x", b"$ORIGINS a", b"a"),
@@ -415,7 +458,8 @@ WITHIN_LINES = {
     "long address": [b"a AAAA %s"],
     "string": [b"a TXT %s", b"a TXT x %s y"],
     "type": [b"a 1 %s 192.0.2.1", b"a %s"],
-    "general": [b"a TYPE300 %s"],
+    "general": [b"a TYPE300 %s", b"a TYPE1 %s"],
+    "known": [b"a %s", b"a 1 %s\na 2 %s", b"@ %s"],
     "front": [b"a %s A 192.0.2.1"],
     "entry": [b"%s"],
 }
@@ -423,9 +467,10 @@ CROWD_OWNERS = b"a A a b @ c.a a.z. z. y. *".split() + [b"", b""]
 CROWD_DATA = [
     *(b"A 1.2.3.4", b"A 1.2.3.4", b"A 1.2.3.5", b"AAAA ::1", b"AAAA 0::0:1", b"TXT x", b"TXT X", b'TXT "x"', b'TXT x ""'),
     *(b"CNAME b", b"CNAME B", b"CNAME b", b"CNAME c", b"NS a", b"NS A", b"MX 1 a", b"MX 01 A", b"MX 2 a", b"SRV 1 1 1 a"),
-    *(rb"TYPE300 \# 1 ab", rb"type300 \# 1 AB", b"PTR a", b"SOA a b 7 1 1 1 1"),
+    *(rb"TYPE300 \# 1 ab", rb"type300 \# 1 AB", rb"TYPE1 \# 4 01020304", rb"TYPE2 \# 5 0141017A00", b"PTR a", b"SOA a b 7 1 1 1 1"),
 ]
 AIMED = [(field, word) for pool in (GOOD, FAULTY) for field in pool for word in pool[field]]
+AIMED += [("known", word) for word in KNOWN]
 AIMED += [("general", word) for word in FAULTY_GENERAL] + [("front", word) for word in FAULTY_FRONTS]
 AIMED += [("entry", word) for word in FAULTY_ENTRIES]
 MARKS = [
@@ -469,11 +514,35 @@ class Texts:
         """A type by its number, and its data in general form."""
         if self.often(2 * self.faulty):
             return [self.chance.choice(GENERAL), *self.chance.choice(FAULTY_GENERAL).split()]
-        size = self.chance.randrange(1, 7)
-        digits = bytes(self.chance.choices(b"0123456789abcdefABCDEF", k=2 * size))
+        if self.often(0.7):
+            kind = self.chance.choice([one for one in TYPES if one != b"SOA"])
+            return [b"TYPE%d" % TYPES[kind], *self.digits(self.known(kind))]
+        return [self.chance.choice(GENERAL), *self.digits(self.chance.randbytes(self.chance.randrange(1, 7)))]
+
+    def digits(self, data):
+        """The words of the general form for these bytes."""
+        digits = b"".join(self.chance.choice([b"%02x", b"%02X"]) % byte for byte in data)
         place = self.chance.randrange(len(digits) + 1)
         parts = [part for part in (digits[:place], digits[place:]) if part]
-        return [self.chance.choice(GENERAL), rb"\#", b"%d" % size, *parts]
+        return [rb"\#", b"%d" % len(data), *parts]
+
+    def known(self, kind):
+        """The bytes of data of a type, perhaps spoiled; at least one."""
+        form = FORMS.get(TYPES[kind], ["string"] * self.chance.choice([1, 1, 2, 3]))
+        data = b"".join(self.field(field) for field in form)
+        if self.often(0.3 if self.faulty else 0):
+            place = self.chance.randrange(len(data) + 1)
+            more = self.chance.choice([b"", b"", b"\0", b"a", b"\xc0\x00", b"\xc0\x0b", b"\xc0\x0c", b"\x40", b"\x80"])
+            data = data[:place] + more + self.chance.choice([data[place:], data[place + 1 :], b""])
+        return data or b"\0"
+
+    def field(self, field):
+        """The bytes of one field."""
+        if field == "name":
+            return b"".join(bytes([len(label)]) + label for label in self.chance.choice(WIRE_NAMES)) + b"\0"
+        if field == "string":
+            return self.chance.choice([b"\0", b"\1w", b"\3aBc", b"\xff" + b"S" * 255])
+        return self.chance.randbytes(SIZES[field])
 
     def data(self, kind=None):
         """The words of a type and its data."""
@@ -524,7 +593,7 @@ class Texts:
     def aimed(self):
         """A text in which one word matters, of all words in turn."""
         field, word = AIMED[self.seed // 3 % len(AIMED)]
-        line = self.chance.choice(WITHIN_LINES[field]) % word
+        line = self.chance.choice(WITHIN_LINES[field]).replace(b"%s", word)
         default = self.chance.choice([b"", b"$TTL 5\n", b"$TTL 5\n", b"$TTL 5\n"])
         return default + b"@ SOA a b 7 1 1 1 1\n" + line + self.chance.choice([b"", b"\n", b"\n\nb 1 NS a\nx\n"])
 

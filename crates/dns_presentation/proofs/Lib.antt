@@ -2,3 +2,5 @@ pub mod Wording
 pub mod Searches
 pub mod Parts
 pub mod Addresses
+pub mod TypedData
+pub mod TypedRecords

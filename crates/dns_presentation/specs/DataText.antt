@@ -5,12 +5,14 @@ use Rattle.std.specs.Str.{str_eq_ignore_ascii_case, bytes_eq}
 use Rattle.hex.specs.Hex.{decode_of}
 use lib.Chars.{codes}
 use Rattle.dns_wire.specs.declared.rdata.Data.{Data}
-use Rattle.dns_wire.specs.declared.rdata.Data.TheVariants.{A, Aaaa, Ns, Cname, Ptr, Mx, Srv, Soa, Txt, Opaque}
+use Rattle.dns_wire.specs.declared.rdata.Data.TheVariants.{A, Aaaa, Ns, Cname, Ptr, Mx, Srv, Soa, Txt}
 use Rattle.dns_wire.specs.declared.record_type.TheConstants as record_type
 use Rattle.dns_wire.specs.Texts.{texts_bytes}
 use Rattle.dns_presentation.specs.declared.data_text.WrittenType.{WrittenType}
 use Rattle.dns_presentation.specs.Lines.{parts_of}
 use Rattle.dns_presentation.specs.Words.{Word}
+use Rattle.dns_zone_map.specs.Folds.{fold_data}
+use Rattle.dns_presentation.specs.TypedData.{typed_data}
 use Rattle.dns_presentation.specs.Values.{◌>>=◌, plain_text, is_word, number_of, number_up_to, seconds_of, name_in, string_of, address_from, wide_address_of}
 
 -- the number below 2^32 that a word writes
@@ -115,9 +117,13 @@ abbrev pub joined : List ℕ → List Word → Option (List ℕ)
 joined front [] = Some front
 joined front (word ∷ words) = plain_text word >>= λ text. joined (front ++ text) words
 
--- the bytes that hex digits write, if they are of this number, which is not 0
-abbrev pub sized_bytes : ℕ → List ℕ → Option Data
-sized_bytes size digits = result_ok (decode_of digits) >>= λ bytes. if (length bytes == size) && nat_lt 0 size then Some (Opaque bytes) else None
+-- data with its names in small letters
+abbrev pub in_small_letters : Option Data → Option Data
+in_small_letters rdata = rdata >>= λ found. Some (fold_data found)
+
+-- the data of a type whose bytes hex digits write, if they are of this number, which is not 0
+abbrev pub sized_bytes : ℕ → ℕ → List ℕ → Option Data
+sized_bytes type size digits = result_ok (decode_of digits) >>= λ bytes. if (length bytes == size) && nat_lt 0 size then in_small_letters (typed_data type bytes) else None
 
 -- the word that begins data of the general form: a backslash and a number sign
 abbrev pub is_general : Word → Bool
@@ -125,21 +131,14 @@ is_general word = not word.quoted && bytes_eq word.text (92 ∷ 35 ∷ [])
 
 -- data of the general form, at least one byte: that word, the number of bytes, and their hex digits, which may be parted
 -- into words (RFC 3597 5)
-unfoldable pub general_of : List Word → Option Data
-general_of (mark ∷ size ∷ words) =
+unfoldable pub general_of : ℕ → List Word → Option Data
+general_of type (mark ∷ size ∷ words) =
     if is_general mark then (do
       number ← word_short size
       digits ← joined [] words
-      sized_bytes number digits)
+      sized_bytes type number digits)
     else None
-general_of words = None
-
--- a type that has a form of its own
-abbrev pub has_form : ℕ → Bool
-has_form number =
-    (number == record_type.A) || ((number == record_type.NS) || ((number == record_type.CNAME) || ((number == record_type.SOA)
-    || ((number == record_type.PTR) || ((number == record_type.MX) || ((number == record_type.TXT)
-    || ((number == record_type.AAAA) || (number == record_type.SRV))))))))
+general_of type words = None
 
 -- data that is a name alone
 unfoldable pub name_data_of : List (List ℕ) → ℕ → List Word → Option Data
@@ -158,12 +157,11 @@ form_data_of origin number words =
     else if number == record_type.TXT then txt_of words
     else name_data_of origin number words
 
--- the data of a type: a type that is written by its number has the general form, for now only where it has none of its own
+-- the data of a type: a type that is written by its name has its own form, and one that is written by its number the
+-- general form
 unfoldable pub data_of : List (List ℕ) → WrittenType → List Word → Option Data
 data_of origin type words =
-    if not type.by_number then form_data_of origin type.number words
-    else if has_form type.number then None
-    else general_of words
+    if type.by_number then general_of type.number words else form_data_of origin type.number words
 
 -- a type that no record of a zone has: 0, OPT, and those that stand in questions and in messages (RFC 6895 3.1)
 abbrev pub is_meta_type : ℕ → Bool

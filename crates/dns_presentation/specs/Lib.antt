@@ -2,5 +2,6 @@ pub mod Lines
 pub mod Words
 pub mod LogicalLines
 pub mod Values
+pub mod TypedData
 pub mod DataText
 pub mod Entries

@@ -2,11 +2,12 @@
 
 ghost use Rattle.std.specs.Prelude.{◌≡◌, ◌+◌, ◌++◌, ◌||◌, [], nat_lt};
 ghost use Rattle.dns_presentation.specs.Values.{Gives, plain_text, is_word};
-ghost use Rattle.dns_presentation.specs.DataText.{word_number, word_short, word_seconds, word_name, only_word, only_name, only_seconds, a_of, aaaa_of, mx_of, srv_of, times_of, soa_of, is_too_long, strings_from, txt_of, joined, is_general, sized_bytes, number_behind_type, general_of, has_form, name_data_of, form_data_of, data_of, is_meta_type, named_type, numbered_type, type_of};
+ghost use Rattle.dns_presentation.specs.DataText.{word_number, word_short, word_seconds, word_name, only_word, only_name, only_seconds, a_of, aaaa_of, mx_of, srv_of, times_of, soa_of, is_too_long, strings_from, txt_of, joined, is_general, sized_bytes, number_behind_type, general_of, name_data_of, form_data_of, data_of, is_meta_type, named_type, numbered_type, type_of};
 ghost use lib.Chars.{codes};
 
 use crate::fault::ValueFault;
 use crate::names::name_in;
+use crate::typed_data::typed_data;
 use crate::values::{address_of, number_of, number_up_to, seconds_of, string_of, wide_address_of};
 use crate::words::Word;
 use dns_io::Octets;
@@ -266,8 +267,8 @@ fn is_general(word: &Word<'_>) -> bool
 
 /// Data of the general form, at least one byte (RFC 3597 5).
 #[tactic(auto, unfolding(crate::specs::DataText::general_of))]
-fn general_of(alloc: Global, words: &[Word<'_>]) -> Result<Data, ValueFault>
-    ensures { Gives (λ rdata. rdata) result (general_of words.now) }
+fn general_of(alloc: Global, number: u16, words: &[Word<'_>]) -> Result<Data, ValueFault>
+    ensures { Gives (λ rdata. rdata) result (general_of number words.now) }
 {
     match words {
         [mark, size, rest @ ..] => {
@@ -276,7 +277,7 @@ fn general_of(alloc: Global, words: &[Word<'_>]) -> Result<Data, ValueFault>
             }
             let size = word_short(size)?;
             let digits = joined(alloc, size, rest)?;
-            sized_bytes(alloc, size, &digits)
+            sized_bytes(alloc, number, size, &digits)
         }
         _ => Err(ValueFault::Refused),
     }
@@ -294,35 +295,20 @@ fn joined(alloc: Global, size: u16, words: &[Word<'_>]) -> Result<Vec<u8>, Value
     Ok(digits)
 }
 
-/// The bytes that hex digits write, if they are of this number, which is not 0.
-fn sized_bytes(alloc: Global, size: u16, digits: &[u8]) -> Result<Data, ValueFault>
-    ensures { Gives (λ rdata. rdata) result (sized_bytes size digits.now) }
+/// The data of a type whose bytes hex digits write, if they are of this number, which is not 0.
+fn sized_bytes(alloc: Global, number: u16, size: u16, digits: &[u8]) -> Result<Data, ValueFault>
+    ensures { Gives (λ rdata. rdata) result (sized_bytes number size digits.now) }
 {
     match hex::decode(alloc, digits) {
         Ok(bytes) => {
             if bytes.len() != usize::from(size) || size == 0 {
                 return Err(ValueFault::Refused);
             }
-            Ok(Data::Opaque(Octets::from_vec(bytes)))
+            typed_data(alloc, number, Octets::from_vec(bytes))
         }
         Err(FromHexError::OutOfMemory) => Err(ValueFault::OutOfMemory),
         Err(_) => Err(ValueFault::Refused),
     }
-}
-
-/// Whether a type has a form of its own.
-fn has_form(number: u16) -> bool
-    ensures { result ≡ has_form number }
-{
-    number == record_type::A
-        || number == record_type::NS
-        || number == record_type::CNAME
-        || number == record_type::SOA
-        || number == record_type::PTR
-        || number == record_type::MX
-        || number == record_type::TXT
-        || number == record_type::AAAA
-        || number == record_type::SRV
 }
 
 /// Data that is a name alone.
@@ -389,13 +375,10 @@ pub(crate) fn data_of(
 ) -> Result<Data, ValueFault>
     ensures { Gives (λ rdata. rdata) result (data_of origin.now written words.now) }
 {
-    if !written.by_number {
-        return form_data_of(alloc, origin, written.number, words);
+    if written.by_number {
+        return general_of(alloc, written.number, words);
     }
-    if has_form(written.number) {
-        return Err(ValueFault::Refused);
-    }
-    general_of(alloc, words)
+    form_data_of(alloc, origin, written.number, words)
 }
 
 /// Whether a type is one that no record of a zone has (RFC 6895 3.1).

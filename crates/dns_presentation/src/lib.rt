@@ -4,9 +4,11 @@
 mod data_text;
 mod entry;
 mod fault;
+pub mod laws;
 mod lines;
 mod logical_line;
 mod names;
+mod typed_data;
 mod values;
 mod words;
 

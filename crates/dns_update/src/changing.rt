@@ -161,7 +161,8 @@ fn takes_any_set(map: &ZoneMap, name: &Name) -> bool
     ensures { result ≡ list_any (is_taken_with_name map.now.origin name.now) map.now.records }
 {
     let keeps = name.same(map.origin());
-    let key = ZoneKey::new(map.origin(), name);
+    let mut room = [0u8; 255];
+    let key = ZoneKey::new(map.origin(), name, &mut room);
     match map.sets(&key, 0) {
         Some(sets) => has_free_set(sets.as_slice(), keeps),
         None => false,

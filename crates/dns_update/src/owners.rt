@@ -25,7 +25,8 @@ pub(crate) fn is_in_use(map: &ZoneMap, name: &Name) -> bool
     requires { is_at_or_below name.now map.now.origin ≡ true }
     ensures { result ≡ is_in_use map.now.records name.now }
 {
-    let key = ZoneKey::new(map.origin(), name);
+    let mut room = [0u8; 255];
+    let key = ZoneKey::new(map.origin(), name, &mut room);
     map.sets(&key, 0).is_some()
 }
 
@@ -41,7 +42,8 @@ pub(crate) fn owns_other(map: &ZoneMap, name: &Name) -> bool
     requires { is_at_or_below name.now map.now.origin ≡ true }
     ensures { result ≡ list_any (bears_other name.now) map.now.records }
 {
-    let key = ZoneKey::new(map.origin(), name);
+    let mut room = [0u8; 255];
+    let key = ZoneKey::new(map.origin(), name, &mut room);
     match map.sets(&key, 0) {
         Some(sets) => has_other(sets.as_slice()),
         None => false,

@@ -1,5 +1,5 @@
 -- What holds of the names and the data that words of a zone's text write.
-use Rattle.std.proofs.Common.{◌≡◌, ℕ, ◌+◌, ◌<◌, ◌≤◌, nat_lt, List, [], ◌∷◌, ◌++◌, length, map, Bool, true, false, not, ◌==◌, ◌&&◌, ◌||◌, if◌then◌else◌, Option, Some, None, Result, Ok, Err, refl, sym, ap, ◌∙◌, subst, arith, length-append, ◌⊎◌, inl, inr}
+use Rattle.std.proofs.Common.{◌≡◌, ℕ, ◌+◌, ◌<◌, ◌≤◌, nat_lt, List, [], ◌∷◌, ◌++◌, length, map, Bool, true, false, ◌==◌, ◌&&◌, ◌||◌, if◌then◌else◌, Option, Some, None, Result, Ok, Err, refl, sym, ap, ◌∙◌, subst, arith, length-append, ◌⊎◌, inl, inr}
 use Rattle.std.specs.Int.{w16, w32, to_be_bytes}
 use Rattle.std.specs.Str.{bytes_eq}
 use Rattle.std.proofs.lemmas.Bool.Decides.{Decides-eqb}
@@ -12,8 +12,7 @@ use lib.Chars.{codes}
 use Rattle.dns_name.specs.declared.fault.ProtoError.{ProtoError}
 use Rattle.dns_name.specs.declared.fault.ProtoError.TheVariants.{NameLong}
 use Rattle.dns_wire.specs.declared.rdata.Data.{Data}
-use Rattle.dns_wire.specs.declared.rdata.Data.TheVariants.{A, Aaaa, Ns, Cname, Ptr, Mx, Srv, Soa, Txt, Opaque}
-use Rattle.dns_wire.specs.declared.rdata.Form.TheVariants as form
+use Rattle.dns_wire.specs.declared.rdata.Data.TheVariants.{A, Aaaa, Ns, Cname, Ptr, Mx, Srv, Soa, Txt}
 use Rattle.dns_wire.specs.declared.record.Record.{Record}
 use Rattle.dns_wire.specs.Forms.{form_of, variant_of}
 use Rattle.dns_name.specs.Name.{fold_of, name_len, name_bytes, labels_bytes}
@@ -29,7 +28,10 @@ use Rattle.dns_zone.specs.Contexts.{IsFolded}
 use Rattle.dns_presentation.specs.Words.{Word}
 use Rattle.dns_presentation.specs.declared.data_text.WrittenType.{WrittenType}
 use Rattle.dns_presentation.specs.Values.{◌>>=◌, plain_text, folded, ends_in_dot, name_under, name_in, string_of, address_from, wide_address_of}
-use Rattle.dns_presentation.specs.DataText.{word_number, word_short, word_name, only_word, only_name, a_of, aaaa_of, mx_of, srv_of, times_of, soa_of, is_too_long, strings_from, txt_of, joined, sized_bytes, is_general, general_of, has_form, name_data_of, form_data_of, data_of, is_meta_type, named_type, number_behind_type, numbered_type, typed, type_of}
+use Rattle.dns_presentation.specs.TypedData.{IsTypedData, typed_data}
+use Rattle.dns_presentation.proofs.TypedData.{typed_data-is}
+use Rattle.dns_update.proofs.Folded.{fold_record-fold_record, length_folded, form_folded}
+use Rattle.dns_presentation.specs.DataText.{word_number, word_short, word_name, only_word, only_name, a_of, aaaa_of, mx_of, srv_of, times_of, soa_of, is_too_long, strings_from, txt_of, joined, in_small_letters, sized_bytes, is_general, general_of, name_data_of, form_data_of, data_of, is_meta_type, named_type, number_behind_type, numbered_type, typed, type_of}
 
 -- what holds of such a record, wherever it stands
 pub record IsRead (r : Record) : Type 0 where
@@ -371,22 +373,6 @@ IsTyped-form_data_of origin number words rdata above is =
     of_number : (k : ℕ) → (number == k) ≡ true → IsTyped (k, rdata) → IsTyped (number, rdata)
     of_number k same typed = subst (λ n. IsTyped (n, rdata)) (sym ((Decides-eqb number k).0 same)) typed
 
--- a type that has no form of its own, and is not OPT, has the general form
-general_form : (opt none a ns cname soa ptr mx txt aaaa srv : Bool) → none ≡ false → (a || (ns || (cname || (soa || (ptr || (mx || (txt || (aaaa || srv)))))))) ≡ false
-    → (if opt then form.Opaque else if none then form.Empty else if a then form.A else if ns then form.Ns else if cname then form.Cname else if soa then form.Soa else if ptr then form.Ptr else if mx then form.Mx else if txt then form.Txt else if aaaa then form.Aaaa else if srv then form.Srv else form.Opaque) ≡ form.Opaque
-general_form true none a ns cname soa ptr mx txt aaaa srv some apart = refl
-general_form false true a ns cname soa ptr mx txt aaaa srv some apart = absurd cc
-general_form false false true ns cname soa ptr mx txt aaaa srv some apart = absurd cc
-general_form false false false true cname soa ptr mx txt aaaa srv some apart = absurd cc
-general_form false false false false true soa ptr mx txt aaaa srv some apart = absurd cc
-general_form false false false false false true ptr mx txt aaaa srv some apart = absurd cc
-general_form false false false false false false true mx txt aaaa srv some apart = absurd cc
-general_form false false false false false false false true txt aaaa srv some apart = absurd cc
-general_form false false false false false false false false true aaaa srv some apart = absurd cc
-general_form false false false false false false false false false true srv some apart = absurd cc
-general_form false false false false false false false false false false true some apart = absurd cc
-general_form false false false false false false false false false false false some apart = refl
-
 -- a number that a word writes is below 2^16
 short_number : (word : Word) (number : ℕ) → word_short word ≡ Some number → number ≤ 65535
 unfolding word_short
@@ -406,35 +392,44 @@ both false some is = absurd cc
 some_below : (size : ℕ) → nat_lt 0 size ≡ true → 0 < size
 some_below size is = grind arith
 
-IsTyped-sized_bytes : (number size : ℕ) (digits : List ℕ) (rdata : Data) → is_meta number ≡ false → has_form number ≡ false → size ≤ 65535 → sized_bytes size digits ≡ Some rdata → IsTyped (number, rdata)
-IsTyped-sized_bytes number size digits rdata plain apart short is =
-    let bytes = taken _ (λ bytes. if (length bytes == size) && nat_lt 0 size then Some (Opaque bytes) else None) rdata is in
-    elim (chosen ((length bytes.0 == size) && nat_lt 0 size) (Some (Opaque bytes.0)) None rdata bytes.2) [
+-- data in the general form, whose names are made small
+IsTyped-small : (number : ℕ) (bytes : List ℕ) (rdata : Data) → is_meta number ≡ false → 0 < length bytes → length bytes ≤ 65535 → IsTypedData number bytes rdata → IsTyped (number, fold_data rdata)
+IsTyped-small number bytes rdata plain some short typed =
+    let one : Record = record { name = []; rtype = number; class = 1; ttl = 0; rdata = rdata } in
+    let same : length (data_bytes rdata) ≡ length bytes = ap length typed.is in
+    let small : length (data_bytes (fold_data rdata)) ≡ length bytes = length_folded rdata ∙ same in
+    record {
+      plain = plain;
+      form = form_folded one (subst (λ size. form_of number size ≡ variant_of rdata) (sym same) typed.form);
+      filled = omega (arith, small, some);
+      short = omega (arith, small, short);
+      names = ap (λ (r : Record). r.rdata) (fold_record-fold_record one);
+    }
+
+IsTyped-sized_bytes : (number size : ℕ) (digits : List ℕ) (rdata : Data) → is_meta number ≡ false → size ≤ 65535 → sized_bytes number size digits ≡ Some rdata → IsTyped (number, rdata)
+IsTyped-sized_bytes number size digits rdata plain short is =
+    let bytes = taken _ (λ bytes. if (length bytes == size) && nat_lt 0 size then in_small_letters (typed_data number bytes) else None) rdata is in
+    elim (chosen ((length bytes.0 == size) && nat_lt 0 size) (in_small_letters (typed_data number bytes.0)) None rdata bytes.2) [
       | inl whole ↦
           let parts = both (length bytes.0 == size) (nat_lt 0 size) whole.0 in
           let same : length bytes.0 ≡ size = (Decides-eqb (length bytes.0) size).0 parts.0 in
           let some : 0 < length bytes.0 = omega (arith, same, some_below size parts.1) in
-          let typed : IsTyped (number, Opaque bytes.0) = record {
-            plain = plain;
-            form = general_form (number == 41) (length bytes.0 == 0) (number == 1) (number == 2) (number == 5) (number == 6) (number == 12) (number == 15) (number == 16) (number == 28) (number == 33) (not_none (length bytes.0) some) apart;
-            filled = some;
-            short = omega (arith, same, short);
-            names = refl;
-          } in
-          subst (λ rdata. IsTyped (number, rdata)) (some_same _ _ whole.1) typed
+          let found = taken (typed_data number bytes.0) (λ found. Some (fold_data found)) rdata whole.1 in
+          let typed = typed_data-is number bytes.0 found.0 found.1 in
+          subst (λ rdata. IsTyped (number, rdata)) (some_same _ _ found.2) (IsTyped-small number bytes.0 found.0 plain some (omega (arith, same, short)) typed)
       | inr none ↦ absurd (no_value none.1)
     ]
 
-IsTyped-general_of : (number : ℕ) (words : List Word) (rdata : Data) → is_meta number ≡ false → has_form number ≡ false → general_of words ≡ Some rdata → IsTyped (number, rdata)
+IsTyped-general_of : (number : ℕ) (words : List Word) (rdata : Data) → is_meta number ≡ false → general_of number words ≡ Some rdata → IsTyped (number, rdata)
 unfolding general_of
-IsTyped-general_of number [] rdata plain apart is = absurd cc
-IsTyped-general_of number (mark ∷ []) rdata plain apart is = absurd cc
-IsTyped-general_of number (mark ∷ size ∷ words) rdata plain apart is =
-    elim (chosen (is_general mark) (word_short size >>= λ size. joined [] words >>= λ digits. sized_bytes size digits) None rdata is) [
+IsTyped-general_of number [] rdata plain is = absurd cc
+IsTyped-general_of number (mark ∷ []) rdata plain is = absurd cc
+IsTyped-general_of number (mark ∷ size ∷ words) rdata plain is =
+    elim (chosen (is_general mark) (word_short size >>= λ size. joined [] words >>= λ digits. sized_bytes number size digits) None rdata is) [
       | inl general ↦
-          let size_is = taken (word_short size) (λ size. joined [] words >>= λ digits. sized_bytes size digits) rdata general.1 in
-          let digits = taken (joined [] words) (sized_bytes size_is.0) rdata size_is.2 in
-          IsTyped-sized_bytes number size_is.0 digits.0 rdata plain apart (short_number size size_is.0 size_is.1) digits.2
+          let size_is = taken (word_short size) (λ size. joined [] words >>= λ digits. sized_bytes number size digits) rdata general.1 in
+          let digits = taken (joined [] words) (sized_bytes number size_is.0) rdata size_is.2 in
+          IsTyped-sized_bytes number size_is.0 digits.0 rdata plain (short_number size size_is.0 size_is.1) digits.2
       | inr none ↦ absurd (no_value none.1)
     ]
 
@@ -446,13 +441,9 @@ pub IsTyped-data_of : (origin : List (List ℕ)) (type : WrittenType) (words : L
 unfolding data_of
 IsTyped-data_of origin type words rdata above written is = by_form type.by_number refl is
   where
-    by_form : (by_number : Bool) → type.by_number ≡ by_number → (if not by_number then form_data_of origin type.number words else if has_form type.number then None else general_of words) ≡ Some rdata → IsTyped (type.number, rdata)
+    by_form : (by_number : Bool) → type.by_number ≡ by_number → (if by_number then general_of type.number words else form_data_of origin type.number words) ≡ Some rdata → IsTyped (type.number, rdata)
     by_form false named is = IsTyped-form_data_of origin type.number words rdata above is
-    by_form true numbered is =
-        elim (chosen (has_form type.number) None (general_of words) rdata is) [
-          | inl known ↦ absurd (no_value known.1)
-          | inr apart ↦ IsTyped-general_of type.number words rdata (written numbered) apart.0 apart.1
-        ]
+    by_form true numbered is = IsTyped-general_of type.number words rdata (written numbered) is
 
 IsWritten-numbered : (word : Word) (number : ℕ) → numbered_type word ≡ Some number → is_meta number ≡ false
 unfolding numbered_type

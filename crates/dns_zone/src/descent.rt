@@ -11,10 +11,6 @@ use dns_io::OutOfMemory;
 use dns_wire::record_type::{DS, NS};
 use dns_zone_map::{OwnerSets, RecordSet, ZoneKey, ZoneMap};
 
-/// How many bytes a key takes at most: those of a name, and of the label `*` under it. Room for them is taken at once, since
-/// longer keys follow shorter ones.
-const MAX_KEY_LEN: usize = 257;
-
 /// Where the way down to a name ends.
 #[derive(Drop)]
 pub(crate) enum Descent<'a> {
@@ -42,7 +38,6 @@ pub(crate) fn descend<'a>(
     zone: &'a ZoneMap,
     key: &ZoneKey<'_>,
     depth: usize,
-    probe: &mut Vec<u8>,
     rtype: u16,
 ) -> Result<Descent<'a>, OutOfMemory>
     requires zone { IsZone zone.now.origin zone.now.records }
@@ -56,13 +51,13 @@ pub(crate) fn descend<'a>(
     }
     for labels in 1..depth {
         let labels_dropped = depth - labels;
-        match meet(zone, key, labels_dropped, probe)? {
+        match meet(zone, key, labels_dropped)? {
             Met::Cut(set) => return Ok(Descent::Cut(set)),
             Met::There => {}
             Met::Gone => return Ok(Descent::Encloser(labels_dropped + 1)),
         }
     }
-    arrive(zone, key, probe, rtype)
+    arrive(zone, key, rtype)
 }
 
 /// Looks at a name above a name of the zone, and below its origin.
@@ -70,7 +65,6 @@ fn meet<'a>(
     zone: &'a ZoneMap,
     key: &ZoneKey<'_>,
     labels_dropped: usize,
-    probe: &mut Vec<u8>,
 ) -> Result<Met<'a>, OutOfMemory>
     requires origin { key.now.origin ≡ zone.now.origin }
     requires within { is_at_or_below key.now.name zone.now.origin ≡ true }
@@ -79,9 +73,7 @@ fn meet<'a>(
 {
     match zone.sets(key, labels_dropped) {
         None => {
-            probe.clear();
-            probe.reserve(MAX_KEY_LEN)?;
-            if zone.exists(key, labels_dropped, probe)? {
+            if zone.exists(key, labels_dropped)? {
                 return Ok(Met::There);
             }
             Ok(Met::Gone)
@@ -94,12 +86,7 @@ fn meet<'a>(
 }
 
 /// Looks at the name itself, which stands below a name that is there and below no cut.
-fn arrive<'a>(
-    zone: &'a ZoneMap,
-    key: &ZoneKey<'_>,
-    probe: &mut Vec<u8>,
-    rtype: u16,
-) -> Result<Descent<'a>, OutOfMemory>
+fn arrive<'a>(zone: &'a ZoneMap, key: &ZoneKey<'_>, rtype: u16) -> Result<Descent<'a>, OutOfMemory>
     requires origin { key.now.origin ≡ zone.now.origin }
     requires within { is_at_or_below key.now.name zone.now.origin ≡ true }
     requires below { length zone.now.origin < length key.now.name }
@@ -108,7 +95,7 @@ fn arrive<'a>(
 {
     match zone.sets(key, 0) {
         None => {
-            if zone.exists(key, 0, probe)? {
+            if zone.exists(key, 0)? {
                 return Ok(Descent::Own(None));
             }
             Ok(Descent::Encloser(1))

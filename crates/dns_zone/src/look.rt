@@ -18,7 +18,6 @@ use dns_name::Name;
 use dns_wire::LentRecords;
 use dns_wire::record_type::{ANY, CNAME};
 use dns_zone_map::{OwnerSets, RecordSet, ZoneKey, ZoneMap};
-use std::alloc::Global;
 
 /// What a look finds, lent by the zone.
 #[derive(Drop)]
@@ -35,9 +34,9 @@ pub(crate) enum Look<'a> {
     NoData,
 }
 
-/// What a look for a name and a type finds. Only the key with which a name that owns nothing is sought takes memory.
+/// What a look for a name and a type finds. Memory is taken at most where a name that owns nothing is sought among many below one
+/// label.
 pub(crate) fn look_of<'a>(
-    alloc: Global,
     zone: &'a Zone,
     name: &'a Name,
     rtype: u16,
@@ -46,14 +45,14 @@ pub(crate) fn look_of<'a>(
     ensures { IfOk result (λ look. look ≡ look_of zone.now name.now rtype) }
 {
     let map = zone.map();
-    let key = ZoneKey::new(map.origin(), name);
+    let mut room = [0u8; 255];
+    let key = ZoneKey::new(map.origin(), name, &mut room);
     let depth = name.label_count() - map.origin().label_count();
-    look_by(alloc, map, &key, depth, name, rtype)
+    look_by(map, &key, depth, name, rtype)
 }
 
 /// The same by the key of the name, which has so many labels more than the origin.
 pub(crate) fn look_by<'a>(
-    alloc: Global,
     map: &'a ZoneMap,
     key: &ZoneKey<'_>,
     depth: usize,
@@ -67,13 +66,10 @@ pub(crate) fn look_by<'a>(
     requires depth { length map.now.origin + depth ≡ length name.now }
     ensures { IfOk result (λ look. look ≡ look_of (contents map.now) name.now rtype) }
 {
-    let mut probe = Vec::new(alloc);
-    match descend(map, key, depth, &mut probe, rtype)? {
+    match descend(map, key, depth, rtype)? {
         Descent::Cut(set) => Ok(Look::Referral(own(set))),
         Descent::Own(sets) => Ok(look_at(sets, None, rtype)),
-        Descent::Encloser(labels_dropped) => {
-            look_at_star(map, key, labels_dropped, &mut probe, name, rtype)
-        }
+        Descent::Encloser(labels_dropped) => { look_at_star(map, key, labels_dropped, name, rtype) }
     }
 }
 
@@ -91,7 +87,6 @@ fn look_at_star<'a>(
     map: &'a ZoneMap,
     key: &ZoneKey<'_>,
     labels_dropped: usize,
-    probe: &mut Vec<u8>,
     name: &'a Name,
     rtype: u16,
 ) -> Result<Look<'a>, OutOfMemory>
@@ -101,10 +96,10 @@ fn look_at_star<'a>(
     ensures { IfOk result (λ look. look
         ≡ look_at map.now.records (wildcard_under map.now.records name.now (Some (drop labels_dropped name.now))) rtype) }
 {
-    match map.star_sets(key, labels_dropped, probe)? {
+    match map.star_sets(key, labels_dropped) {
         Some(sets) => Ok(look_in(sets, Some(name), rtype)),
         None => {
-            if map.star_exists(key, labels_dropped, probe)? {
+            if map.star_exists(key, labels_dropped)? {
                 return Ok(Look::NoData);
             }
             Ok(Look::NoName)

@@ -53,9 +53,10 @@ impl Zone {
     {
         let map = self.map();
         let name = &question.name;
-        let key = ZoneKey::new(map.origin(), name);
+        let mut room = [0u8; 255];
+        let key = ZoneKey::new(map.origin(), name, &mut room);
         let depth = name.label_count() - map.origin().label_count();
-        match look_by(alloc, map, &key, depth, name, question.qtype)? {
+        match look_by(map, &key, depth, name, question.qtype)? {
             Look::Found(found) => Ok(Answer::found(found.parts(alloc)?)),
             Look::Referral(ns) => Ok(Answer::referral(false, Parts::none(alloc), ns)),
             Look::NoName => {
@@ -104,7 +105,7 @@ fn follow<'a>(
     ensures code { IfOk result (λ answer. answer.code ≤ 3) }
 {
     let first = &question.name;
-    match next_look(alloc, more, zone, first, question.qtype, &aliases, &last)? {
+    match next_look(more, zone, first, question.qtype, &aliases, &last)? {
         None => Ok(Answer::found(alias_parts(alloc, &aliases, &last)?)),
         Some(Look::Found(found)) => {
             Ok(Answer::found(parts_before(alloc, &aliases, &last, &found)?))
@@ -193,7 +194,6 @@ fn copied(alloc: Global, lent: &LentRecords<'_>) -> Result<Records, OutOfMemory>
 
 /// Looks for the target of an alias, unless it leads out of the zone, back, or too far.
 fn next_look<'a>(
-    alloc: Global,
     more: u32,
     zone: &'a Zone,
     first: &Name,
@@ -211,7 +211,7 @@ fn next_look<'a>(
             if !is_next(zone, first, aliases, target) {
                 return Ok(None);
             }
-            Ok(Some(look_of(alloc, zone, target, rtype)?))
+            Ok(Some(look_of(zone, target, rtype)?))
         }
         None => Ok(None),
     }

@@ -63,7 +63,8 @@ fn has_alias_beside(map: &ZoneMap, one: &Record) -> bool
     requires { is_at_or_below one.now.name map.now.origin ≡ true }
     ensures { result ≡ list_any (is_beside_alias one.now) map.now.records }
 {
-    let key = ZoneKey::new(map.origin(), &one.name);
+    let mut room = [0u8; 255];
+    let key = ZoneKey::new(map.origin(), &one.name, &mut room);
     match map.sets(&key, 0) {
         None => false,
         Some(sets) => stands_beside(sets, one),

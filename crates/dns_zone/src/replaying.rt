@@ -43,6 +43,9 @@ impl From<OutOfMemory> for ReplayFault {
     }
 }
 
+/// For about how many names a zone is laid out whose names are not known before its rows are read.
+const REPLAYED_NAMES: usize = 65536;
+
 /// The rows of a journal, taken one by one from the first on.
 #[derive(Drop)]
 pub struct Replaying {
@@ -69,7 +72,7 @@ impl Replaying {
     {
         folded_names();
         Ok(Replaying {
-            map: ZoneMap::new(alloc, origin.folded(alloc)?),
+            map: no_records(alloc, origin.folded(alloc)?)?,
             last: 0,
         })
     }
@@ -133,6 +136,15 @@ impl Replaying {
     }
 }
 
+/// A zone without records, for a journal's rows.
+fn no_records(alloc: Global, origin: Name) -> Result<ZoneMap, OutOfMemory>
+    ensures origin { IfOk result (λ map. map.origin ≡ origin) }
+    ensures records { IfOk result (λ map. map.records ≡ []) }
+    ensures before { IfOk result (λ map. map.before ≡ None) }
+{
+    ZoneMap::new(alloc, origin, REPLAYED_NAMES)
+}
+
 /// Does what the row at a place says to the records that those before it left.
 fn take_row(alloc: Global, map: &mut ZoneMap, place: u64, row: &Row) -> Result<(), ReplayFault>
     requires so_far { IsSoFar map.old.origin map.old.records }
@@ -146,7 +158,8 @@ fn take_row(alloc: Global, map: &mut ZoneMap, place: u64, row: &Row) -> Result<(
     match read_row(alloc, map.origin(), place, row)? {
         RowEffect::Snapshot => {
             let origin = map.origin().copy()?;
-            *map = ZoneMap::new(alloc, origin);
+            let anew = no_records(alloc, origin)?;
+            *map = anew;
             Ok(())
         }
         RowEffect::Change { one, serial } => {

@@ -19,6 +19,9 @@ use dns_zone_map::ZoneMap;
 use std::alloc::{AllocFailed, Global};
 use thiserror::Error;
 
+/// About how many bytes of a zone's text there are for each name: by it the zone is laid out before its names are known.
+const BYTES_A_NAME: usize = 32;
+
 /// What is wrong with an entry of a zone's text. Where more is wrong than one thing, the first in this order counts.
 #[derive(Clone, Copy, Debug, PartialEq, Eq, Error)]
 pub enum ZoneTextKind {
@@ -99,7 +102,7 @@ fn zone_under(alloc: Global, text: &[u8], origin: Name) -> Result<Zone, ZoneText
     ensures fault { IfErr result (Tells (zone_of origin text.now)) }
 {
     let mut context = Context::new(origin.copy()?);
-    let mut map = ZoneMap::new(alloc, origin);
+    let mut map = ZoneMap::new(alloc, origin, text.len() / BYTES_A_NAME)?;
     let mut rest = text;
     let mut number = 1u64;
     while let Some((line, after)) = LogicalLine::first(alloc, number, rest)? {

@@ -3,11 +3,8 @@ use Rattle.std.proofs.Common.{◌≡◌, ℕ, Bool, true, false, List, [], ◌�
 use Rattle.std.specs.Prelude.{Option, cond, IfSome, ◌||◌}
 use Rattle.std.specs.List.{AllByRecursion, list_any}
 use Rattle.std.specs.Str.{bytes_eq}
-use Rattle.std.specs.List.Sorted.{IsStrictlySortedBy}
 use Rattle.std.specs.Option.{IsSome}
-use Rattle.std.specs.Map.{lookup, keys_of, set_value}
-use Rattle.std.specs.Ordering.{nat_cmp}
-use Rattle.std.specs.Cmp.Lexicographic.{slice_cmp}
+use Rattle.std.specs.Map.{lookup, set_value}
 use Rattle.std.proofs.lemmas.List.{map-append}
 use Rattle.std.proofs.lemmas.List.Concat.{flat_map-append}
 use Rattle.std.proofs.lemmas.Map.Text.{is_eq-slice_cmp}
@@ -25,11 +22,11 @@ use Rattle.dns_zone_map.specs.Removal.{is_key}
 use Rattle.dns_zone_map.specs.Former.{former, restored, before_of, covers, ArePresent, CanUndo, IsMap, blanked, HasName, KeptLast, IsKeptIn, IsKept, IsSameUndoing}
 use Rattle.dns_zone_map.specs.Zone.{Contents}
 use Rattle.dns_zone_map.specs.Mapped.{Mapped, contents}
-use Rattle.dns_zone_map.proofs.Lent.{all_to, apart_sorted}
+use Rattle.dns_zone_map.proofs.Lent.{all_to}
 use Rattle.dns_zone_map.proofs.Exists.{all_append}
 use Rattle.dns_zone_map.proofs.Rest.{Entries, all_front, all_back}
 use Rattle.dns_zone_map.proofs.Put.{around_entry}
-use Rattle.dns_zone_map.proofs.InEntries.{Between, between, absent_all}
+use Rattle.dns_zone_map.proofs.InEntries.{absent_all}
 use Rattle.dns_zone_map.proofs.Taking.{key_is}
 use Rattle.dns_zone_map.proofs.Swept.{swept_none, swept_list, swept_tree}
 use Rattle.dns_zone_map.proofs.Formers.{with_former, restored_last, given, none_given}
@@ -124,47 +121,38 @@ given_none : (b : Bool) (k : Vec ℕ Global) (sets : List RecordSet) → sets �
 given_none true k sets h = ap (λ (ss : List RecordSet). (k, ss)) h
 given_none false k sets h = refl
 
--- where a name was added without sets, among the others
-place_of : (key : List ℕ) (es after : Entries) → lookup (is_key key) es ≡ None → (a : IsAdded key [] es after) → Between es a.stored []
-place_of key es after none a =
-    between es a.stored []
-    (subst (λ (k : List ℕ). AllByRecursion (λ e. is_key k e.0 ≡ false) es) (sym a.keyed) (absent_all (is_key key) es none))
-
 module _ (was : List FormerSets) (f : FormerSets) (es after : Entries) (key : List ℕ) (keyed : f.key.items ≡ key) (none : lookup (is_key key) es ≡ None) (added : IsAdded key [] es after) (here : ArePresent was es) where
-  place : Between es added.stored []
-  place = place_of key es after none added
-
   absent : AllByRecursion (λ e. is_key key e.0 ≡ false) es
   absent = absent_all (is_key key) es none
 
-  absent_split : AllByRecursion (λ e. is_key f.key.items e.0 ≡ false) (place.front ++ place.back)
-  absent_split = subst (λ (k : List ℕ). AllByRecursion (λ e. is_key k e.0 ≡ false) (place.front ++ place.back)) (sym keyed) (subst (AllByRecursion (λ e. is_key key e.0 ≡ false)) place.was absent)
+  absent_split : AllByRecursion (λ e. is_key f.key.items e.0 ≡ false) (added.front ++ added.back)
+  absent_split = subst (λ (k : List ℕ). AllByRecursion (λ e. is_key k e.0 ≡ false) (added.front ++ added.back)) (sym keyed) (subst (AllByRecursion (λ e. is_key key e.0 ≡ false)) added.was absent)
 
-  after_is : after ≡ place.front ++ (added.stored, []) ∷ place.back
-  after_is = added.is ∙ place.is
+  after_is : after ≡ added.front ++ (added.stored, []) ∷ added.back
+  after_is = added.is
 
   pub added_owns : OwnsSame es after
-  added_owns = subst (λ (gs : Entries). OwnsSame gs after) (sym place.was) (subst (OwnsSame (place.front ++ place.back)) (sym after_is) (added_same place.front place.back added.stored))
+  added_owns = subst (λ (gs : Entries). OwnsSame gs after) (sym added.was) (subst (OwnsSame (added.front ++ added.back)) (sym after_is) (added_same added.front added.back added.stored))
 
-  stays : f.sets ≡ [] → map (with_former f) (place.front ++ (added.stored, []) ∷ place.back) ≡ place.front ++ (added.stored, []) ∷ place.back
+  stays : f.sets ≡ [] → map (with_former f) (added.front ++ (added.stored, []) ∷ added.back) ≡ added.front ++ (added.stored, []) ∷ added.back
   stays e =
-      map-append (with_former f) place.front ((added.stored, []) ∷ place.back)
-      ∙ ap (λ (gs : Entries). gs ++ with_former f (added.stored, []) ∷ map (with_former f) place.back) (none_given f place.front (all_front (λ g. is_key f.key.items g.0 ≡ false) place.front place.back absent_split))
-      ∙ ap (λ (gs : Entries). place.front ++ with_former f (added.stored, []) ∷ gs) (none_given f place.back (all_back (λ g. is_key f.key.items g.0 ≡ false) place.front place.back absent_split))
-      ∙ ap (λ (x : Entry). place.front ++ x ∷ place.back) (given_none (is_key f.key.items added.stored) added.stored f.sets e)
+      map-append (with_former f) added.front ((added.stored, []) ∷ added.back)
+      ∙ ap (λ (gs : Entries). gs ++ with_former f (added.stored, []) ∷ map (with_former f) added.back) (none_given f added.front (all_front (λ g. is_key f.key.items g.0 ≡ false) added.front added.back absent_split))
+      ∙ ap (λ (gs : Entries). added.front ++ with_former f (added.stored, []) ∷ gs) (none_given f added.back (all_back (λ g. is_key f.key.items g.0 ≡ false) added.front added.back absent_split))
+      ∙ ap (λ (x : Entry). added.front ++ x ∷ added.back) (given_none (is_key f.key.items added.stored) added.stored f.sets e)
 
-  was_before : restored was es ≡ restored was place.front ++ restored was place.back
-  was_before = ap (restored was) place.was ∙ map-append (former was) place.front place.back
+  was_before : restored was es ≡ restored was added.front ++ restored was added.back
+  was_before = ap (restored was) added.was ∙ map-append (former was) added.front added.back
 
-  is_after : f.sets ≡ [] → restored (was ++ f ∷ []) after ≡ restored was place.front ++ (added.stored, []) ∷ restored was place.back
+  is_after : f.sets ≡ [] → restored (was ++ f ∷ []) after ≡ restored was added.front ++ (added.stored, []) ∷ restored was added.back
   is_after e =
-      restored_last was f after ∙ ap (λ (gs : Entries). restored was (map (with_former f) gs)) after_is ∙ ap (restored was) (stays e) ∙ map-append (former was) place.front ((added.stored, []) ∷ place.back)
-      ∙ ap (λ (x : Entry). restored was place.front ++ x ∷ restored was place.back) (not_former was es (added.stored, []) key added.keyed absent here)
+      restored_last was f after ∙ ap (λ (gs : Entries). restored was (map (with_former f) gs)) after_is ∙ ap (restored was) (stays e) ∙ map-append (former was) added.front ((added.stored, []) ∷ added.back)
+      ∙ ap (λ (x : Entry). restored was added.front ++ x ∷ restored was added.back) (not_former was es (added.stored, []) key added.keyed absent here)
 
   pub added_restored : f.sets ≡ [] → OwnsSame (restored was es) (restored (was ++ f ∷ []) after)
   added_restored e =
       subst (λ (gs : Entries). OwnsSame gs (restored (was ++ f ∷ []) after)) (sym was_before)
-      (subst (OwnsSame (restored was place.front ++ restored was place.back)) (sym (is_after e)) (added_same (restored was place.front) (restored was place.back) added.stored))
+      (subst (OwnsSame (restored was added.front ++ restored was added.back)) (sym (is_after e)) (added_same (restored was added.front) (restored was added.back) added.stored))
 
   any_more : (t : Entry → Bool) (front back : Entries) (x : Entry) → list_any t (front ++ back) ≡ true → list_any t (front ++ x ∷ back) ≡ true
   any_more t [] back x h = or_second (t x) (list_any t back) h
@@ -184,7 +172,7 @@ module _ (was : List FormerSets) (f : FormerSets) (es after : Entries) (key : Li
       all_to (λ g. list_any (λ (e : Entry). is_key g.key.items e.0) es ≡ true) (λ g. list_any (λ (e : Entry). is_key g.key.items e.0) after ≡ true)
       (λ g p.
       subst (λ (gs : Entries). list_any (λ (e : Entry). is_key g.key.items e.0) gs ≡ true) (sym after_is)
-      (any_more (λ e. is_key g.key.items e.0) place.front place.back (added.stored, []) (subst (λ (gs : Entries). list_any (λ (e : Entry). is_key g.key.items e.0) gs ≡ true) place.was p))) was here
+      (any_more (λ e. is_key g.key.items e.0) added.front added.back (added.stored, []) (subst (λ (gs : Entries). list_any (λ (e : Entry). is_key g.key.items e.0) gs ≡ true) added.was p))) was here
 
 bytes_same : (a b : List ℕ) → a ≡ b → bytes_eq a b ≡ true
 bytes_same a b h = (bytes_eq-Decides a b).1 h
@@ -232,11 +220,9 @@ module _ (es after : Entries) (was is : List FormerSets) (key : List ℕ) (apart
     ap (λ (z : List ℕ). list_any (λ (e : Entry). is_key z e.0) after) k.keyed ∙ ap (list_any (λ (e : Entry). is_key key e.0)) h.2 ∙ there key es h.0 h.1,
   )
   in_after (inr h) =
-      let b : Between es h.1.stored [] = place_of key es after h.0 h.1 in
-      let same : after ≡ b.front ++ (h.1.stored, []) ∷ b.back = h.1.is ∙ b.is in
       let itself : is_key key h.1.stored ≡ true = is_eq-slice_cmp key h.1.stored.items ∙ bytes_same key h.1.stored.items (sym h.1.keyed) in (
         added_present was k.last es after key k.keyed h.0 h.1 here,
-        ap (λ (z : List ℕ). list_any (λ (e : Entry). is_key z e.0) after) k.keyed ∙ ap (list_any (λ (e : Entry). is_key key e.0)) same ∙ any_here (λ e. is_key key e.0) b.front b.back (h.1.stored, []) itself,
+        ap (λ (z : List ℕ). list_any (λ (e : Entry). is_key z e.0) after) k.keyed ∙ ap (list_any (λ (e : Entry). is_key key e.0)) h.1.is ∙ any_here (λ e. is_key key e.0) h.1.front h.1.back (h.1.stored, []) itself,
       )
 
   owns : HasName key es after → OwnsSame es after
@@ -340,10 +326,7 @@ pub record MayChange (origin : List (List ℕ)) (key : List ℕ) (between : Entr
   pub same : (after : Entries) → after ≡ between → IsMap origin after next count is
   pub alike : (after : Entries) → after ≡ between → mapped_of origin (list_of (in_entries after)) (before_of is after) ≡ zone
 
-module _ (origin : List (List ℕ)) (key : List ℕ) (es between : Entries) (next count : ℕ) (was is : Option Undoing) (sorted : IsStrictlySortedBy (λ x y. slice_cmp nat_cmp x.items y.items) (keys_of es)) (tree : IsMap origin es next count was) (k : IsKept key es was between is) where
-  apart : KeysApart es
-  apart = apart_sorted es sorted
-
+module _ (origin : List (List ℕ)) (key : List ℕ) (es between : Entries) (next count : ℕ) (was is : Option Undoing) (apart : KeysApart es) (tree : IsMap origin es next count was) (k : IsKept key es was between is) where
   owns_kept : OwnsSame es between
   owns_kept = still_owns origin key es between es apart was is tree.undo k
 

@@ -1,6 +1,6 @@
 -- Names get back what they owned before a change.
-use Rattle.std.proofs.Common.{◌≡◌, ℕ, zero, suc, ◌<◌, ◌≤◌, Bool, true, false, List, [], ◌∷◌, ◌++◌, length, get_or, map, take, refl, sym, ap, ◌∙◌, arith, if◌then◌else◌, Some, None, Vec, Global, drop, ◌+◌}
-use Rattle.std.specs.Prelude.{cond, ◌||◌}
+use Rattle.std.proofs.Common.{◌≡◌, ℕ, zero, suc, ◌<◌, ◌≤◌, Bool, true, false, List, [], ◌∷◌, ◌++◌, length, get_or, map, take, refl, sym, ap, ◌∙◌, arith, if◌then◌else◌, Some, None, Vec, Global}
+use Rattle.std.specs.Prelude.{cond}
 use Rattle.std.specs.List.{AllByRecursion}
 use Rattle.std.specs.Str.{bytes_eq}
 use Rattle.std.specs.Map.{lookup, set_value}
@@ -9,7 +9,7 @@ use Rattle.dns_zone_map.specs.declared.sets.RecordSet.{RecordSet}
 use Rattle.dns_zone_map.specs.declared.former.FormerSets.{FormerSets}
 use Rattle.dns_zone_map.specs.Tree.{KeysApart}
 use Rattle.dns_zone_map.specs.Removal.{is_key}
-use Rattle.dns_zone_map.specs.Former.{former, restored, covers}
+use Rattle.dns_zone_map.specs.Former.{former, restored}
 use Rattle.dns_zone_map.proofs.Lent.{all_to}
 use Rattle.dns_zone_map.proofs.Rest.{Entries}
 use Rattle.dns_zone_map.proofs.Taking.{key_is}

@@ -2,10 +2,7 @@
 use Rattle.std.proofs.Common.{◌≡◌, ℕ, ◌+◌, ◌-◌, ◌≤◌, Bool, true, false, List, [], ◌∷◌, ◌++◌, length, take, reverse, refl, sym, ap, ◌∙◌, subst, arith, length-append, Some, None}
 use Rattle.std.specs.Prelude.{filter, not, Option, IfSome, if◌then◌else◌}
 use Rattle.std.specs.List.{AllByRecursion}
-use Rattle.std.specs.List.Sorted.{IsStrictlySortedBy}
-use Rattle.std.specs.Map.{keys_of, lookup}
-use Rattle.std.specs.Ordering.{nat_cmp}
-use Rattle.std.specs.Cmp.Lexicographic.{slice_cmp}
+use Rattle.std.specs.Map.{lookup}
 use Rattle.dns_name.specs.Name.{fold_of, labels_bytes, is_same_name, is_at_or_below}
 use Rattle.dns_name.proofs.SameNames.{is_at_or_below-Decides}
 use Rattle.dns_wire.specs.declared.record.Record.{Record}
@@ -15,9 +12,9 @@ use Rattle.dns_zone_map.specs.Changes.{bears, is_kept_type, is_free_at}
 use Rattle.dns_zone_map.specs.Zone.{Contents}
 use Rattle.dns_zone_map.specs.Order.{list_of}
 use Rattle.dns_zone_map.specs.Sets.{in_set, in_sets, ArePaired, IsPaired}
-use Rattle.dns_zone_map.specs.Tree.{in_entries, Belongs, AreSets, IsTree}
+use Rattle.dns_zone_map.specs.Tree.{KeysApart, in_entries, Belongs, AreSets, IsTree}
 use Rattle.dns_zone_map.specs.Removal.{is_key, AreFreed, ChangedFrom, IsFreedFrom}
-use Rattle.dns_zone_map.proofs.Lent.{apart_sorted, looked}
+use Rattle.dns_zone_map.proofs.Lent.{looked}
 use Rattle.dns_zone_map.proofs.Rest.{Entries}
 use Rattle.dns_zone_map.proofs.Put.{around_entry}
 use Rattle.dns_zone_map.proofs.Reading.{length-list_of}
@@ -63,7 +60,7 @@ at_itself origin = (is_at_or_below-Decides origin origin).1 ([], refl)
 pub top_key : (origin : List (List ℕ)) → [] ≡ key_of origin origin
 top_key origin = let none : length origin - length origin ≡ 0 = omega arith in sym (ap (λ (n : ℕ). labels_bytes (reverse (fold_of (take n origin)))) none)
 
-module _ (origin : List (List ℕ)) (es fs : Entries) (next count : ℕ) (zone : Contents) (view : record { origin = origin; records = list_of (in_entries es) } ≡ zone) (tree : IsTree origin es next count) (sorted : IsStrictlySortedBy (λ x y. slice_cmp nat_cmp x.items y.items) (keys_of es)) where
+module _ (origin : List (List ℕ)) (es fs : Entries) (next count : ℕ) (zone : Contents) (view : record { origin = origin; records = list_of (in_entries es) } ≡ zone) (tree : IsTree origin es next count) (apart : KeysApart es) where
   says : (r : Record) (kind : ℕ) → Belongs origin (key_of origin origin) kind r → is_free_at origin r ≡ not (is_kept_type kind)
   says r kind b = rw (key_bears origin origin r kind (at_itself origin) b) (ap (λ n. not (is_kept_type n)) b.typed)
 
@@ -78,8 +75,8 @@ module _ (origin : List (List ℕ)) (es fs : Entries) (next count : ℕ) (zone :
 
     left : IsLeft origin (is_free_at origin) es fs next gone
     left =
-        let old : AreSets origin (key_of origin origin) went.sets = here origin origin (is_free_at origin) (free_narrow origin) (at_itself origin) es fs next (AreFreed gone) tree.each tree.below (apart_sorted es sorted) went in
-        is_left origin origin (is_free_at origin) (free_narrow origin) (at_itself origin) es fs next (AreFreed gone) tree.each tree.below (apart_sorted es sorted) went
+        let old : AreSets origin (key_of origin origin) went.sets = here origin origin (is_free_at origin) (free_narrow origin) (at_itself origin) es fs next (AreFreed gone) tree.each tree.below apart went in
+        is_left origin origin (is_free_at origin) (free_narrow origin) (at_itself origin) es fs next (AreFreed gone) tree.each tree.below apart went
         (whole_sets origin (key_of origin origin) (is_free_at origin) is_kept_type says went.sets went.changed old went.change.is) gone went.change.count
 
     pub freed_left : list_of (in_entries fs) ≡ filter (λ r. not (is_free_at zone.origin r)) zone.records

@@ -3,7 +3,10 @@ use Rattle.std.proofs.Common.{◌≡◌, Ordering, ℕ, Bool, true, false, List,
 use Rattle.std.specs.Prelude.{Option, cond, IfSome}
 use Rattle.std.specs.List.{AllByRecursion}
 use Rattle.std.specs.Str.{bytes_eq}
-use Rattle.std.specs.Map.{lookup, set_value}
+use Rattle.std.specs.Map.{lookup, keys_of, remove_entry, set_value}
+use Rattle.std.specs.List.Sorted.{IsStrictlySortedBy}
+use Rattle.std.proofs.lemmas.Map.Keys.{sorted_head, sorted_tail}
+use Rattle.std.proofs.lemmas.Cmp.{nat_list_cmp_total}
 use Rattle.std.specs.BTreeMap.{insert_entry}
 use Rattle.std.specs.Ordering.{nat_cmp, is_eq}
 use Rattle.std.specs.declared.cmp.Ordering.TheVariants.{Less, Equal, Greater}
@@ -53,6 +56,29 @@ pub other_bytes : (key : List ℕ) (es : Entries) → AllByRecursion (λ e. is_e
 other_bytes key [] h = tt
 other_bytes key (e ∷ es) h = (sym (is_eq-slice_cmp key e.0.items) ∙ h.0, other_bytes key es h.1)
 
+-- a key that is below the first of keys that rise is not among them
+none_above : (key : List ℕ) (k : Vec ℕ Global) (es : Entries) → slice_cmp nat_cmp key k.items ≡ Less → AllByRecursion (λ y. slice_cmp nat_cmp k.items y.items ≡ Less) (keys_of es) → lookup (λ x. is_eq (slice_cmp nat_cmp key x.items)) es ≡ None
+none_above key k [] l h = refl
+none_above key k (e ∷ es) l h = rw (nat_list_cmp_total.trans key k.items e.0.items l h.0) (none_above key k es l h.1)
+
+inserted_if : (o : Ordering) (stored : Vec ℕ Global) (e : Vec ℕ Global × List RecordSet) (es : Entries) (sets w : List RecordSet) → slice_cmp nat_cmp stored.items e.0.items ≡ o → AllByRecursion (λ y. slice_cmp nat_cmp e.0.items y.items ≡ Less) (keys_of es)
+    → cond (is_eq o) (Some e.1) (lookup (λ x. is_eq (slice_cmp nat_cmp stored.items x.items)) es) ≡ Some sets
+    → (lookup (λ x. is_eq (slice_cmp nat_cmp stored.items x.items)) es ≡ Some sets → insert_entry (λ x y. slice_cmp nat_cmp x.items y.items) es stored w ≡ set_value (λ x. is_eq (slice_cmp nat_cmp stored.items x.items)) es w)
+    → insert_entry (λ x y. slice_cmp nat_cmp x.items y.items) (e ∷ es) stored w ≡ set_value (λ x. is_eq (slice_cmp nat_cmp stored.items x.items)) (e ∷ es) w
+inserted_if Less stored e es sets w at above h ih =
+    let none : lookup (λ x. is_eq (slice_cmp nat_cmp stored.items x.items)) es ≡ None = none_above stored.items e.0 es at above in
+    absurd cc
+inserted_if Equal stored e es sets w at above h ih = rw at refl
+inserted_if Greater stored e es sets w at above h ih = rw at (ap (λ (xs : Entries). e ∷ xs) (ih h))
+
+-- sets that are inserted at a key that is there take the place of those at it
+pub inserted : (stored : Vec ℕ Global) (es : Entries) (sets w : List RecordSet) → IsStrictlySortedBy (λ x y. slice_cmp nat_cmp x.items y.items) (keys_of es) → lookup (λ x. is_eq (slice_cmp nat_cmp stored.items x.items)) es ≡ Some sets
+    → insert_entry (λ x y. slice_cmp nat_cmp x.items y.items) es stored w ≡ set_value (λ x. is_eq (slice_cmp nat_cmp stored.items x.items)) es w
+inserted stored [] sets w s h = absurd cc
+inserted stored (e ∷ es) sets w s h =
+    inserted_if (slice_cmp nat_cmp stored.items e.0.items) stored e es sets w refl (sorted_head (λ x y. slice_cmp nat_cmp x.items y.items) e.0 (keys_of es) s) h
+    (inserted stored es sets w (sorted_tail (λ x y. slice_cmp nat_cmp x.items y.items) e.0 (keys_of es) s))
+
 -- the place among the entries of one with another key
 pub record Between (es : Entries) (stored : Vec ℕ Global) (sets : List RecordSet) : Type 0 where
   pub front : Entries
@@ -69,9 +95,40 @@ pub between : (es : Entries) (stored : Vec ℕ Global) (sets : List RecordSet) �
 between [] stored sets h = record { front = []; back = []; was = refl; is = refl }
 between (e ∷ es) stored sets h = between_if (slice_cmp nat_cmp stored.items e.0.items) e es stored sets refl h.0 (between es stored sets h.1)
 
+-- an entry is taken away from among others
+taken_back : (test : Vec ℕ Global → Bool) (front back : Entries) (k : Vec ℕ Global) (sets : List RecordSet) → AllByRecursion (λ e. test e.0 ≡ false) (front ++ back) → test k ≡ true → remove_entry test (front ++ (k, sets) ∷ back) ≡ front ++ back
+taken_back test [] back k sets h t = rw t refl
+taken_back test (e ∷ front) back k sets h t = rw h.0 (ap (λ (xs : Entries). e ∷ xs) (taken_back test front back k sets h.1 t))
+
+-- sets that are inserted where there are none are added among the others
+pub added_at : (key : List ℕ) (before after : Entries) (stored : Vec ℕ Global) (sets : List RecordSet) → stored.items ≡ key → None ≡ lookup (λ k. is_eq (slice_cmp nat_cmp key k.items)) before
+    → after ≡ insert_entry (λ x y. slice_cmp nat_cmp x.items y.items) before stored sets → IsAdded key sets before after
+added_at key before after stored sets keyed at is =
+    let others : AllByRecursion (λ e. is_eq (slice_cmp nat_cmp key e.0.items) ≡ false) before = absent_all (λ k. is_eq (slice_cmp nat_cmp key k.items)) before (sym at) in
+    let b : Between before stored sets = between before stored sets (subst (λ (k : List ℕ). AllByRecursion (λ e. is_eq (slice_cmp nat_cmp k e.0.items) ≡ false) before) (sym keyed) others) in
+    record { front = b.front; stored = stored; back = b.back; was = b.was; keyed = keyed; is = is ∙ b.is }
+
 module _ (key : List ℕ) (number : ℕ) (one : Record) (before after : Entries) where
   abbrev finds : Vec ℕ Global → Bool
   finds k = is_eq (slice_cmp nat_cmp key k.items)
+
+  -- what an entry of the map with the key finds is what is found
+  pub found_at : (stored : Vec ℕ Global) (held : Option (List RecordSet)) → stored.items ≡ key → held ≡ lookup (λ k. is_eq (slice_cmp nat_cmp stored.items k.items)) before → held ≡ lookup finds before
+  found_at stored held keyed at = subst (λ (b : List ℕ). held ≡ lookup (λ k. is_eq (slice_cmp nat_cmp b k.items)) before) keyed at
+
+  -- what is written through it takes the place of what was found
+  pub written_at : (stored : Vec ℕ Global) (sets changed : List RecordSet) → stored.items ≡ key → IsStrictlySortedBy (λ x y. slice_cmp nat_cmp x.items y.items) (keys_of before) → Some sets ≡ lookup (λ k. is_eq (slice_cmp nat_cmp stored.items k.items)) before
+      → after ≡ insert_entry (λ x y. slice_cmp nat_cmp x.items y.items) before stored changed → after ≡ set_value finds before changed
+  written_at stored sets changed keyed sorted at is =
+      is ∙ inserted stored before sets changed sorted (sym at) ∙ ap (λ (b : List ℕ). set_value (λ k. is_eq (slice_cmp nat_cmp b k.items)) before changed) keyed
+
+  -- a name that was not there is added and taken away again
+  pub added_in_vain : (stored : Vec ℕ Global) (sets : List RecordSet) (between : Entries) → stored.items ≡ key → None ≡ lookup finds before → between ≡ insert_entry (λ x y. slice_cmp nat_cmp x.items y.items) before stored sets → after ≡ remove_entry finds between → after ≡ before
+  added_in_vain stored sets middle keyed none added gone =
+      let others : AllByRecursion (λ e. finds e.0 ≡ false) before = absent_all finds before (sym none) in
+      let b : Between before stored sets = between before stored sets (subst (λ (k : List ℕ). AllByRecursion (λ e. is_eq (slice_cmp nat_cmp k e.0.items) ≡ false) before) (sym keyed) others) in
+      let here : finds stored ≡ true = is_eq-slice_cmp key stored.items ∙ (bytes_eq-Decides key stored.items).1 (sym keyed) in
+      gone ∙ ap (remove_entry finds) (added ∙ b.is) ∙ taken_back finds b.front b.back stored sets (subst (AllByRecursion (λ e. finds e.0 ≡ false)) b.was others) here ∙ sym b.was
 
   -- the record was put among the sets that were found
   pub under_name : {E : Type 0} (sets changed : List RecordSet) (result : Result (Option Record) E) → Some sets ≡ lookup finds before → after ≡ set_value finds before changed → IfOk result (λ old. PutInSets number one sets changed old) → IfOk result (λ old. PutUnder key number one before after old)
@@ -84,16 +141,14 @@ module _ (key : List ℕ) (number : ℕ) (one : Record) (before after : Entries)
   -- or its name was added
   pub under_new_name : (sets : List RecordSet) → None ≡ lookup finds before → sets ≡ new_set number one ∷ [] → IsAdded key sets before after → PutUnder key number one before after None
   under_new_name sets at new added =
-      let others : AllByRecursion (λ e. finds e.0 ≡ false) before = absent_all finds before (sym at) in
-      let b : Between before added.stored sets = between before added.stored sets (subst (λ (k : List ℕ). AllByRecursion (λ e. is_eq (slice_cmp nat_cmp k e.0.items) ≡ false) before) (sym added.keyed) others) in
       inr (record {
-        front = b.front;
+        front = added.front;
         stored = added.stored;
-        back = b.back;
-        was = b.was;
-        absent = other_bytes key before others;
+        back = added.back;
+        was = added.was;
+        absent = other_bytes key before (absent_all finds before (sym at));
         keyed = added.keyed;
-        is = added.is ∙ b.is ∙ ap (λ (s : List RecordSet). b.front ++ (added.stored, s) ∷ b.back) new;
+        is = added.is ∙ ap (λ (s : List RecordSet). added.front ++ (added.stored, s) ∷ added.back) new;
         replaced = refl;
       })
 

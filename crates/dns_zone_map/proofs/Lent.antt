@@ -204,10 +204,10 @@ lent_found origin name rtype finds es within is h s =
     ap some_of (filter_list (is_in_set name rtype) (in_entries es) ∙ ap list_of (entries_found origin name rtype within finds is es h s)) ∙ list_found origin (found_in origin name rtype within finds is es) (found_is origin name rtype within finds is es h)
 
 -- at a tree
-pub lent_set : (origin name : List (List ℕ)) (rtype : ℕ) (es : List (Vec ℕ Global × List RecordSet)) → is_at_or_below name origin ≡ true → AreEntries origin es → IsStrictlySortedBy (λ x y. slice_cmp nat_cmp x.items y.items) (keys_of es)
+pub lent_set : (origin name : List (List ℕ)) (rtype : ℕ) (es : List (Vec ℕ Global × List RecordSet)) → is_at_or_below name origin ≡ true → AreEntries origin es → KeysApart es
     → some_of (set_of (list_of (in_entries es)) name rtype) ≡ option_map (λ s. s.records) (option_and_then (λ n. set_in rtype n) (lookup (λ k. is_eq (slice_cmp nat_cmp (key_of origin name) k.items)) es))
 lent_set origin name rtype es within h s =
-    lent_found origin name rtype (λ k. is_eq (slice_cmp nat_cmp (key_of origin name) k.items)) es within (λ k. is_eq-slice_cmp (key_of origin name) k.items ∙ bytes_turned (key_of origin name) k.items) h (apart_sorted es s)
+    lent_found origin name rtype (λ k. is_eq (slice_cmp nat_cmp (key_of origin name) k.items)) es within (λ k. is_eq-slice_cmp (key_of origin name) k.items ∙ bytes_turned (key_of origin name) k.items) h s
 
 either_way : (rtype : ℕ) (found : Option (List RecordSet)) → option_and_then (λ n. set_in rtype n) found ≡ set_in rtype (sets_or_none found)
 either_way rtype None = refl
@@ -228,7 +228,7 @@ rise_either (Some sets) h = h
 
 -- what the map has at the key of a name are the sets of the name
 pub sets_are : (origin name : List (List ℕ)) (key : List ℕ) (es : List (Vec ℕ Global × List RecordSet)) (zone : Contents) (found : Option (List RecordSet)) → record { origin = origin; records = list_of (in_entries es) } ≡ zone → is_at_or_below name zone.origin ≡ true → key ≡ key_of zone.origin name
-    → AreEntries origin es → IsStrictlySortedBy (λ x y. slice_cmp nat_cmp x.items y.items) (keys_of es) → found ≡ lookup (λ k. is_eq (slice_cmp nat_cmp key k.items)) es → AreSetsOf zone.records name (sets_or_none found)
+    → AreEntries origin es → KeysApart es → found ≡ lookup (λ k. is_eq (slice_cmp nat_cmp key k.items)) es → AreSetsOf zone.records name (sets_or_none found)
 sets_are origin name key es zone found view within is h s n =
     let o : zone.origin ≡ origin = sym (ap (λ z. z.origin) view) in
     let e : zone.records ≡ list_of (in_entries es) = sym (ap (λ z. z.records) view) in

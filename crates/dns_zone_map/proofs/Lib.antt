@@ -17,8 +17,11 @@ pub mod SameOrder
 pub mod Serials
 pub mod Anew
 pub mod Taking
+pub mod Table
+pub mod Lifted
+pub mod Begun
 pub mod Taken
-pub mod Names
+pub mod Existing
 pub mod Written
 pub mod Reading
 pub mod Counted

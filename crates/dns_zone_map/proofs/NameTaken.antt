@@ -1,10 +1,6 @@
 -- All sets of a name, taken from the map.
 use Rattle.std.proofs.Common.{◌≡◌, ℕ, ◌-◌, ◌≤◌, true, false, List, [], ◌∷◌, length, refl, sym, ap, ◌∙◌, subst, arith, Some, None}
 use Rattle.std.specs.Prelude.{filter, not}
-use Rattle.std.specs.List.Sorted.{IsStrictlySortedBy}
-use Rattle.std.specs.Map.{keys_of}
-use Rattle.std.specs.Ordering.{nat_cmp}
-use Rattle.std.specs.Cmp.Lexicographic.{slice_cmp}
 use Rattle.std.proofs.lemmas.Slice.Eq.{bytes_eq-Decides}
 use Rattle.dns_name.specs.Name.{is_same_name, is_at_or_below}
 use Rattle.dns_wire.specs.declared.record.Record.{Record}
@@ -14,10 +10,10 @@ use Rattle.dns_zone_map.specs.Changes.{bears}
 use Rattle.dns_zone_map.specs.Zone.{Contents}
 use Rattle.dns_zone_map.specs.Order.{list_of}
 use Rattle.dns_zone_map.specs.Sets.{in_sets, IsPaired, ArePaired}
-use Rattle.dns_zone_map.specs.Tree.{in_entries, Belongs, IsSet, AreSets, IsTree}
+use Rattle.dns_zone_map.specs.Tree.{KeysApart, in_entries, Belongs, IsSet, AreSets, IsTree}
 use Rattle.dns_zone_map.specs.Removal.{AreCleared, IsClearedFrom, ChangedFrom}
 use Rattle.dns_zone_map.proofs.Keyed.{same_keys}
-use Rattle.dns_zone_map.proofs.Lent.{apart_sorted, all_to}
+use Rattle.dns_zone_map.proofs.Lent.{all_to}
 use Rattle.dns_zone_map.proofs.Rest.{Entries}
 use Rattle.dns_zone_map.proofs.Left.{IsLeft, outside_left, here, is_left, whole_sets, absent_stays, list_left, gone_fewer, tree_left}
 
@@ -37,7 +33,7 @@ module _ (origin name : List (List ℕ)) (es : Entries) (next count : ℕ) (zone
   pub outside_name : is_at_or_below name origin ≡ false → zone.records ≡ filter (λ r. not (bears name r)) zone.records
   outside_name out = outside_left origin name (bears name) (bears_narrow name) es zone view out tree.each
 
-  module _ (fs : Entries) (key : List ℕ) (within : is_at_or_below name origin ≡ true) (sorted : IsStrictlySortedBy (λ x y. slice_cmp nat_cmp x.items y.items) (keys_of es)) (keyed : key ≡ key_of origin name) where
+  module _ (fs : Entries) (key : List ℕ) (within : is_at_or_below name origin ≡ true) (apart : KeysApart es) (keyed : key ≡ key_of origin name) where
     -- there was nothing
     pub none_left : IsClearedFrom key es fs None → list_of (in_entries fs) ≡ filter (λ r. not (bears name r)) zone.records
     none_left none = absent_stays origin name (bears name) (bears_narrow name) es next count zone view tree fs key within keyed none.1 none.0
@@ -52,8 +48,8 @@ module _ (origin name : List (List ℕ)) (es : Entries) (next count : ℕ) (zone
 
       left : IsLeft origin (bears name) es fs next (length (in_sets sets))
       left =
-          let old : AreSets origin (key_of origin name) went.sets = here origin name (bears name) (bears_narrow name) within es fs next Went tree.each tree.below (apart_sorted es sorted) went in
-          is_left origin name (bears name) (bears_narrow name) within es fs next Went tree.each tree.below (apart_sorted es sorted) went
+          let old : AreSets origin (key_of origin name) went.sets = here origin name (bears name) (bears_narrow name) within es fs next Went tree.each tree.below apart went in
+          is_left origin name (bears name) (bears_narrow name) within es fs next Went tree.each tree.below apart went
           (whole_sets origin (key_of origin name) (bears name) (λ kind. false) (λ r kind b. key_bears origin name r kind within b) went.sets went.changed old (went.change.1 ∙ none_kept went.sets))
           (length (in_sets sets)) (omega (arith, ap (λ (ss : List RecordSet). length (in_sets ss)) went.change.0, ap (λ (ss : List RecordSet). length (in_sets ss)) went.change.1))
 
@@ -62,7 +58,7 @@ module _ (origin name : List (List ℕ)) (es : Entries) (next count : ℕ) (zone
 
       pub name_paired : ArePaired sets
       name_paired =
-          let old : AreSets origin (key_of origin name) went.sets = here origin name (bears name) (bears_narrow name) within es fs next Went tree.each tree.below (apart_sorted es sorted) went in
+          let old : AreSets origin (key_of origin name) went.sets = here origin name (bears name) (bears_narrow name) within es fs next Went tree.each tree.below apart went in
           subst ArePaired went.change.0 (all_to (IsSet origin (key_of origin name)) IsPaired (λ s p. p.paired) went.sets old.each)
 
       pub name_few : length (in_sets sets) ≤ count

@@ -3,10 +3,6 @@ use Rattle.std.proofs.Common.{◌≡◌, ℕ, ◌+◌, ◌<◌, ◌≤◌, Bool,
 use Rattle.std.specs.Prelude.{Option, is_some}
 use Rattle.std.specs.List.{AllByRecursion, list_any}
 use Rattle.std.specs.Str.{bytes_eq}
-use Rattle.std.specs.List.Sorted.{IsStrictlySortedBy}
-use Rattle.std.specs.Map.{keys_of}
-use Rattle.std.specs.Ordering.{nat_cmp}
-use Rattle.std.specs.Cmp.Lexicographic.{slice_cmp}
 use Rattle.std.proofs.lemmas.List.Concat.{flat_map-append}
 use Rattle.dns_wire.specs.declared.record.Record.{Record}
 use Rattle.dns_zone_map.specs.declared.sets.RecordSet.{RecordSet}
@@ -17,7 +13,7 @@ use Rattle.dns_zone_map.specs.Changes.{put_over, first_that, AtMostOne}
 use Rattle.dns_zone_map.specs.Sets.{TypesRise, in_set, in_sets}
 use Rattle.dns_zone_map.specs.Tree.{in_entries, Belongs, IsSet, AreSets, AreEntries, IsTree, KeysApart}
 use Rattle.dns_zone_map.specs.Insertion.{put_in_set, new_set, PutInSets, UnderName, UnderNewName, PutUnder}
-use Rattle.dns_zone_map.proofs.Lent.{plain_again, set_list, bytes_turned, all_to, apart_sorted}
+use Rattle.dns_zone_map.proofs.Lent.{plain_again, set_list, bytes_turned, all_to}
 use Rattle.dns_zone_map.proofs.Exists.{all_append}
 use Rattle.dns_zone_map.proofs.Putting.{first_none}
 use Rattle.dns_zone_map.proofs.Rivals.{one_rival, distinct_put}
@@ -333,9 +329,9 @@ module _ (origin : List (List ℕ)) (es : Entries) (next count : ℕ) (zone : Co
   pub rising_all : AllByRecursion (λ e. TypesRise e.1) es
   rising_all = all_to (λ e. AreSets origin e.0.items e.1) (λ e. TypesRise e.1) (λ e p. p.rise) es tree.each
 
-  module _ (fs : Entries) (key : List ℕ) (old : Option Record) (sorted : IsStrictlySortedBy (λ x y. slice_cmp nat_cmp x.items y.items) (keys_of es)) (keyed : key ≡ key_of origin one.name) (put : PutUnder key next one es fs old) where
+  module _ (fs : Entries) (key : List ℕ) (old : Option Record) (apart : KeysApart es) (keyed : key ≡ key_of origin one.name) (put : PutUnder key next one es fs old) where
     pub put_seen : IsPut origin es fs next one old
-    put_seen = put_done origin one entry_here es fs next tree.each tree.below (apart_sorted es sorted) so_far_here old (subst (λ k. PutUnder k next one es fs old) keyed put)
+    put_seen = put_done origin one entry_here es fs next tree.each tree.below apart so_far_here old (subst (λ k. PutUnder k next one es fs old) keyed put)
 
     pub records_after : list_of (in_entries fs) ≡ put_over (is_rival one) one zone.records
     records_after = put_seen.list ∙ ap (put_over (is_rival one) one) same_records

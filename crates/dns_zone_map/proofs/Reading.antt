@@ -3,8 +3,7 @@ use Rattle.std.proofs.Common.{◌≡◌, ℕ, suc, Bool, true, false, List, [], 
 use Rattle.std.specs.Prelude.{Option, ◌&&◌, nat_lt, if◌then◌else◌}
 use Rattle.std.specs.Option.{option_copied}
 use Rattle.std.specs.List.{list_any, starts_with, AllByRecursion}
-use Rattle.std.specs.List.Sorted.{IsStrictlySortedBy}
-use Rattle.std.specs.Map.{lookup, keys_of}
+use Rattle.std.specs.Map.{lookup}
 use Rattle.std.specs.Ordering.{nat_cmp, is_eq}
 use Rattle.std.specs.Cmp.Lexicographic.{slice_cmp}
 use Rattle.std.proofs.lemmas.List.{length-map}
@@ -15,7 +14,7 @@ use Rattle.dns_zone_map.specs.Zone.{Contents}
 use Rattle.dns_zone_map.specs.Existence.{exists}
 use Rattle.dns_zone_map.specs.Order.{Numbered, into, by_number, plain, list_of}
 use Rattle.dns_zone_map.specs.Sets.{sets_or_none, AreSetsOf, are_some, IsPaired, ArePaired, TypesRise}
-use Rattle.dns_zone_map.specs.Tree.{in_entries, AreEntries, IsTree, AreSets, IsSet}
+use Rattle.dns_zone_map.specs.Tree.{KeysApart, in_entries, AreEntries, IsTree, AreSets, IsSet}
 use Rattle.dns_zone_map.proofs.Lent.{sets_are, all_to}
 use Rattle.dns_wire.specs.declared.record.Record.{Record}
 use Rattle.dns_zone_map.proofs.Exists.{exists_at}
@@ -44,14 +43,18 @@ module _ (origin : List (List ℕ)) (es : List (Vec ℕ Global × List RecordSet
   seen key = lookup (λ k. is_eq (slice_cmp nat_cmp key k.items)) es
 
   -- the sets at the key of a name
-  pub sets_at : (key : List ℕ) (found : Option (Bor (List RecordSet))) → IsStrictlySortedBy (λ x y. slice_cmp nat_cmp x.items y.items) (keys_of es) → key ≡ key_of placed.origin name → sets_or_none (option_copied found) ≡ sets_or_none (seen key) → AreSetsOf zone.records name (sets_or_none (option_copied found))
-  sets_at key found sorted is at =
+  pub sets_at : (key : List ℕ) (found : Option (Bor (List RecordSet))) → KeysApart es → key ≡ key_of placed.origin name → sets_or_none (option_copied found) ≡ sets_or_none (seen key) → AreSetsOf zone.records name (sets_or_none (option_copied found))
+  sets_at key found apart is at =
       subst (AreSetsOf zone.records name) (sym at)
-      (sets_are origin name key es zone (seen key) view (subst (λ o. is_at_or_below name o ≡ true) same within) (is ∙ ap (λ o. key_of o name) same) tree.each sorted refl)
+      (sets_are origin name key es zone (seen key) view (subst (λ o. is_at_or_below name o ≡ true) same within) (is ∙ ap (λ o. key_of o name) same) tree.each apart refl)
 
   -- whether the name exists
   pub there_at : (key : List ℕ) (there : Bool) → key ≡ key_of placed.origin name → there ≡ list_any (λ e. starts_with eqb e.0.items key && are_some e.1) es → there ≡ exists zone.records name
   there_at key there is begun = exists_at origin name key es zone there view (subst (λ o. is_at_or_below name o ≡ true) same within) (is ∙ ap (λ o. key_of o name) same) tree.each begun
+
+  pub there_ok : {E : Type 0} (key : List ℕ) (result : Result Bool E) → key ≡ key_of placed.origin name → IfOk result (λ there. there ≡ list_any (λ e. starts_with eqb e.0.items key && are_some e.1) es) → IfOk result (λ there. there ≡ exists zone.records name)
+  there_ok key (Ok there) is begun = there_at key there is begun
+  there_ok key (Err e) is begun = tt
 
 -- each set has a number for each record
 pub paired_all : (origin : List (List ℕ)) (es : List (Vec ℕ Global × List RecordSet)) → AreEntries origin es → AllByRecursion (λ e. ArePaired e.1) es

@@ -2,11 +2,8 @@
 use Rattle.std.proofs.Common.{◌≡◌, ℕ, ◌-◌, ◌≤◌, Bool, true, false, List, [], ◌∷◌, ◌++◌, refl, sym, ap, ◌∙◌, subst, ◌==◌, if◌then◌else◌, Some, None}
 use Rattle.std.specs.Prelude.{filter, not, ◌&&◌, ◌||◌, Option, IfSome, option_map}
 use Rattle.std.specs.List.{AllByRecursion, list_any}
-use Rattle.std.specs.List.Sorted.{IsStrictlySortedBy}
-use Rattle.std.specs.Map.{keys_of, lookup, set_value}
+use Rattle.std.specs.Map.{lookup, set_value}
 use Rattle.std.specs.Option.{option_and_then}
-use Rattle.std.specs.Ordering.{nat_cmp}
-use Rattle.std.specs.Cmp.Lexicographic.{slice_cmp}
 use Rattle.std.proofs.lemmas.Bool.Decides.{Decides-eqb}
 use Rattle.std.proofs.lemmas.Map.Steps.{set_value_same}
 use Rattle.dns_name.specs.Name.{is_same_name, is_at_or_below}
@@ -20,10 +17,10 @@ use Rattle.dns_zone_map.specs.Changes.{first_that, AtMostOne}
 use Rattle.dns_zone_map.specs.Zone.{Contents, is_in_set, set_of, is_equal, is_rival, IsSoFar}
 use Rattle.dns_zone_map.specs.Order.{list_of}
 use Rattle.dns_zone_map.specs.Sets.{set_in, records_in, some_of}
-use Rattle.dns_zone_map.specs.Tree.{in_entries, AreSets, IsTree}
+use Rattle.dns_zone_map.specs.Tree.{KeysApart, in_entries, AreSets, IsTree}
 use Rattle.dns_zone_map.specs.Removal.{is_key, ChangedFrom, OneTaken, HasNoEqual, IsOneTaken, IsOneTakenFrom}
 use Rattle.dns_zone_map.proofs.Keyed.{same_name}
-use Rattle.dns_zone_map.proofs.Lent.{all_to, apart_sorted, lent_set}
+use Rattle.dns_zone_map.proofs.Lent.{all_to, lent_set}
 use Rattle.dns_zone_map.proofs.Rest.{Entries}
 use Rattle.dns_zone_map.proofs.Putting.{first_none}
 use Rattle.dns_zone_map.proofs.Middle.{none_filtered}
@@ -120,7 +117,7 @@ module _ (origin : List (List ℕ)) (one : Record) (es : Entries) (next count : 
   pub outside_one : is_at_or_below one.name origin ≡ false → None ≡ first_that (is_equal one) zone.records
   outside_one out = none_equal one zone.records (none_any (set_of zone.records one.name one.rtype) (outside_at origin one.name one.rtype es zone view out tree.each))
 
-  module _ (fs : Entries) (key : List ℕ) (within : is_at_or_below one.name origin ≡ true) (sorted : IsStrictlySortedBy (λ x y. slice_cmp nat_cmp x.items y.items) (keys_of es)) (keyed : key ≡ key_of origin one.name) (so_far : IsSoFar zone.origin zone.records) where
+  module _ (fs : Entries) (key : List ℕ) (within : is_at_or_below one.name origin ≡ true) (apart : KeysApart es) (keyed : key ≡ key_of origin one.name) (so_far : IsSoFar zone.origin zone.records) where
     in_found : (found : Option RecordSet) → some_of (set_of zone.records one.name one.rtype) ≡ option_map records_in found → IfSome found (HasNoEqual one) → list_any (is_equal one) (set_of zone.records one.name one.rtype) ≡ false
     in_found None is none = none_any (set_of zone.records one.name one.rtype) (sym is)
     in_found (Some s) is none = ap (list_any (is_equal one)) (some_is (set_of zone.records one.name one.rtype) s.records (sym is)) ∙ none
@@ -129,7 +126,7 @@ module _ (origin : List (List ℕ)) (one : Record) (es : Entries) (next count : 
     absent_one none =
         none_equal one zone.records
         (in_found (option_and_then (set_in one.rtype) (lookup (is_key key) es))
-        (ap (λ (rs : List Record). some_of (set_of rs one.name one.rtype)) (sym same_records) ∙ lent_set origin one.name one.rtype es within tree.each sorted
+        (ap (λ (rs : List Record). some_of (set_of rs one.name one.rtype)) (sym same_records) ∙ lent_set origin one.name one.rtype es within tree.each apart
         ∙ ap (λ (k : List ℕ). option_map records_in (option_and_then (set_in one.rtype) (lookup (is_key k) es))) (sym keyed))
         none.1)
 
@@ -143,7 +140,7 @@ module _ (origin : List (List ℕ)) (one : Record) (es : Entries) (next count : 
       -- the set of which it was
       out : IsOut origin one.name one.rtype es (went.front ++ (went.stored, went.change.front ++ went.change.back) ∷ went.back) next went.change.set
       out =
-          is_out origin one.name one.rtype within es (went.front ++ (went.stored, went.change.front ++ went.change.back) ∷ went.back) next went.change.set tree.each tree.below (apart_sorted es sorted)
+          is_out origin one.name one.rtype within es (went.front ++ (went.stored, went.change.front ++ went.change.back) ∷ went.back) next went.change.set tree.each tree.below apart
           (record {
             front = went.front;
             stored = went.stored;
@@ -166,8 +163,8 @@ module _ (origin : List (List ℕ)) (one : Record) (es : Entries) (next count : 
 
       left : IsLeft origin (is_equal one) es fs next 1
       left =
-          let old : AreSets origin (key_of origin one.name) went.sets = here origin one.name (is_equal one) (equal_narrow one) within es fs next (OneTaken one r) tree.each tree.below (apart_sorted es sorted) went in
-          is_left origin one.name (is_equal one) (equal_narrow one) within es fs next (OneTaken one r) tree.each tree.below (apart_sorted es sorted) went (one_left origin (key_of origin one.name) one r went.sets went.changed old went.change few) 1
+          let old : AreSets origin (key_of origin one.name) went.sets = here origin one.name (is_equal one) (equal_narrow one) within es fs next (OneTaken one r) tree.each tree.below apart went in
+          is_left origin one.name (is_equal one) (equal_narrow one) within es fs next (OneTaken one r) tree.each tree.below apart went (one_left origin (key_of origin one.name) one r went.sets went.changed old went.change few) 1
           (one_count origin (key_of origin one.name) one r went.sets went.changed old went.change few)
 
       pub record_left : list_of (in_entries fs) ≡ filter (λ r. not (is_equal one r)) zone.records

@@ -3,10 +3,6 @@ use Rattle.std.proofs.Common.{◌≡◌, ℕ, ◌+◌, ◌<◌, suc, Bool, true,
 use Rattle.std.specs.Prelude.{slice_set}
 use Rattle.std.specs.List.{AllByRecursion}
 use Rattle.std.specs.Str.{bytes_eq}
-use Rattle.std.specs.List.Sorted.{IsStrictlySortedBy}
-use Rattle.std.specs.Map.{keys_of}
-use Rattle.std.specs.Ordering.{nat_cmp}
-use Rattle.std.specs.Cmp.Lexicographic.{slice_cmp}
 use Rattle.std.proofs.lemmas.Bool.Decides.{Decides-eqb}
 use Rattle.std.proofs.lemmas.List.Concat.{flat_map-append}
 use Rattle.std.proofs.lemmas.List.{take_more_set, drop-set-lt, drop_more, map-append, length-map, set_split}
@@ -25,7 +21,7 @@ use Rattle.dns_zone_map.specs.Removal.{is_key, IsAbsent, ChangedIn}
 use Rattle.dns_zone_map.specs.Serial.{serial_set, SerialSet, IsSerialSet, IsSerialSetAt}
 use Rattle.dns_zone_map.proofs.Keyed.{same_keys}
 use Rattle.dns_zone_map.proofs.Putting.{list_map}
-use Rattle.dns_zone_map.proofs.Lent.{bytes_turned, all_to, apart_sorted}
+use Rattle.dns_zone_map.proofs.Lent.{bytes_turned, all_to}
 use Rattle.dns_zone_map.proofs.Exists.{all_append}
 use Rattle.dns_zone_map.proofs.InEntries.{absent_all, other_bytes}
 use Rattle.dns_zone_map.proofs.Rest.{Entries, Fails, FailsAt, all_front, all_back, all_numbered, sets_fail, entries_fail}
@@ -244,12 +240,12 @@ module _ (origin : List (List ℕ)) (k : ℕ) where
     after (inr n) = absent n.1 n.0
 
 -- the same of a map that is seen as its list
-module _ (origin : List (List ℕ)) (k : ℕ) (es fs : Entries) (next count : ℕ) (zone : Contents) (view : record { origin = origin; records = list_of (in_entries es) } ≡ zone) (tree : IsTree origin es next count) (so_far : IsSoFar zone.origin zone.records) (sorted : IsStrictlySortedBy (λ x y. slice_cmp nat_cmp x.items y.items) (keys_of es)) (set : IsSerialSetAt [] k es fs) where
+module _ (origin : List (List ℕ)) (k : ℕ) (es fs : Entries) (next count : ℕ) (zone : Contents) (view : record { origin = origin; records = list_of (in_entries es) } ≡ zone) (tree : IsTree origin es next count) (so_far : IsSoFar zone.origin zone.records) (apart : KeysApart es) (set : IsSerialSetAt [] k es fs) where
   so_far_here : IsSoFar origin (list_of (in_entries es))
   so_far_here = subst (λ z. IsSoFar z.origin z.records) (sym view) so_far
 
-  done : IsAfter origin k es fs tree.each (apart_sorted es sorted) (all_numbered (IsEntry origin) (in_entries es) so_far_here.entries)
-  done = after origin k es fs tree.each (apart_sorted es sorted) (all_numbered (IsEntry origin) (in_entries es) so_far_here.entries) (subst (λ z. IsSerialSetAt z k es fs) (top_key origin) set)
+  done : IsAfter origin k es fs tree.each apart (all_numbered (IsEntry origin) (in_entries es) so_far_here.entries)
+  done = after origin k es fs tree.each apart (all_numbered (IsEntry origin) (in_entries es) so_far_here.entries) (subst (λ z. IsSerialSetAt z k es fs) (top_key origin) set)
 
   list_is : list_of (in_entries fs) ≡ set_serial k (list_of (in_entries es))
   list_is = ap list_of done.listed ∙ list_map (at_serial k) (in_entries es)

@@ -3,10 +3,6 @@ use Rattle.std.proofs.Common.{◌≡◌, ℕ, suc, ◌+◌, ◌-◌, ◌<◌, �
 use Rattle.std.specs.Prelude.{filter, not, ◌&&◌, option_map}
 use Rattle.std.specs.List.{AllByRecursion}
 use Rattle.std.specs.Str.{bytes_eq}
-use Rattle.std.specs.List.Sorted.{IsStrictlySortedBy}
-use Rattle.std.specs.Map.{keys_of}
-use Rattle.std.specs.Ordering.{nat_cmp}
-use Rattle.std.specs.Cmp.Lexicographic.{slice_cmp}
 use Rattle.std.proofs.lemmas.Bool.Decides.{Decides-eqb}
 use Rattle.std.proofs.lemmas.List.Concat.{flat_map-append}
 use Rattle.std.proofs.lemmas.Slice.Eq.{bytes_eq-Decides}
@@ -20,7 +16,7 @@ use Rattle.dns_zone_map.specs.Sets.{TypesRise, in_set, in_sets, records_in, some
 use Rattle.dns_zone_map.specs.Tree.{in_entries, Belongs, IsSet, AreSets, AreEntries, IsTree, KeysApart}
 use Rattle.dns_zone_map.specs.Removal.{TakenFrom, HasNone, IsTakenFrom}
 use Rattle.dns_zone_map.proofs.Keyed.{same_keys}
-use Rattle.dns_zone_map.proofs.Lent.{plain_again, set_list, bytes_turned, all_to, numbered_all, filter_none, filter_all, apart_sorted, lent_set}
+use Rattle.dns_zone_map.proofs.Lent.{plain_again, set_list, bytes_turned, all_to, numbered_all, filter_none, filter_all, lent_set}
 use Rattle.dns_zone_map.proofs.Exists.{all_append}
 use Rattle.dns_zone_map.proofs.Rest.{Entries, Fails, FailsAt, all_front, all_back, sets_fail, entries_fail}
 use Rattle.dns_zone_map.proofs.Middle.{Middle, filtered_mid, list_taken}
@@ -217,7 +213,7 @@ module _ (origin name : List (List ℕ)) (rtype : ℕ) (within : is_at_or_below 
 pub none_stays : (zone : Contents) (name : List (List ℕ)) (rtype : ℕ) → None ≡ some_of (set_of zone.records name rtype) → zone.records ≡ filter (λ r. not (is_in_set name rtype r)) zone.records
 none_stays zone name rtype h = sym (all_stay (is_in_set name rtype) zone.records (none_is (set_of zone.records name rtype) h))
 
-module _ (origin name : List (List ℕ)) (rtype : ℕ) (es : Entries) (next count : ℕ) (zone : Contents) (view : record { origin = origin; records = list_of (in_entries es) } ≡ zone) (tree : IsTree origin es next count) (within : is_at_or_below name origin ≡ true) (sorted : IsStrictlySortedBy (λ x y. slice_cmp nat_cmp x.items y.items) (keys_of es)) where
+module _ (origin name : List (List ℕ)) (rtype : ℕ) (es : Entries) (next count : ℕ) (zone : Contents) (view : record { origin = origin; records = list_of (in_entries es) } ≡ zone) (tree : IsTree origin es next count) (within : is_at_or_below name origin ≡ true) (apart : KeysApart es) where
   same_records : list_of (in_entries es) ≡ zone.records
   same_records = ap (λ z. z.records) view
 
@@ -229,7 +225,7 @@ module _ (origin name : List (List ℕ)) (rtype : ℕ) (es : Entries) (next coun
     pub none_there : IsTakenFrom key rtype es fs None → None ≡ some_of (set_of zone.records name rtype)
     none_there none =
         let at : HasNone (key_of origin name) rtype es = subst (λ k. HasNone k rtype es) keyed none.1 in
-        sym (ap (λ (rs : List Record). some_of (set_of rs name rtype)) (sym same_records) ∙ lent_set origin name rtype es within tree.each sorted ∙ ap (option_map records_in) at)
+        sym (ap (λ (rs : List Record). some_of (set_of rs name rtype)) (sym same_records) ∙ lent_set origin name rtype es within tree.each apart ∙ ap (option_map records_in) at)
 
     pub none_taken : IsTakenFrom key rtype es fs None → list_of (in_entries fs) ≡ filter (λ r. not (is_in_set name rtype r)) zone.records
     none_taken none = ap (λ (gs : Entries). list_of (in_entries gs)) none.0 ∙ same_records ∙ none_stays zone name rtype (none_there none)
@@ -240,7 +236,7 @@ module _ (origin name : List (List ℕ)) (rtype : ℕ) (es : Entries) (next coun
     -- or it was taken
     module _ (set : RecordSet) (taken : IsTakenFrom key rtype es fs (Some set)) where
       out : IsOut origin name rtype es fs next set
-      out = is_out origin name rtype within es fs next set tree.each tree.below (apart_sorted es sorted) (subst (λ k. TakenFrom k rtype es fs set) keyed taken)
+      out = is_out origin name rtype within es fs next set tree.each tree.below apart (subst (λ k. TakenFrom k rtype es fs set) keyed taken)
 
       pub list_after : list_of (in_entries fs) ≡ filter (λ r. not (is_in_set name rtype r)) zone.records
       list_after = out.list ∙ ap (filter (λ r. not (is_in_set name rtype r))) same_records

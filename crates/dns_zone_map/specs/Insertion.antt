@@ -2,9 +2,6 @@
 use Rattle.std.specs.Prelude.{◌≡◌, ◌⊎◌, ℕ, ◌<◌, ◌≤◌, List, [], ◌∷◌, ◌++◌, length, take, drop, slice_index_or, false, if◌then◌else◌, Option, None, Vec}
 use Rattle.std.specs.List.{AllByRecursion, list_any}
 use Rattle.std.specs.Str.{bytes_eq}
-use Rattle.std.specs.BTreeMap.{insert_entry}
-use Rattle.std.specs.Ordering.{nat_cmp}
-use Rattle.std.specs.Cmp.Lexicographic.{slice_cmp}
 use Rattle.std.specs.declared.alloc.Global.{Global}
 use Rattle.dns_wire.specs.declared.record.Record.{Record}
 use Rattle.dns_zone_map.specs.declared.sets.RecordSet.{RecordSet}
@@ -82,8 +79,11 @@ pub record UnderNewName (key : List ℕ) (number : ℕ) (one : Record) (before a
 abbrev pub PutUnder : List ℕ → ℕ → Record → List (Vec ℕ Global × List RecordSet) → List (Vec ℕ Global × List RecordSet) → Option Record → Type 0
 PutUnder key number one before after old = UnderName key number one before after old ⊎ UnderNewName key number one before after old
 
--- a name with its sets was added in its place by the order of the keys
+-- a name with its sets was added among the others
 pub record IsAdded (key : List ℕ) (sets : List RecordSet) (before after : List (Vec ℕ Global × List RecordSet)) : Type 0 where
+  pub front : List (Vec ℕ Global × List RecordSet)
   pub stored : Vec ℕ Global
+  pub back : List (Vec ℕ Global × List RecordSet)
+  pub was : before ≡ front ++ back
   pub keyed : stored.items ≡ key
-  pub is : after ≡ insert_entry (λ x y. slice_cmp nat_cmp x.items y.items) before stored sets
+  pub is : after ≡ front ++ (stored, sets) ∷ back

@@ -4,8 +4,10 @@ pub mod Existence
 pub mod Keys
 pub mod KeyRoom
 pub mod Order
+pub mod Held
 pub mod Sets
 pub mod Tree
+pub mod Table
 pub mod Changes
 pub mod Insertion
 pub mod Removal

@@ -9,12 +9,10 @@ ghost use Rattle.dns_zone_map.specs.declared.former.FormerSets.{FormerSets};
 ghost use Rattle.dns_zone_map.specs.Tree.{OwnsSame};
 ghost use Rattle.dns_zone_map.specs.Former.{restored, covers, KeptLast, IsKept, IsKeptIn, IsSameUndoing, HasName};
 
+use crate::names::Names;
 use crate::sets::OwnerSets;
-use crate::sweeping::{add_name, sweep_name};
 use dns_io::OutOfMemory;
 use std::alloc::Global;
-use std::collections::BTreeMap;
-use std::mem::swap;
 
 /// The key of a name, and the sets that it owned.
 #[derive(Drop)]
@@ -36,12 +34,12 @@ pub(crate) struct Undoing {
 /// may be changed. Where memory runs out nothing was kept.
 pub(crate) fn keep_former(
     alloc: Global,
-    names: &mut BTreeMap<Vec<u8>, OwnerSets>,
+    names: &mut Names,
     undoing: &mut Option<Undoing>,
     key: &[u8],
 ) -> Result<(), OutOfMemory>
-    ensures ok { OnOk result (IsKept key.now names.old.entries undoing.old names.new.entries undoing.new) }
-    ensures err_names { OnErr result (names.new.entries ≡ names.old.entries) }
+    ensures ok { OnOk result (IsKept key.now names.old undoing.old names.new undoing.new) }
+    ensures err_names { OnErr result (names.new ≡ names.old) }
     ensures err_undoing { OnErr result (IsSameUndoing undoing.old undoing.new) }
 {
     match undoing {
@@ -53,12 +51,12 @@ pub(crate) fn keep_former(
 /// Keeps what the name with this key owns, unless something was kept of it before.
 fn keep_in(
     alloc: Global,
-    names: &mut BTreeMap<Vec<u8>, OwnerSets>,
+    names: &mut Names,
     formers: &mut Vec<FormerSets>,
     key: &[u8],
 ) -> Result<(), OutOfMemory>
-    ensures ok { OnOk result (IsKeptIn key.now names.old.entries formers.old.items names.new.entries formers.new.items) }
-    ensures err_names { OnErr result (names.new.entries ≡ names.old.entries) }
+    ensures ok { OnOk result (IsKeptIn key.now names.old formers.old.items names.new formers.new.items) }
+    ensures err_names { OnErr result (names.new ≡ names.old) }
     ensures err_formers { OnErr result (formers.new.items ≡ formers.old.items) }
 {
     if is_kept_last(formers.as_slice(), key) {
@@ -89,49 +87,30 @@ fn is_of(former: &FormerSets, key: &[u8]) -> bool
 /// Keeps what the name with this key owns, which the map then has, with no sets where it was not there.
 fn keep_last(
     alloc: Global,
-    names: &mut BTreeMap<Vec<u8>, OwnerSets>,
+    names: &mut Names,
     formers: &mut Vec<FormerSets>,
     key: &[u8],
 ) -> Result<(), OutOfMemory>
-    ensures ok { OnOk result (KeptLast key.now names.old.entries formers.old.items names.new.entries formers.new.items) }
-    ensures err_names { OnErr result (names.new.entries ≡ names.old.entries) }
+    ensures ok { OnOk result (KeptLast key.now names.old formers.old.items names.new formers.new.items) }
+    ensures err_names { OnErr result (names.new ≡ names.old) }
     ensures err_formers { OnErr result (formers.new.items ≡ formers.old.items) }
 {
     let former = former_sets(alloc, names, key)?;
     formers.push(former)?;
-    if add_missing(alloc, names, key).is_err() {
+    if names.add_missing(alloc, key).is_err() {
         formers.pop();
         return Err(OutOfMemory);
     }
     Ok(())
 }
 
-/// Adds the name with this key without sets, where the map does not have it; where memory runs out the names are as before.
-fn add_missing(
-    alloc: Global,
-    names: &mut BTreeMap<Vec<u8>, OwnerSets>,
-    key: &[u8],
-) -> Result<(), OutOfMemory>
-    ensures ok { OnOk result (HasName key.now names.old.entries names.new.entries) }
-    ensures err { OnErr result (names.new.entries ≡ names.old.entries) }
-{
-    match names.get(key) {
-        Some(_) => Ok(()),
-        None => add_name(alloc, names, key, OwnerSets::none(alloc)),
-    }
-}
-
 /// Takes the name with this key away where it owns nothing, unless it has to stay so that changes can be undone.
-pub(crate) fn sweep_unless(
-    names: &mut BTreeMap<Vec<u8>, OwnerSets>,
-    undoing: &Option<Undoing>,
-    key: &[u8],
-)
-    ensures same { OwnsSame names.old.entries names.new.entries }
-    ensures stays { IfSome undoing.now (λ _. names.new.entries ≡ names.old.entries) }
+pub(crate) fn sweep_unless(names: &mut Names, undoing: &Option<Undoing>, key: &[u8])
+    ensures same { OwnsSame names.old names.new }
+    ensures stays { IfSome undoing.now (λ _. names.new ≡ names.old) }
 {
     match undoing {
-        None => sweep_name(names, key),
+        None => names.sweep_name(key),
         Some(_) => (),
     }
 }
@@ -139,54 +118,32 @@ pub(crate) fn sweep_unless(
 /// A copy of the sets of the name with this key, with the key.
 pub(crate) fn former_sets(
     alloc: Global,
-    names: &BTreeMap<Vec<u8>, OwnerSets>,
+    names: &Names,
     key: &[u8],
 ) -> Result<FormerSets, OutOfMemory>
     ensures key { IfOk result (λ former. former.key.items ≡ key.now) }
-    ensures sets { IfOk result (λ former. former.sets ≡ sets_or_none (lookup (is_key key.now) names.now.entries)) }
+    ensures sets { IfOk result (λ former. former.sets ≡ sets_or_none (lookup (is_key key.now) names.now)) }
 {
     let mut stored = Vec::with_capacity(alloc, key.len())?;
     stored.extend_from_slice(key)?;
     Ok(FormerSets {
         key: stored,
-        sets: copied_sets(alloc, names, key)?,
+        sets: names.copied_sets(alloc, key)?,
     })
 }
 
-/// A copy of the sets of the name with this key; none where there is no such name.
-fn copied_sets(
-    alloc: Global,
-    names: &BTreeMap<Vec<u8>, OwnerSets>,
-    key: &[u8],
-) -> Result<OwnerSets, OutOfMemory>
-    ensures { IfOk result (λ sets. sets ≡ sets_or_none (lookup (is_key key.now) names.now.entries)) }
-{
-    match names.get(key) {
-        Some(sets) => sets.copy(alloc),
-        None => Ok(OwnerSets::none(alloc)),
-    }
-}
-
 /// Gives a name the sets back that it owned, where the map has the name. Takes no memory.
-#[tactic(auto, using(crate::proofs::Formers::not_written))]
-fn put_back(names: &mut BTreeMap<Vec<u8>, OwnerSets>, former: &mut FormerSets)
-    ensures names { names.new.entries ≡ set_value (is_key former.old.key.items) names.old.entries former.old.sets }
+fn put_back(names: &mut Names, former: &mut FormerSets)
+    ensures names { names.new ≡ set_value (is_key former.old.key.items) names.old former.old.sets }
     ensures key { former.new.key ≡ former.old.key }
 {
-    match names.get_mut(former.key.as_slice()) {
-        None => (),
-        Some(sets) => swap(sets, &mut former.sets),
-    }
+    names.swap_sets(former.key.as_slice(), &mut former.sets);
 }
 
 /// Gives a name at a place of a vector the sets back that it owned.
-fn put_back_at(
-    names: &mut BTreeMap<Vec<u8>, OwnerSets>,
-    formers: &mut Vec<FormerSets>,
-    place: usize,
-)
+fn put_back_at(names: &mut Names, formers: &mut Vec<FormerSets>, place: usize)
     requires { place < length formers.old.items }
-    ensures names { (d : FormerSets) → names.new.entries ≡ set_value (is_key (slice_index_or formers.old.items place d).key.items) names.old.entries (slice_index_or formers.old.items place d).sets }
+    ensures names { (d : FormerSets) → names.new ≡ set_value (is_key (slice_index_or formers.old.items place d).key.items) names.old (slice_index_or formers.old.items place d).sets }
     ensures before { take place formers.new.items ≡ take place formers.old.items }
     ensures long { length formers.new.items ≡ length formers.old.items }
 {
@@ -196,23 +153,23 @@ fn put_back_at(
 
 /// Gives names the sets back that they owned before those were first kept. The vector of what was kept is from the first to
 /// the last. Takes no memory.
-pub(crate) fn put_all_back(names: &mut BTreeMap<Vec<u8>, OwnerSets>, formers: &mut Vec<FormerSets>)
-    ensures { names.new.entries ≡ restored formers.old.items names.old.entries }
+pub(crate) fn put_all_back(names: &mut Names, formers: &mut Vec<FormerSets>)
+    ensures { names.new ≡ restored formers.old.items names.old }
 {
     let mut left = formers.len();
     while left > 0 {
         left -= 1;
-        let _ordered = names.len();
+        let _apart = names.tree_count();
         put_back_at(names, formers, left);
     }
 }
 
 /// Takes the names away that own nothing, of those of which sets were kept. Takes no memory.
 #[tactic(auto, using(crate::proofs::Swept::swept_more, crate::proofs::Swept::swept_none))]
-pub(crate) fn sweep(names: &mut BTreeMap<Vec<u8>, OwnerSets>, formers: &[FormerSets])
-    ensures { OwnsSame names.old.entries names.new.entries }
+pub(crate) fn sweep(names: &mut Names, formers: &[FormerSets])
+    ensures { OwnsSame names.old names.new }
 {
     for former in formers {
-        sweep_name(names, former.key.as_slice());
+        names.sweep_name(former.key.as_slice());
     }
 }

@@ -1,11 +1,10 @@
 //! The keys of names: what the map of a zone is searched for.
 
-ghost use Rattle.std.specs.Prelude.{◌≡◌, ◌<◌, ◌+◌, ◌-◌, ◌≤◌, ◌++◌, true, length, map, take, drop, OnOk, ◌∷◌, []};
+ghost use Rattle.std.specs.Prelude.{◌≡◌, ◌<◌, ◌+◌, ◌-◌, ◌≤◌, ◌++◌, true, length, map, take, drop, ◌∷◌, []};
 ghost use Rattle.std.specs.Char.{to_ascii_lowercase};
 ghost use Rattle.dns_name.specs.Name.{IsName, IsLabel, label_bytes, labels_bytes, is_at_or_below};
 ghost use Rattle.dns_zone_map.specs.Keys.{key_of};
 
-use dns_io::OutOfMemory;
 use dns_name::Name;
 use std::marker::Model;
 
@@ -21,7 +20,7 @@ pub struct ZoneKey<'a> {
     origin: &'a Name,
     name: &'a Name,
     /// The key of the name, at the end.
-    room: [u8; 255],
+    room: &'a [u8],
     start: usize,
 }
 
@@ -33,18 +32,18 @@ impl<'a> Model for ZoneKey<'a> {
 
     ghost view = { λ k. record { origin = k.origin.now; name = k.name.now } };
 
-    ghost invariant = { λ k. HasKey k.origin.now k.name.now k.room k.start };
+    ghost invariant = { λ k. HasKey k.origin.now k.name.now k.room.now k.start };
 }
 
 impl<'a> ZoneKey<'a> {
-    /// The keys of a name at the origin or below it, in whatever case. Takes no memory.
-    pub fn new(origin: &'a Name, name: &'a Name) -> ZoneKey<'a>
+    /// The keys of a name at the origin or below it, in whatever case. They are written into the room, whatever that
+    /// holds. Takes no memory.
+    pub fn new(origin: &'a Name, name: &'a Name, room: &'a mut [u8; 255]) -> ZoneKey<'a>
         requires { is_at_or_below name.now origin.now ≡ true }
         ensures origin { result.origin ≡ origin.now }
         ensures name { result.name ≡ name.now }
     {
-        let mut room = [0u8; 255];
-        let start = write_key(origin, name, &mut room);
+        let start = write_key(origin, name, room);
         ZoneKey {
             origin,
             name,
@@ -58,30 +57,26 @@ impl<'a> ZoneKey<'a> {
         requires { length self.now.origin + labels_dropped ≤ length self.now.name }
         ensures key { result.now ≡ key_of self.now.origin (drop labels_dropped self.now.name) }
         ensures within { is_at_or_below (drop labels_dropped self.now.name) self.now.origin ≡ true }
+        ensures short { length result.now ≤ 255 }
     {
         let end = cut_back(self.name, labels_dropped, MAX_KEY_LEN);
-        part(&self.room, self.start, end)
+        part(self.room, self.start, end)
     }
 }
 
-/// Writes a key into a vector, whatever it held.
-pub(crate) fn write_front(probe: &mut Vec<u8>, key: &[u8]) -> Result<(), OutOfMemory>
-    ensures { OnOk result (probe.new.items ≡ key.now) }
+/// Writes the key of the label `*` under a name (RFC 4592 2.1.1), from the key of the name, at the front of a room, and
+/// tells how many bytes it has.
+pub(crate) fn write_star(room: &mut [u8; 257], key: &[u8]) -> usize
+    requires { length key.now ≤ 255 }
+    ensures within { result ≤ 257 }
+    ensures key { take result room.new ≡ key.now ++ 1 ∷ 42 ∷ [] }
 {
-    probe.clear();
-    probe.extend_from_slice(key)?;
-    Ok(())
-}
-
-/// Writes the key of the label `*` under a name (RFC 4592 2.1.1), from the key of the name, into a vector, whatever it
-/// held.
-pub(crate) fn write_star(probe: &mut Vec<u8>, key: &[u8]) -> Result<(), OutOfMemory>
-    ensures { OnOk result (probe.new.items ≡ key.now ++ 1 ∷ 42 ∷ []) }
-{
-    probe.clear();
-    probe.extend_from_slice(key)?;
-    probe.extend_from_slice(b"\x01*")?;
-    Ok(())
+    let end = key.len();
+    let front = &mut room[..end];
+    front.copy_from_slice(key);
+    room[end] = 1;
+    room[end + 1] = b'*';
+    end + 2
 }
 
 /// The bytes from one place to another.

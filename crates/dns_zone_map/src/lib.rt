@@ -6,9 +6,10 @@ mod former;
 mod key;
 pub mod laws;
 mod listing;
+mod names;
 mod rival;
 mod sets;
-mod sweeping;
+mod tree;
 mod zone_map;
 
 pub use key::ZoneKey;

@@ -6,11 +6,12 @@ ghost use Rattle.dns_zone_map.specs.Order.{plain, list_of};
 ghost use Rattle.dns_zone_map.specs.Sets.{in_set, in_sets, IsPaired, ArePaired};
 ghost use Rattle.dns_zone_map.specs.Tree.{in_entries};
 
-use crate::sets::{OwnerSets, RecordSet};
+use crate::names::Names;
+use crate::sets::RecordSet;
+use crate::tree::Tree;
 use dns_io::OutOfMemory;
 use dns_wire::{Record, Records};
 use std::alloc::Global;
-use std::collections::BTreeMap;
 use std::marker::Model;
 
 /// A record and its order number.
@@ -43,13 +44,9 @@ impl<'a> Listed<'a> {
 }
 
 /// Copies of all records, in the order of their numbers.
-pub(crate) fn in_order(
-    alloc: Global,
-    names: &BTreeMap<Vec<u8>, OwnerSets>,
-    count: usize,
-) -> Result<Records, OutOfMemory>
-    requires { AllByRecursion (λ e. ArePaired e.1) names.now.entries }
-    ensures { IfOk result (λ records. records ≡ list_of (in_entries names.now.entries)) }
+pub(crate) fn in_order(alloc: Global, names: &Names, count: usize) -> Result<Records, OutOfMemory>
+    requires { AllByRecursion (λ e. ArePaired e.1) names.now }
+    ensures { IfOk result (λ records. records ≡ list_of (in_entries names.now)) }
 {
     let mut all = Vec::with_capacity(alloc, count)?;
     push_all(&mut all, names)?;
@@ -57,14 +54,21 @@ pub(crate) fn in_order(
     copied(alloc, &all)
 }
 
-fn push_all<'a>(
-    all: &mut Vec<Listed<'a>>,
-    names: &'a BTreeMap<Vec<u8>, OwnerSets>,
-) -> Result<(), OutOfMemory>
-    requires { AllByRecursion (λ e. ArePaired e.1) names.now.entries }
-    ensures { OnOk result (all.new.items ≡ all.old.items ++ in_entries names.now.entries) }
+fn push_all<'a>(all: &mut Vec<Listed<'a>>, names: &'a Names) -> Result<(), OutOfMemory>
+    requires { AllByRecursion (λ e. ArePaired e.1) names.now }
+    ensures { OnOk result (all.new.items ≡ all.old.items ++ in_entries names.now) }
 {
-    for (_, sets) in names {
+    for tree in names.trees() {
+        push_tree(all, tree)?;
+    }
+    Ok(())
+}
+
+fn push_tree<'a>(all: &mut Vec<Listed<'a>>, tree: &'a Tree) -> Result<(), OutOfMemory>
+    requires { AllByRecursion (λ e. ArePaired e.1) tree.now.entries }
+    ensures { OnOk result (all.new.items ≡ all.old.items ++ in_entries tree.now.entries) }
+{
+    for (_, sets) in tree {
         push_sets(all, sets.as_slice())?;
     }
     Ok(())

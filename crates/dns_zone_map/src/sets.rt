@@ -19,53 +19,92 @@ use std::alloc::Global;
 use std::marker::Model;
 use std::mem::replace;
 
-/// Numbers by which records are ordered.
+/// Numbers by which records are ordered. One alone, as most sets have it, takes no memory.
 #[derive(Debug, Drop)]
 pub(crate) struct Numbers {
-    numbers: Vec<u64>,
+    held: HeldNumbers,
+}
+
+/// How numbers are held.
+#[derive(Debug, Drop)]
+enum HeldNumbers {
+    Empty,
+    One(u64),
+    Several(Box<Vec<u64>>),
 }
 
 impl Model for Numbers {
     ghost use Rattle.std.specs.Prelude.{List, ℕ};
+    ghost use Rattle.dns_zone_map.specs.Held.{numbers_of};
 
     ghost Value = { List ℕ };
 
-    ghost view = { λ n. n.numbers.items };
+    ghost view = { λ n. numbers_of n.held };
 }
 
 impl Numbers {
     /// One number.
-    fn one(alloc: Global, number: u64) -> Result<Numbers, OutOfMemory>
-        ensures { IfOk result (λ numbers. numbers ≡ number ∷ []) }
+    fn one(number: u64) -> Numbers
+        ensures { result ≡ number ∷ [] }
     {
-        let mut numbers = Vec::with_capacity(alloc, 1)?;
-        numbers.push(number)?;
-        Ok(Numbers { numbers })
+        Numbers {
+            held: HeldNumbers::One(number),
+        }
     }
 
     /// Adds a number at the end; where memory runs out the numbers are as before.
-    fn push(&mut self, number: u64) -> Result<(), OutOfMemory>
+    fn push(&mut self, alloc: Global, number: u64) -> Result<(), OutOfMemory>
         ensures ok { OnOk result (self.new ≡ self.old ++ number ∷ []) }
         ensures err { OnErr result (self.new ≡ self.old) }
     {
-        self.numbers.push(number)?;
-        Ok(())
+        match replace(&mut self.held, HeldNumbers::Empty) {
+            HeldNumbers::Empty => {
+                self.held = HeldNumbers::One(number);
+                Ok(())
+            }
+            HeldNumbers::One(first) => match two(alloc, first, number) {
+                Ok(numbers) => {
+                    self.held = HeldNumbers::Several(numbers);
+                    Ok(())
+                }
+                Err(fault) => {
+                    self.held = HeldNumbers::One(first);
+                    Err(fault)
+                }
+            },
+            HeldNumbers::Several(numbers) => {
+                let mut numbers = numbers;
+                let pushed = push_one(numbers.as_mut(), number);
+                self.held = HeldNumbers::Several(numbers);
+                pushed
+            }
+        }
     }
 
     /// The numbers.
     pub(crate) fn as_slice(&self) -> &[u64]
         ensures { result.now ≡ self.now }
     {
-        &self.numbers
+        match &self.held {
+            HeldNumbers::Empty => &[],
+            HeldNumbers::One(number) => std::slice::from_ref(number),
+            HeldNumbers::Several(numbers) => numbers.as_ref().as_slice(),
+        }
     }
 
     /// A copy of the numbers.
-    fn copy(&self) -> Result<Numbers, OutOfMemory>
+    fn copy(&self, alloc: Global) -> Result<Numbers, OutOfMemory>
         ensures { IfOk result (λ copy. copy ≡ self.now) }
     {
-        Ok(Numbers {
-            numbers: self.numbers.clone()?,
-        })
+        let held = match &self.held {
+            HeldNumbers::Empty => HeldNumbers::Empty,
+            HeldNumbers::One(number) => HeldNumbers::One(*number),
+            HeldNumbers::Several(numbers) => {
+                let copied = numbers.as_ref().clone()?;
+                HeldNumbers::Several(Box::new(alloc, copied)?)
+            }
+        };
+        Ok(Numbers { held })
     }
 
     /// Takes the number at a place away.
@@ -73,15 +112,65 @@ impl Numbers {
         requires { place < length self.old }
         ensures { self.new ≡ take place self.old ++ drop (place + 1) self.old }
     {
-        self.numbers.remove(place);
+        match replace(&mut self.held, HeldNumbers::Empty) {
+            HeldNumbers::Empty => (),
+            HeldNumbers::One(_) => (),
+            HeldNumbers::Several(numbers) => {
+                let mut numbers = numbers;
+                remove_one(numbers.as_mut(), place);
+                self.held = HeldNumbers::Several(numbers);
+            }
+        }
     }
 
     /// Takes the last number away.
     fn drop_last(&mut self)
         ensures { self.new ≡ take (length self.old - 1) self.old }
     {
-        self.numbers.pop();
+        match replace(&mut self.held, HeldNumbers::Empty) {
+            HeldNumbers::Empty => (),
+            HeldNumbers::One(_) => (),
+            HeldNumbers::Several(numbers) => {
+                let mut numbers = numbers;
+                pop_one(numbers.as_mut());
+                self.held = HeldNumbers::Several(numbers);
+            }
+        }
     }
+}
+
+/// Two numbers.
+fn two(alloc: Global, first: u64, second: u64) -> Result<Box<Vec<u64>>, OutOfMemory>
+    ensures { IfOk result (λ numbers. numbers.value.items ≡ first ∷ second ∷ []) }
+{
+    let mut numbers = Vec::with_capacity(alloc, 2)?;
+    numbers.push(first)?;
+    numbers.push(second)?;
+    Ok(Box::new(alloc, numbers)?)
+}
+
+/// Adds a number at the end of a vector; where memory runs out it is as before.
+fn push_one(numbers: &mut Vec<u64>, number: u64) -> Result<(), OutOfMemory>
+    ensures ok { OnOk result (numbers.new.items ≡ numbers.old.items ++ number ∷ []) }
+    ensures err { OnErr result (numbers.new.items ≡ numbers.old.items) }
+{
+    numbers.push(number)?;
+    Ok(())
+}
+
+/// Takes the number at a place of a vector away.
+fn remove_one(numbers: &mut Vec<u64>, place: usize)
+    requires { place < length numbers.old.items }
+    ensures { numbers.new.items ≡ take place numbers.old.items ++ drop (place + 1) numbers.old.items }
+{
+    numbers.remove(place);
+}
+
+/// Takes the last number of a vector away.
+fn pop_one(numbers: &mut Vec<u64>)
+    ensures { numbers.new.items ≡ take (length numbers.old.items - 1) numbers.old.items }
+{
+    numbers.pop();
 }
 
 /// The records of one name and one type, in the order of the zone, and the order number of each.
@@ -109,13 +198,13 @@ impl RecordSet {
 }
 
 /// A copy of a set.
-fn copied_set(set: &RecordSet) -> Result<RecordSet, OutOfMemory>
+fn copied_set(alloc: Global, set: &RecordSet) -> Result<RecordSet, OutOfMemory>
     ensures { IfOk result (λ copy. copy ≡ set.now) }
 {
     Ok(RecordSet {
         rtype: set.rtype,
         records: set.records.copy()?,
-        numbers: set.numbers.copy()?,
+        numbers: set.numbers.copy(alloc)?,
     })
 }
 
@@ -129,7 +218,7 @@ fn new_set(alloc: Global, number: u64, one: Record) -> Result<RecordSet, OutOfMe
     Ok(RecordSet {
         rtype,
         records: Records::from_vec(records),
-        numbers: Numbers::one(alloc, number)?,
+        numbers: Numbers::one(number),
     })
 }
 
@@ -152,7 +241,7 @@ fn put_in_set(
             Ok(Some(old))
         }
         Err(one) => {
-            let pushed = push_both(&mut records, &mut set.numbers, number, one);
+            let pushed = push_both(alloc, &mut records, &mut set.numbers, number, one);
             set.records = Records::from_vec(records);
             pushed?;
             Ok(None)
@@ -180,6 +269,7 @@ fn put_at(
 
 /// Adds a record and its number at the end; where memory runs out both are as before.
 fn push_both(
+    alloc: Global,
     records: &mut Vec<Record>,
     numbers: &mut Numbers,
     number: u64,
@@ -190,7 +280,7 @@ fn push_both(
     ensures same_records { OnErr result (records.new.items ≡ records.old.items) }
     ensures same_numbers { OnErr result (numbers.new ≡ numbers.old) }
 {
-    numbers.push(number)?;
+    numbers.push(alloc, number)?;
     if records.push(one).is_err() {
         numbers.drop_last();
         return Err(OutOfMemory);
@@ -348,7 +438,7 @@ impl OwnerSets {
     {
         let mut sets = Vec::with_capacity(alloc, self.sets.len())?;
         for set in &self.sets {
-            sets.push(copied_set(set)?)?;
+            sets.push(copied_set(alloc, set)?)?;
         }
         Ok(OwnerSets { sets })
     }

@@ -1,6 +1,6 @@
 //! The map of a zone: from names to their sets of records.
 
-ghost use Rattle.std.specs.Prelude.{◌≡◌, ◌&&◌, ◌+◌, ◌<◌, ◌≤◌, ◌^◌, [], length, drop, filter, not, None, IfOk, IfSome, OnOk, OnErr};
+ghost use Rattle.std.specs.Prelude.{◌≡◌, ◌&&◌, ◌+◌, ◌<◌, ◌≤◌, ◌^◌, [], length, take, drop, filter, not, None, IfOk, IfSome, OnOk, OnErr};
 ghost use Rattle.std.specs.Option.{option_copied, IsSome};
 ghost use Rattle.std.specs.Map.{lookup};
 ghost use Rattle.std.specs.List.{list_any, starts_with, AllByRecursion};
@@ -19,16 +19,15 @@ ghost use Rattle.dns_zone_map.specs.Tree.{in_entries};
 ghost use Rattle.dns_zone_map.specs.Insertion.{PutUnder};
 
 use crate::former::{Undoing, keep_former, put_all_back, sweep, sweep_unless};
-use crate::key::{ZoneKey, write_front, write_key, write_star};
+use crate::key::{ZoneKey, write_key, write_star};
 use crate::listing::in_order;
+use crate::names::Names;
 use crate::sets::{OwnerSets, RecordSet, is_kept_type};
-use crate::sweeping::{add_name, sets_at};
 use dns_io::OutOfMemory;
 use dns_name::Name;
 use dns_wire::record_type::SOA;
 use dns_wire::{Data, Record, Records};
 use std::alloc::Global;
-use std::collections::BTreeMap;
 use std::marker::Model;
 use std::mem::replace;
 
@@ -42,7 +41,7 @@ pub struct ZoneMap {
     alloc: Global,
     origin: Name,
     /// The sets of each name that owns records, by the name's key.
-    names: BTreeMap<Vec<u8>, OwnerSets>,
+    names: Names,
     /// A number above those of all records.
     next: u64,
     /// How many records there are.
@@ -59,26 +58,27 @@ impl Model for ZoneMap {
 
     ghost Value = { Mapped };
 
-    ghost view = { λ z. record { origin = z.origin; records = list_of (in_entries z.names.entries); before = before_of z.undoing z.names.entries } };
+    ghost view = { λ z. record { origin = z.origin; records = list_of (in_entries z.names); before = before_of z.undoing z.names } };
 
-    ghost invariant = { λ z. IsMap z.origin z.names.entries z.next z.count z.undoing };
+    ghost invariant = { λ z. IsMap z.origin z.names z.next z.count z.undoing };
 }
 
 impl ZoneMap {
-    /// A map of no records, for names at the origin or below it.
-    pub fn new(alloc: Global, origin: Name) -> ZoneMap
-        ensures origin { result.origin ≡ origin }
-        ensures records { result.records ≡ [] }
-        ensures before { result.before ≡ None }
+    /// A map of no records, for names at the origin or below it. It is laid out for about this many names: it may get more,
+    /// which are then found more slowly.
+    pub fn new(alloc: Global, origin: Name, names: usize) -> Result<ZoneMap, OutOfMemory>
+        ensures origin { IfOk result (λ map. map.origin ≡ origin) }
+        ensures records { IfOk result (λ map. map.records ≡ []) }
+        ensures before { IfOk result (λ map. map.before ≡ None) }
     {
-        ZoneMap {
+        Ok(ZoneMap {
             alloc,
             origin,
-            names: BTreeMap::new(alloc),
+            names: Names::new(alloc, names)?,
             next: 0,
             count: 0,
             undoing: None,
-        }
+        })
     }
 
     /// From here on changes can be undone, back to here.
@@ -168,10 +168,10 @@ impl ZoneMap {
         ensures before { self.new.before ≡ self.old.before }
         ensures err { OnErr result (self.new ≡ self.old) }
     {
-        let _ordered = self.names.len();
+        let _apart = self.names.tree_count();
         keep_former(alloc, &mut self.names, &mut self.undoing, b"")?;
-        let _still_ordered = self.names.len();
-        set_serial_at(alloc, &mut self.names, b"", serial);
+        let _still_apart = self.names.tree_count();
+        self.names.set_serial_at(alloc, b"", serial);
         Ok(())
     }
 
@@ -244,10 +244,10 @@ impl ZoneMap {
         let mut room = [0u8; 255];
         let start = write_key(&self.origin, &one.name, &mut room);
         let key = behind(&room, start);
-        let _ordered = self.names.len();
+        let _apart = self.names.tree_count();
         keep_former(alloc, &mut self.names, &mut self.undoing, key)?;
-        let _still_ordered = self.names.len();
-        match put_under(alloc, &mut self.names, key, self.next, one)? {
+        let _still_apart = self.names.tree_count();
+        match self.names.put_under(alloc, key, self.next, one)? {
             Some(old) => Ok(Some(old)),
             None => {
                 self.next += 1;
@@ -270,13 +270,13 @@ impl ZoneMap {
         let mut room = [0u8; 255];
         let start = write_key(&self.origin, name, &mut room);
         let key = behind(&room, start);
-        let _ordered = self.names.len();
+        let _apart = self.names.tree_count();
         keep_former(alloc, &mut self.names, &mut self.undoing, key)?;
-        let _still_ordered = self.names.len();
-        match take_from(&mut self.names, key, rtype) {
+        let _still_apart = self.names.tree_count();
+        match self.names.take_from(key, rtype) {
             None => (),
             Some(set) => {
-                self.count -= set.records.len();
+                self.count -= record_count(set);
                 sweep_unless(&mut self.names, &self.undoing, key);
             }
         }
@@ -296,10 +296,10 @@ impl ZoneMap {
         let mut room = [0u8; 255];
         let start = write_key(&self.origin, name, &mut room);
         let key = behind(&room, start);
-        let _ordered = self.names.len();
+        let _apart = self.names.tree_count();
         keep_former(alloc, &mut self.names, &mut self.undoing, key)?;
-        let _still_ordered = self.names.len();
-        match clear_from(alloc, &mut self.names, key) {
+        let _still_apart = self.names.tree_count();
+        match self.names.clear_from(alloc, key) {
             None => (),
             Some(sets) => {
                 self.count -= sets.record_count();
@@ -330,10 +330,10 @@ impl ZoneMap {
         let mut room = [0u8; 255];
         let start = write_key(&self.origin, &one.name, &mut room);
         let key = behind(&room, start);
-        let _ordered = self.names.len();
+        let _apart = self.names.tree_count();
         keep_former(alloc, &mut self.names, &mut self.undoing, key)?;
-        let _still_ordered = self.names.len();
-        match one_from(alloc, &mut self.names, key, one) {
+        let _still_apart = self.names.tree_count();
+        match self.names.one_from(alloc, key, one) {
             None => Ok(None),
             Some(taken) => {
                 self.count -= 1;
@@ -394,10 +394,10 @@ impl ZoneMap {
         ensures before { self.new.before ≡ self.old.before }
         ensures err { OnErr result (self.new ≡ self.old) }
     {
-        let _ordered = self.names.len();
+        let _apart = self.names.tree_count();
         keep_former(alloc, &mut self.names, &mut self.undoing, b"")?;
-        let _still_ordered = self.names.len();
-        match free_from(&mut self.names, b"") {
+        let _still_apart = self.names.tree_count();
+        match self.names.free_from(b"") {
             None => Ok(0),
             Some(gone) => {
                 self.count -= gone;
@@ -415,7 +415,8 @@ impl ZoneMap {
         if !name.at_or_below(&self.origin) {
             return None;
         }
-        let key = ZoneKey::new(&self.origin, name);
+        let mut room = [0u8; 255];
+        let key = ZoneKey::new(&self.origin, name, &mut room);
         let sets = self.sets(&key, 0)?;
         let set = sets.set(rtype)?;
         Some(set.records())
@@ -429,60 +430,44 @@ impl ZoneMap {
         ensures sets { AreSetsOf self.now.records (drop labels_dropped key.now.name) (sets_or_none (option_copied result)) }
         ensures some { IfSome result (λ sets. 0 < length sets.now) }
     {
-        let _ordered = self.names.len();
-        sets_at(&self.names, key.above(labels_dropped))
+        let _apart = self.names.tree_count();
+        self.names.sets_at(key.above(labels_dropped))
     }
 
     /// Whether the name without its first `labels_dropped` labels exists: it owns records, or a name below it does (RFC
-    /// 4592 2.2.2). The key that is sought is written into `probe`, whatever that holds.
-    pub fn exists(
-        &self,
-        key: &ZoneKey<'_>,
-        labels_dropped: usize,
-        probe: &mut Vec<u8>,
-    ) -> Result<bool, OutOfMemory>
+    /// 4592 2.2.2). Takes memory at most where the first label below the origin has many names under it.
+    pub fn exists(&self, key: &ZoneKey<'_>, labels_dropped: usize) -> Result<bool, OutOfMemory>
         requires origin { key.now.origin ≡ self.now.origin }
         requires labels { length self.now.origin + labels_dropped ≤ length key.now.name }
         ensures { IfOk result (λ there. there ≡ exists self.now.records (drop labels_dropped key.now.name)) }
     {
-        let _entries = &self.names;
-        write_front(probe, key.above(labels_dropped))?;
-        Ok(is_begun(&self.names, probe))
+        self.names.is_begun(self.alloc, key.above(labels_dropped))
     }
 
     /// The sets of the label `*` under the name without its first `labels_dropped` labels (RFC 4592 2.1.1): none exactly
-    /// where it owns no records. The key that is sought is written into `probe`, whatever that holds.
-    pub fn star_sets(
-        &self,
-        key: &ZoneKey<'_>,
-        labels_dropped: usize,
-        probe: &mut Vec<u8>,
-    ) -> Result<Option<&OwnerSets>, OutOfMemory>
+    /// where it owns no records. Takes no memory.
+    pub fn star_sets(&self, key: &ZoneKey<'_>, labels_dropped: usize) -> Option<&OwnerSets>
         requires origin { key.now.origin ≡ self.now.origin }
         requires labels { length self.now.origin + labels_dropped ≤ length key.now.name }
-        ensures sets { IfOk result (λ found. AreSetsOf self.now.records (star_above labels_dropped key.now.name) (sets_or_none (option_copied found))) }
-        ensures some { IfOk result (λ found. IfSome found (λ sets. 0 < length sets.now)) }
+        ensures sets { AreSetsOf self.now.records (star_above labels_dropped key.now.name) (sets_or_none (option_copied result)) }
+        ensures some { IfSome result (λ sets. 0 < length sets.now) }
     {
-        let _ordered = self.names.len();
-        write_star(probe, key.above(labels_dropped))?;
-        Ok(sets_at(&self.names, probe.as_slice()))
+        let _apart = self.names.tree_count();
+        let mut room = [0u8; 257];
+        let end = write_star(&mut room, key.above(labels_dropped));
+        self.names.sets_at(front_of(&room, end))
     }
 
-    /// Whether the label `*` under the name without its first `labels_dropped` labels exists (RFC 4592 2.1.1, 2.2.2). The
-    /// key that is sought is written into `probe`, whatever that holds.
-    pub fn star_exists(
-        &self,
-        key: &ZoneKey<'_>,
-        labels_dropped: usize,
-        probe: &mut Vec<u8>,
-    ) -> Result<bool, OutOfMemory>
+    /// Whether the label `*` under the name without its first `labels_dropped` labels exists (RFC 4592 2.1.1, 2.2.2). Takes
+    /// memory as `exists` does.
+    pub fn star_exists(&self, key: &ZoneKey<'_>, labels_dropped: usize) -> Result<bool, OutOfMemory>
         requires origin { key.now.origin ≡ self.now.origin }
         requires labels { length self.now.origin + labels_dropped ≤ length key.now.name }
         ensures { IfOk result (λ there. there ≡ exists self.now.records (star_above labels_dropped key.now.name)) }
     {
-        let _entries = &self.names;
-        write_star(probe, key.above(labels_dropped))?;
-        Ok(is_begun(&self.names, probe))
+        let mut room = [0u8; 257];
+        let end = write_star(&mut room, key.above(labels_dropped));
+        self.names.is_begun(self.alloc, front_of(&room, end))
     }
 }
 
@@ -500,7 +485,7 @@ fn numbered_anew(alloc: Global, origin: &Name, records: Records) -> Result<ZoneM
     ensures records { IfOk result (λ map. map.records ≡ records) }
     ensures before { IfOk result (λ map. map.before ≡ None) }
 {
-    let mut anew = ZoneMap::new(alloc, origin.copy()?);
+    let mut anew = ZoneMap::new(alloc, origin.copy()?, records.len())?;
     for one in records.into_vec() {
         anew.put_again(alloc, one)?;
     }
@@ -526,121 +511,25 @@ fn serial_or(rdata: &Data) -> u32
     }
 }
 
+/// How many records a set has.
+fn record_count(set: RecordSet) -> usize
+    ensures { result ≡ length set.records }
+{
+    set.records.len()
+}
+
+/// The bytes before a place.
+fn front_of(bytes: &[u8], end: usize) -> &[u8]
+    requires { end ≤ length bytes.now }
+    ensures { result.now ≡ take end bytes.now }
+{
+    &bytes[..end]
+}
+
 /// The bytes from a place on.
 fn behind(bytes: &[u8], start: usize) -> &[u8]
     requires { start ≤ length bytes.now }
     ensures { result.now ≡ drop start bytes.now }
 {
     &bytes[start..]
-}
-
-/// Puts a record of the name with this key in the place of its rival, which is given back, or at the end of its set with
-/// the number; where memory runs out the names are as before.
-fn put_under(
-    alloc: Global,
-    names: &mut BTreeMap<Vec<u8>, OwnerSets>,
-    key: &[u8],
-    number: u64,
-    one: Record,
-) -> Result<Option<Record>, OutOfMemory>
-    requires { AllByRecursion (λ e. TypesRise e.1) names.old.entries }
-    ensures put { IfOk result (λ old. PutUnder key.now number one names.old.entries names.new.entries old) }
-    ensures others { IsSome (lookup (is_key key.now) names.old.entries) → blanked key.now names.new.entries ≡ blanked key.now names.old.entries }
-    ensures err { OnErr result (names.new.entries ≡ names.old.entries) }
-{
-    match names.get_mut(key) {
-        Some(sets) => sets.put(alloc, number, one),
-        None => {
-            let sets = OwnerSets::one(alloc, number, one)?;
-            add_name(alloc, names, key, sets)?;
-            Ok(None)
-        }
-    }
-}
-
-/// Takes a set away from the name with this key, which stays.
-fn take_from(names: &mut BTreeMap<Vec<u8>, OwnerSets>, key: &[u8], rtype: u16) -> Option<RecordSet>
-    requires { AllByRecursion (λ e. TypesRise e.1) names.old.entries }
-    ensures is { IsTakenFrom key.now rtype names.old.entries names.new.entries result }
-    ensures others { blanked key.now names.new.entries ≡ blanked key.now names.old.entries }
-{
-    match names.get_mut(key) {
-        None => None,
-        Some(sets) => sets.take(rtype),
-    }
-}
-
-/// Takes all sets away from the name with this key, which stays.
-fn clear_from(
-    alloc: Global,
-    names: &mut BTreeMap<Vec<u8>, OwnerSets>,
-    key: &[u8],
-) -> Option<OwnerSets>
-    ensures is { IsClearedFrom key.now names.old.entries names.new.entries result }
-    ensures others { blanked key.now names.new.entries ≡ blanked key.now names.old.entries }
-{
-    match names.get_mut(key) {
-        None => None,
-        Some(sets) => Some(replace(sets, OwnerSets::none(alloc))),
-    }
-}
-
-/// Takes all sets but those of the SOA and of NS records away from the name with this key, which stays; gives how many
-/// records went.
-fn free_from(names: &mut BTreeMap<Vec<u8>, OwnerSets>, key: &[u8]) -> Option<usize>
-    requires paired { AllByRecursion (λ e. ArePaired e.1) names.old.entries }
-    requires few { length (in_entries names.old.entries) < 2 ^ 64 }
-    ensures is { IsFreedFrom key.now names.old.entries names.new.entries result }
-    ensures others { blanked key.now names.new.entries ≡ blanked key.now names.old.entries }
-{
-    match names.get_mut(key) {
-        None => None,
-        Some(sets) => Some(sets.take_free()),
-    }
-}
-
-/// Takes the record that is equal to this one away from the name with this key, which stays.
-fn one_from(
-    alloc: Global,
-    names: &mut BTreeMap<Vec<u8>, OwnerSets>,
-    key: &[u8],
-    one: &Record,
-) -> Option<Record>
-    requires rise { AllByRecursion (λ e. TypesRise e.1) names.old.entries }
-    requires paired { AllByRecursion (λ e. ArePaired e.1) names.old.entries }
-    ensures is { IsOneTakenFrom key.now one.now names.old.entries names.new.entries result }
-    ensures others { blanked key.now names.new.entries ≡ blanked key.now names.old.entries }
-{
-    match names.get_mut(key) {
-        None => None,
-        Some(sets) => sets.take_one(alloc, one),
-    }
-}
-
-/// Gives the SOA of the name with this key this serial, if it owns one.
-fn set_serial_at(alloc: Global, names: &mut BTreeMap<Vec<u8>, OwnerSets>, key: &[u8], serial: u32)
-    requires { AllByRecursion (λ e. TypesRise e.1) names.old.entries }
-    ensures is { IsSerialSetAt key.now serial names.old.entries names.new.entries }
-    ensures others { blanked key.now names.new.entries ≡ blanked key.now names.old.entries }
-{
-    match names.get_mut(key) {
-        None => (),
-        Some(sets) => sets.set_serial(alloc, serial),
-    }
-}
-
-/// Whether a key of the map begins with this one at which there are sets. The keys that begin with it follow it at once; only
-/// names whose last sets were taken by a change that may still be undone are passed over.
-fn is_begun(names: &BTreeMap<Vec<u8>, OwnerSets>, key: &Vec<u8>) -> bool
-    ensures { result ≡ list_any (λ e. starts_with eqb e.0.items key.now.items && are_some e.1) names.now.entries }
-{
-    for (next, sets) in names.range(key..) {
-        if !next.starts_with(key) {
-            return false;
-        }
-        if sets.is_some() {
-            return true;
-        }
-    }
-    false
 }

@@ -8,15 +8,15 @@ use Rattle.dns_update.proofs.ReplayZones.{none_so_far}
 use Rattle.dns_zone.specs.Replaying.{TellsEnd}
 use Rattle.dns_zone.proofs.replaying.take_row.Goals as goal
 
-pub returns-in_ok-origin-in-Snapshot-clause-so_far : goal.returns-in_ok-origin-in-Snapshot-clause-so_far
-returns-in_ok-origin-in-Snapshot-clause-so_far c = subst (IsSoFar c.new.result.origin) (sym c.new.ensures.records) (none_so_far c.new.result.origin)
+pub returns-in_ok-anew-in-Snapshot-clause-so_far : goal.returns-in_ok-anew-in-Snapshot-clause-so_far
+returns-in_ok-anew-in-Snapshot-clause-so_far c = subst (IsSoFar c.in_ok-anew-in-Snapshot.anew.origin) (sym c.in_ok-anew-in-Snapshot.ensures.records) (none_so_far c.in_ok-anew-in-Snapshot.anew.origin)
 
-pub returns-in_ok-origin-in-Snapshot-clause-taken : goal.returns-in_ok-origin-in-Snapshot-clause-taken
-returns-in_ok-origin-in-Snapshot-clause-taken c =
+pub returns-in_ok-anew-in-Snapshot-clause-taken : goal.returns-in_ok-anew-in-Snapshot-clause-taken
+returns-in_ok-anew-in-Snapshot-clause-taken c =
     let z = c.args.map.now in
     let does : Does z.origin c.args.place c.args.row.now Snapshot =
     subst (Does z.origin c.args.place c.args.row.now) c.in-Snapshot.is (subst (λ (o : List (List ℕ)). Does o c.args.place c.args.row.now c.in_ok-read_row.field-0) c.origin.ensures c.in_ok-read_row.ensures) in
-    subst (λ (l : List Record). RunsTo z.origin c.args.place z.records (c.args.row.now ∷ []) (Ok l)) (sym c.new.ensures.records) (does z.records)
+    subst (λ (l : List Record). RunsTo z.origin c.args.place z.records (c.args.row.now ∷ []) (Ok l)) (sym c.in_ok-anew-in-Snapshot.ensures.records) (does z.records)
 
 pub returns-in_ok-change-in-Change-clause-taken : goal.returns-in_ok-change-in-Change-clause-taken
 returns-in_ok-change-in-Change-clause-taken c =

@@ -14,13 +14,13 @@ loop-map-init c =
     let name : IsName c.args.origin = subst IsName c.in_ok-copy.ensures c.new-context.ensures.name in
     record {
       counted = omega arith;
-      under = c.new-map.ensures.origin;
+      under = c.in_ok-map.ensures.origin;
       sound = subst IsSound (sym first) (IsSound-first c.args.origin c.requires name);
-      so_far = subst (IsSoFar c.new-map.result.origin) (sym c.new-map.ensures.records) (IsSoFar-none c.new-map.result.origin);
-      settled = c.new-map.ensures.before;
+      so_far = subst (IsSoFar c.in_ok-map.map.origin) (sym c.in_ok-map.ensures.records) (IsSoFar-none c.in_ok-map.map.origin);
+      settled = c.in_ok-map.ensures.before;
       left =
-          ap (λ context. records_from c.new-map.result.origin context c.new-map.result.records (logical_lines 1 c.args.text.now)) (first ∙ ap first_context (sym c.new-map.ensures.origin))
-          ∙ ap (λ records. records_from c.new-map.result.origin (first_context c.new-map.result.origin) records (logical_lines 1 c.args.text.now)) c.new-map.ensures.records;
+          ap (λ context. records_from c.in_ok-map.map.origin context c.in_ok-map.map.records (logical_lines 1 c.args.text.now)) (first ∙ ap first_context (sym c.in_ok-map.ensures.origin))
+          ∙ ap (λ records. records_from c.in_ok-map.map.origin (first_context c.in_ok-map.map.origin) records (logical_lines 1 c.args.text.now)) c.in_ok-map.ensures.records;
     }
 
 pub loop-map-preserved : goal.loop-map-preserved

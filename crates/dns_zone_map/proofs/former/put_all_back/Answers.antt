@@ -1,6 +1,5 @@
 use Rattle.std.proofs.Common.{◌≡◌, ◌∙◌, ◌-◌, ◌<◌, sym, ap, arith, rules, take}
 use Rattle.dns_zone_map.specs.Former.{restored}
-use Rattle.dns_zone_map.proofs.Lent.{apart_sorted}
 use Rattle.dns_zone_map.proofs.Formers.{next_back, all_given}
 use Rattle.dns_zone_map.proofs.former.put_all_back.Goals as goal
 
@@ -11,7 +10,7 @@ loop-left-preserved c =
     record {
       within = omega (arith, was.invariant.within, c.put_back_at.ensures.long);
       same =
-          next_back was.formers.items c.put_back_at.new.formers.items was.names.entries c.put_back_at.new.names.entries (was.left - 1) was.left (omega (arith, some)) was.invariant.within (apart_sorted was.names.entries c.len-ordered.ensures.ordered)
+          next_back was.formers.items c.put_back_at.new.formers.items was.names c.put_back_at.new.names (was.left - 1) was.left (omega (arith, some)) was.invariant.within c.tree_count-apart.ensures
           c.put_back_at.ensures.names c.put_back_at.ensures.before
           ∙ was.invariant.same;
     }
@@ -20,4 +19,4 @@ pub returns : goal.returns
 returns c =
     let was = c.loop-left in
     let none : 0 ≡ was.left = omega (arith, c.loop-left-test.false) in
-    sym (all_given was.names.entries) ∙ ap (λ n. restored (take n was.formers.items) was.names.entries) none ∙ was.invariant.same
+    sym (all_given was.names) ∙ ap (λ n. restored (take n was.formers.items) was.names) none ∙ was.invariant.same

@@ -5,7 +5,7 @@ use Rattle.dns_zone_map.proofs.former.put_all_back.Given as goal
 abbrev pub invariant-loop-left : goal.invariant-loop-left
 invariant-loop-left l = record {
   within : l.left ≤ length l.formers.items;
-  same : restored (take l.left l.formers.items) l.names.entries ≡ restored l.fn.formers.items l.fn.names.entries;
+  same : restored (take l.left l.formers.items) l.names ≡ restored l.fn.formers.items l.fn.names;
 }
 
 abbrev pub decreases-loop-left : goal.decreases-loop-left

@@ -8,7 +8,7 @@ use Rattle.dns_zone_map.proofs.listing.in_order.Goals as goal
 
 pub returns : goal.returns
 returns c =
-    let all : c.push_all.new.all.items ≡ in_entries c.args.names.now.entries = c.in_ok-push_all.ensures ∙ ap (λ (xs : List Numbered). xs ++ in_entries c.args.names.now.entries) c.in_ok-all.ensures.items in
+    let all : c.push_all.new.all.items ≡ in_entries c.args.names.now = c.in_ok-push_all.ensures ∙ ap (λ (xs : List Numbered). xs ++ in_entries c.args.names.now) c.in_ok-all.ensures.items in
     subst (λ (xs : List Numbered). IfOk c.copied.result (λ records. records ≡ list_of xs)) all
     (listed_is c.push_all.new.all.items c.sort_by_key.new.self.items c.copied.result
     (IsNonDecreasingBy-from_sort_by_key (λ (y : Numbered). y.number) c.sort_by_key.new.self.items c.in_ok-sort_by_key.ensures.sorted (λ a r q k. search rules))

@@ -1,18 +1,18 @@
-use Rattle.std.proofs.Common.{◌≡◌, ◌∙◌, ◌++◌, ap, sym, subst, List}
+use Rattle.std.proofs.Common.{◌≡◌, ◌∙◌, ◌++◌, ap, sym, subst, List, ℕ}
 use Rattle.dns_wire.specs.declared.record.Record.{Record}
-use Rattle.dns_zone_map.specs.Zone.{IsSoFar}
-use Rattle.dns_zone_map.proofs.Anew.{next_end, none_so_far}
+use Rattle.dns_zone_map.specs.Zone.{IsEntry, IsSoFar}
+use Rattle.dns_zone_map.proofs.Anew.{next_end, next_entry, none_so_far}
 use Rattle.dns_zone_map.proofs.zone_map.numbered_anew.Goals as goal
 
 pub loop-one-init : goal.loop-one-init
 loop-one-init c =
     let given : c.into_iter-one-iterator.result.rest.items ≡ c.args.records = c.into_iter-one-iterator.ensures.into_iter_gives.0 ∙ c.into_vec-one-items.ensures in
-    let rest : c.new-anew.result.records ++ c.into_iter-one-iterator.result.rest.items ≡ c.args.records = ap (λ (rs : List Record). rs ++ c.into_iter-one-iterator.result.rest.items) c.new-anew.ensures.records ∙ given in
+    let rest : c.in_ok-anew.anew.records ++ c.into_iter-one-iterator.result.rest.items ≡ c.args.records = ap (λ (rs : List Record). rs ++ c.into_iter-one-iterator.result.rest.items) c.in_ok-anew.ensures.records ∙ given in
     record {
-      top = c.new-anew.ensures.origin ∙ c.in_ok-copy.ensures;
-      some = subst (IsSoFar c.new-anew.result.origin) (sym c.new-anew.ensures.records) (none_so_far c.new-anew.result.origin);
+      top = c.in_ok-anew.ensures.origin ∙ c.in_ok-copy.ensures;
+      some = subst (IsSoFar c.in_ok-anew.anew.origin) (sym c.in_ok-anew.ensures.records) (none_so_far c.in_ok-anew.anew.origin);
       all = subst (IsSoFar c.args.origin.now) (sym rest) c.requires;
-      alone = c.new-anew.ensures.before;
+      alone = c.in_ok-anew.ensures.before;
       rest = rest;
     }
 
@@ -30,3 +30,9 @@ loop-one-preserved c =
       alone = c.in_ok-put_again.ensures.before ∙ was.alone;
       rest = rest;
     }
+
+pub put_again-requires-clause-entry : goal.put_again-requires-clause-entry
+put_again-requires-clause-entry c =
+    let was = c.loop-one.invariant in
+    let all = subst (λ (rs : List Record). IsSoFar c.args.origin.now (c.loop-one.anew.records ++ rs)) c.in-Some.ensures.steps.0 was.all in
+    subst (λ (o : List (List ℕ)). IsEntry o c.in-Some.one) (sym was.top) (next_entry c.args.origin.now c.loop-one.anew.records c.next.new.self.rest.items c.in-Some.one all)

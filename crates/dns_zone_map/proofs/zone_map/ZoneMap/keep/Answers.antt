@@ -4,4 +4,4 @@ use Rattle.dns_zone_map.proofs.Reverting.{kept_map}
 use Rattle.dns_zone_map.proofs.zone_map.ZoneMap.keep.Goals as goal
 
 pub invariant_of-self-in-Some : goal.invariant_of-self-in-Some
-invariant_of-self-in-Some c = subst (IsMap c.self.inside.origin c.sweep.new.names.entries c.self.inside.next c.self.inside.count) (sym c.replace.ensures.after) (kept_map c.self.inside.origin c.self.inside.names.entries c.self.inside.next c.self.inside.count c.self.inside.undoing c.self.invariant c.sweep.new.names.entries c.sweep.ensures)
+invariant_of-self-in-Some c = subst (IsMap c.self.inside.origin c.sweep.new.names c.self.inside.next c.self.inside.count) (sym c.replace.ensures.after) (kept_map c.self.inside.origin c.self.inside.names c.self.inside.next c.self.inside.count c.self.inside.undoing c.self.invariant c.sweep.new.names c.sweep.ensures)

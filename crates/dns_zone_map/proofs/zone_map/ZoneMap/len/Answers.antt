@@ -4,4 +4,4 @@ use Rattle.dns_zone_map.proofs.Reading.{count_is}
 use Rattle.dns_zone_map.proofs.zone_map.ZoneMap.len.Goals as goal
 
 pub returns : goal.returns
-returns c = count_is c.self.inside.origin c.self.inside.names.entries _ (contents c.args.self.now) (ap contents c.self.view_is) c.self.invariant.tree.counted
+returns c = count_is c.self.inside.origin c.self.inside.names _ (contents c.args.self.now) (ap contents c.self.view_is) c.self.invariant.tree.counted

@@ -1,10 +1,15 @@
-use Rattle.std.proofs.Common.{drop, ◌∷◌, [], ap}
+use Rattle.std.proofs.Common.{drop, ◌∷◌, [], ap, ◌∙◌}
 use Rattle.dns_zone_map.specs.Keys.{star_above}
 use Rattle.dns_zone_map.specs.Mapped.{contents}
-use Rattle.dns_zone_map.proofs.Reading.{there_at}
+use Rattle.dns_zone_map.proofs.Begun.{whole_star}
+use Rattle.dns_zone_map.proofs.Reading.{there_ok}
 use Rattle.dns_zone_map.proofs.Written.{star_key, within_below}
 use Rattle.dns_zone_map.proofs.zone_map.ZoneMap.star_exists.Goals as goal
 
+pub is_begun-requires : goal.is_begun-requires
+is_begun-requires c = whole_star c.args.key.now.origin (drop c.args.labels_dropped c.args.key.now.name) _ _ c.above.ensures.key (c.front_of.ensures ∙ c.write_star-end.ensures.key)
+
 pub returns : goal.returns
 returns c =
-    there_at c.self.inside.origin c.self.inside.names.entries _ _ (contents c.args.self.now) c.args.key.now (ap contents c.self.view_is) c.self.invariant.tree c.requires.origin (star_above c.args.labels_dropped c.args.key.now.name) (within_below c.args.key.now.origin (drop c.args.labels_dropped c.args.key.now.name) (42 ∷ []) c.above.ensures.within) _ _ (star_key c.args.key.now.origin (drop c.args.labels_dropped c.args.key.now.name) _ _ c.above.ensures.within c.above.ensures.key c.in_ok-write_star.ensures) c.is_begun.ensures
+    there_ok c.self.inside.origin c.self.inside.names _ _ (contents c.args.self.now) c.args.key.now (ap contents c.self.view_is) c.self.invariant.tree c.requires.origin (star_above c.args.labels_dropped c.args.key.now.name) (within_below c.args.key.now.origin (drop c.args.labels_dropped c.args.key.now.name) (42 ∷ []) c.above.ensures.within) _ c.is_begun.result
+    (star_key c.args.key.now.origin (drop c.args.labels_dropped c.args.key.now.name) _ _ c.above.ensures.within c.above.ensures.key (c.front_of.ensures ∙ c.write_star-end.ensures.key)) c.is_begun.ensures

@@ -7,5 +7,5 @@ use Rattle.dns_zone_map.proofs.zone_map.ZoneMap.star_sets.Goals as goal
 
 pub returns-clause-sets : goal.returns-clause-sets
 returns-clause-sets c =
-    sets_at c.self.inside.origin c.self.inside.names.entries _ _ (contents c.args.self.now) c.args.key.now (ap contents c.self.view_is) c.self.invariant.tree c.requires.origin (star_above c.args.labels_dropped c.args.key.now.name) (within_below c.args.key.now.origin (drop c.args.labels_dropped c.args.key.now.name) (42 ∷ []) c.above.ensures.within) _ c.sets_at.result c.len-ordered.ensures.ordered
-    (star_key c.args.key.now.origin (drop c.args.labels_dropped c.args.key.now.name) _ _ c.above.ensures.within c.above.ensures.key (c.as_slice.ensures.value ∙ c.in_ok-write_star.ensures)) c.sets_at.ensures.sets
+    sets_at c.self.inside.origin c.self.inside.names _ _ (contents c.args.self.now) c.args.key.now (ap contents c.self.view_is) c.self.invariant.tree c.requires.origin (star_above c.args.labels_dropped c.args.key.now.name) (within_below c.args.key.now.origin (drop c.args.labels_dropped c.args.key.now.name) (42 ∷ []) c.above.ensures.within) _ c.sets_at.result c.tree_count-apart.ensures
+    (star_key c.args.key.now.origin (drop c.args.labels_dropped c.args.key.now.name) _ _ c.above.ensures.within c.above.ensures.key (c.front_of.ensures ∙ c.write_star-end.ensures.key)) c.sets_at.ensures.sets

@@ -1,0 +1,25 @@
+use Rattle.std.proofs.Common.{rules}
+use Rattle.dns_zone_map.proofs.Table.{found_tree}
+use Rattle.dns_zone_map.proofs.Lifted.{cleared, table_cleared, others}
+use Rattle.dns_zone_map.proofs.names.Names.clear_from.Goals as goal
+
+pub invariant_of-self : goal.invariant_of-self
+invariant_of-self c =
+    let ts = c.self.inside.trees.items in
+    let t = c.index_mut-tree.result.now in
+    let p = found_tree ts c.args.key.now c.len.result c.place_of-place.result t c.self.invariant (search rules) c.place_of-place.ensures.is c.place_of-place.ensures.within (search rules) in
+    table_cleared ts t c.clear_from.new.names c.args.key.now c.place_of-place.result p _ c.self.view_is c.clear_from.result c.clear_from.ensures.is
+
+pub returns-clause-is : goal.returns-clause-is
+returns-clause-is c =
+    let ts = c.self.inside.trees.items in
+    let t = c.index_mut-tree.result.now in
+    let p = found_tree ts c.args.key.now c.len.result c.place_of-place.result t c.self.invariant (search rules) c.place_of-place.ensures.is c.place_of-place.ensures.within (search rules) in
+    cleared ts t c.clear_from.new.names c.args.key.now c.place_of-place.result p _ c.self.view_is c.clear_from.result c.clear_from.ensures.is
+
+pub returns-clause-others : goal.returns-clause-others
+returns-clause-others c =
+    let ts = c.self.inside.trees.items in
+    let t = c.index_mut-tree.result.now in
+    let p = found_tree ts c.args.key.now c.len.result c.place_of-place.result t c.self.invariant (search rules) c.place_of-place.ensures.is c.place_of-place.ensures.within (search rules) in
+    others ts t c.clear_from.new.names c.args.key.now c.place_of-place.result p _ c.self.view_is c.clear_from.ensures.others

@@ -1,0 +1,41 @@
+use Rattle.std.proofs.Common.{rules, arith}
+use Rattle.dns_zone_map.specs.Sets.{ArePaired}
+use Rattle.dns_zone_map.proofs.Table.{found_tree}
+use Rattle.dns_zone_map.proofs.Lifted.{held_by, fewer, freed, table_freed, others}
+use Rattle.dns_zone_map.proofs.names.Names.free_from.Goals as goal
+
+pub free_from-requires-clause-paired : goal.free_from-requires-clause-paired
+free_from-requires-clause-paired c =
+    let ts = c.self.inside.trees.items in
+    let t = c.index_mut-tree.result.now in
+    let p = found_tree ts c.args.key.now c.len.result c.place_of-place.result t c.self.invariant (search rules) c.place_of-place.ensures.is c.place_of-place.ensures.within (search rules) in
+    held_by ts t t c.args.key.now c.place_of-place.result p _ c.self.view_is (λ e. ArePaired e.1) c.requires.paired
+
+pub free_from-requires-clause-few : goal.free_from-requires-clause-few
+free_from-requires-clause-few c =
+    let ts = c.self.inside.trees.items in
+    let t = c.index_mut-tree.result.now in
+    let p = found_tree ts c.args.key.now c.len.result c.place_of-place.result t c.self.invariant (search rules) c.place_of-place.ensures.is c.place_of-place.ensures.within (search rules) in
+    let l = fewer ts t t c.args.key.now c.place_of-place.result p _ c.self.view_is in
+    omega (arith, l, c.requires.few)
+
+pub invariant_of-self : goal.invariant_of-self
+invariant_of-self c =
+    let ts = c.self.inside.trees.items in
+    let t = c.index_mut-tree.result.now in
+    let p = found_tree ts c.args.key.now c.len.result c.place_of-place.result t c.self.invariant (search rules) c.place_of-place.ensures.is c.place_of-place.ensures.within (search rules) in
+    table_freed ts t c.free_from.new.names c.args.key.now c.place_of-place.result p _ c.self.view_is c.free_from.result c.free_from.ensures.is
+
+pub returns-clause-is : goal.returns-clause-is
+returns-clause-is c =
+    let ts = c.self.inside.trees.items in
+    let t = c.index_mut-tree.result.now in
+    let p = found_tree ts c.args.key.now c.len.result c.place_of-place.result t c.self.invariant (search rules) c.place_of-place.ensures.is c.place_of-place.ensures.within (search rules) in
+    freed ts t c.free_from.new.names c.args.key.now c.place_of-place.result p _ c.self.view_is c.free_from.result c.free_from.ensures.is
+
+pub returns-clause-others : goal.returns-clause-others
+returns-clause-others c =
+    let ts = c.self.inside.trees.items in
+    let t = c.index_mut-tree.result.now in
+    let p = found_tree ts c.args.key.now c.len.result c.place_of-place.result t c.self.invariant (search rules) c.place_of-place.ensures.is c.place_of-place.ensures.within (search rules) in
+    others ts t c.free_from.new.names c.args.key.now c.place_of-place.result p _ c.self.view_is c.free_from.ensures.others
