@@ -37,9 +37,10 @@ impl ReplyBytes {
         ensures { IfOk result (λ bytes. bytes ≡ reply) }
     {
         let mut frame = reply.into_vec();
-        let length = (frame.len() as u16).to_be_bytes();
-        frame.extend_from_slice(&length)?;
-        frame.rotate_right(LENGTH_LEN);
+        let [high, low] = (frame.len() as u16).to_be_bytes();
+        frame.reserve(LENGTH_LEN)?;
+        frame.insert(0, low)?;
+        frame.insert(0, high)?;
         Ok(ReplyBytes { frame })
     }
 
