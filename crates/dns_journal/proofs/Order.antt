@@ -2,7 +2,7 @@
 use Rattle.std.proofs.Common.{◌≡◌, ◌+ℤ◌, ◌-◌, ℤ, pos, List, [], ◌∷◌, length, fold, true, false, Option, Some, None, IsTrue, inl, inr, suc, refl, sym, ap, subst, ◌∙◌, arith, Less, Equal, Greater, Ordering}
 use Rattle.std.specs.List.{AllByRecursion}
 use Rattle.std.specs.Int.Signed.{le_z, ◌<ℤ◌}
-use Rattle.std.specs.Ordering.{int_cmp, is_ge, MatchOrdering}
+use Rattle.std.specs.Ordering.{int_cmp, MatchOrdering}
 use Rattle.std.specs.Cmp.{int_ranks}
 use Rattle.std.proofs.lemmas.Int.{ints}
 use Rattle.std.proofs.lemmas.Bool.{cases_Bool}
@@ -68,14 +68,6 @@ is_less : (a b : ℤ) → int_cmp a b ≡ Less → le_z b a ≡ false
 is_less a b e =
     let below : MatchOrdering Less (a <ℤ b) (a ≡ b) (b <ℤ a) = subst (λ r. MatchOrdering r (a <ℤ b) (a ≡ b) (b <ℤ a)) e (int_ranks a b) in
     grind (arith, ints)
-
-pub ge_is : (a b : ℤ) → is_ge (int_cmp a b) ≡ le_z b a
-ge_is a b = go (int_cmp a b) (int_ranks a b)
-  where
-    go : (r : Ordering) → MatchOrdering r (a <ℤ b) (a ≡ b) (b <ℤ a) → is_ge r ≡ le_z b a
-    go Less m = let it : le_z b a ≡ false = grind (arith, ints) in sym it
-    go Equal m = let it : le_z b a ≡ true = grind (arith, ints) in sym it
-    go Greater m = let it : le_z b a ≡ true = grind (arith, ints) in sym it
 
 above_next : (id : ℤ) (r : Row) (rows : List Row) → le_z r.id id ≡ false → is_below_first r.id rows ≡ true → is_below_first id rows ≡ true
 above_next id r [] e f = refl

@@ -1,13 +1,12 @@
 -- What the query of one row finds of the rows that are told.
-use Rattle.std.proofs.Common.{◌≡◌, ◌&&◌, ℤ, pos, neg_ℤ, ◌^◌, List, [], ◌∷◌, map, filter, take, true, Option, Some, None, IsTrue, inl, inr, refl, sym, ap, subst, ◌∙◌, int_eq}
+use Rattle.std.proofs.Common.{◌≡◌, ◌&&◌, ℤ, pos, neg_ℤ, ◌^◌, List, [], ◌∷◌, map, filter, take, true, Option, Some, None, inl, inr, refl, sym, ap, subst, ◌∙◌, int_eq}
 use Rattle.std.specs.Int.Signed.{le_z}
 use Rattle.std.proofs.lemmas.Bool.{and_parts, cases_Bool}
 use Rattle.sqlite.specs.declared.types.Value.TheVariants.{Null, Int, Text, Blob}
 use Rattle.sqlite.specs.Order.{Row as Stored}
-use Rattle.sqlite.specs.Effect.{Database}
 use Rattle.sqlite.specs.Store.{Ghosts}
 use Rattle.sqlite.specs.Held.{state}
-use Rattle.sqlite.specs.State.{State, HasCleanDisk}
+use Rattle.sqlite.specs.State.{State}
 use Rattle.sqlite_trees.proofs.Doubt.{no_doubt}
 use Rattle.dns_sqlite.specs.Tables.{seen, not_below, HasRow}
 use Rattle.dns_sqlite.proofs.Finds.{first_is, not_below_is}
@@ -15,8 +14,11 @@ use Rattle.dns_keeper.specs.declared.row.Row.{Row}
 use Rattle.dns_keeper.specs.Rows.{first_of, first_from, is_ascending}
 use Rattle.dns_keeper.specs.Keeping.{TellsAscending, IsRowFrom, IsFirstRow}
 use Rattle.dns_journal.specs.Reads.{ReadsAs, FirstReadsAs}
+use Rattle.dns_journal.specs.Stored.{IsStoredFrom}
+use Rattle.dns_journal.specs.Pages.{IsStoredIn}
 use Rattle.dns_journal.specs.Told.{View, is_signed, row_of, rows_of, if_ascending, told, rows_in, told_rows}
-use Rattle.dns_journal.proofs.Order.{row_id, split, ge_is, told_is}
+use Rattle.dns_sqlite.proofs.Pages.{ge_is}
+use Rattle.dns_journal.proofs.Order.{row_id, split, told_is}
 
 -- a row as the query shows it
 abbrev pub shown_row : Row → Stored
@@ -80,18 +82,24 @@ read_is (Some l) found (Some m) f h =
     let row : h.0 ≡ shown_row l = cc in
     ap (λ x. Some x) (same_row l m (subst (λ r. ReadsAs r m) row h.3))
 
-pub row_from_is : (id : ℤ) (old new : State) (found : List Stored) (r : Option Row) → (HasCleanDisk new → IsTrue new.is_open → HasRow id (old.now.trees 1) found × (new.now ≡ old.now)) → FirstReadsAs found r → IsRowFrom (rows_in new) id r
-row_from_is id old new found r h read = elim (cases_Bool (new.is_clean && new.is_open)) [
+row_from_is : (id : ℤ) (s : State) (r : Option Row) → IsStoredIn id s r → IsRowFrom (rows_in s) id r
+row_from_is id s r stored = elim (cases_Bool (s.is_clean && s.is_open)) [
   | inl shows ↦
-      let both = and_parts new.is_clean new.is_open shows in
-      let it = h (no_doubt new.is_clean both.0) both.1 in
-      rw shows (go it (told (new.now.trees 1)) refl)
+      let both = and_parts s.is_clean s.is_open shows in
+      rw shows (go (stored (no_doubt s.is_clean both.0)) (told (s.now.trees 1)) refl)
   | inr hidden ↦ rw hidden tt
 ]
   where
-    go : HasRow id (old.now.trees 1) found × (new.now ≡ old.now) → (o : Option (List Row)) → told (new.now.trees 1) ≡ o → IsRowFrom o id r
+    go : IsStoredFrom id (s.now.trees 1) r → (o : Option (List Row)) → told (s.now.trees 1) ≡ o → IsRowFrom o id r
     go it None e = tt
-    go it (Some rows) e = read_is (first_from id rows) found r (found_told id (old.now.trees 1) found rows (sym (ap (λ (d : Database). told (d.trees 1)) it.1) ∙ e) it.0) read
+    go it (Some rows) e = read_is (first_from id rows) it.0 r (found_told id (s.now.trees 1) it.0 rows e it.1) it.2
+
+-- what is stored is what a journal tells
+pub row_told : {S : Type 0} (g : Ghosts S) (j : View S) (id : ℤ) (r : Option Row) → IsStoredIn id (state g j.conn) r → IsRowFrom (told_rows g j) id r
+row_told g j id r stored = elim (cases_Bool (int_eq j.version (pos 1))) [
+  | inl current ↦ rw current (row_from_is id (state g j.conn) r stored)
+  | inr other ↦ rw other tt
+]
 
 -- ---- what is told ascends
 
@@ -123,7 +131,7 @@ first_told : (o : Option (List Row)) (r : Option Row) → ((rows : List Row) →
 first_told None r h is = tt
 first_told (Some rows) r h is = is ∙ h rows refl
 
-pub first_row_is : (s : State) (r : Option Row) → IsRowFrom (rows_in s) (neg_ℤ (pos (2 ^ 63))) r → IsFirstRow (rows_in s) r
+first_row_is : (s : State) (r : Option Row) → IsRowFrom (rows_in s) (neg_ℤ (pos (2 ^ 63))) r → IsFirstRow (rows_in s) r
 first_row_is s r is = first_told (rows_in s) r shown_rows is
   where
     shown_rows : (rows : List Row) → rows_in s ≡ Some rows → first_from (neg_ℤ (pos (2 ^ 63))) rows ≡ first_of rows
@@ -131,3 +139,9 @@ first_row_is s r is = first_told (rows_in s) r shown_rows is
       | inl shows ↦ first_signed (s.now.trees 1) rows (told_is (s.now.trees 1) rows (rw shows at e)).reads
       | inr hidden ↦ absurd (let it : None ≡ Some rows = rw hidden at e in cc)
     ]
+
+pub first_row_told : {S : Type 0} (g : Ghosts S) (j : View S) (r : Option Row) → IsStoredIn (neg_ℤ (pos (2 ^ 63))) (state g j.conn) r → IsFirstRow (told_rows g j) r
+first_row_told g j r stored = elim (cases_Bool (int_eq j.version (pos 1))) [
+  | inl current ↦ rw current (first_row_is (state g j.conn) r (row_from_is (neg_ℤ (pos (2 ^ 63))) (state g j.conn) r stored))
+  | inr other ↦ rw other tt
+]

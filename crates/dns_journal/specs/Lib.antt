@@ -4,3 +4,4 @@ pub mod Reads
 pub mod Records
 pub mod Opening
 pub mod Stored
+pub mod Pages

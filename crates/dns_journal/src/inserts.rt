@@ -1,15 +1,17 @@
 //! What is added to a journal, and the keeper that it is.
 
-ghost use Rattle.std.specs.Prelude.{◌≡◌, ◌≢◌, ◌<◌, ◌≤◌, ◌^◌, ◌⊎◌, ◌++◌, ◌∷◌, [], neg_ℤ, pos, map, length, Some, Err, IfOk, IfErr, OnOk, OnErr, IsErrOf};
+ghost use Rattle.std.specs.Prelude.{◌≡◌, ◌≢◌, ◌<◌, ◌≤◌, ◌^◌, ◌⊎◌, ◌++◌, ◌∷◌, [], neg_ℤ, pos, map, length, None, Some, Err, IfOk, IfErr, IfSome, OnOk, OnErr, IsErrOf};
 ghost use Rattle.sqlite_trees.specs.View.{doubt};
 ghost use Rattle.sqlite.specs.Held.{state};
+ghost use Rattle.sqlite.specs.State.{HasCleanDisk};
+ghost use Rattle.dns_sqlite.specs.Tables.{HasRows};
 ghost use Rattle.dns_io.specs.Edge.{Keeps, Rose, one_more};
 ghost use Rattle.dns_wire.specs.WireFormat.{record_bytes, IsShort, AreShort};
 ghost use Rattle.dns_keeper.specs.declared.keeper.KeepFault.TheVariants.{Failed, OutOfMemory as NoRoom};
 ghost use Rattle.dns_keeper.specs.Keeping.{GrowsByBatch, TellsAscending, IsRowFrom, IsFirstRow, HasCause};
 ghost use Rattle.dns_keeper.specs.Crash.{IsGrownFrom};
 ghost use Rattle.dns_journal.specs.Told.{told_rows};
-ghost use Rattle.dns_journal.specs.Reads.{FirstReadsAs};
+ghost use Rattle.dns_journal.specs.Pages.{IsStoredIn};
 ghost use Rattle.dns_journal.specs.Crash.{MayLeave, MayLeaveClean, Leaves, LeavesTrees};
 ghost use Rattle.dns_journal.specs.Records.{TellsFirstLong, RefusesBatch};
 ghost use Rattle.dns_journal.specs.Stored.{KeepsDatabase, PutsBatch, LeavesBatch, LeavesShown, ShowsRow};
@@ -17,10 +19,10 @@ ghost use Rattle.dns_journal.specs.declared.error.PersistenceError.TheVariants.{
 
 use crate::error::PersistenceError;
 use crate::journal::{Journal, is_current};
-use crate::row::first_in;
+use crate::page::Page;
 use dns_io::Octets;
 use dns_keeper::{KeepFault, Keeper, Row};
-use dns_sqlite::{insert_batch, select_row_from};
+use dns_sqlite::{insert_batch, select_rows_from};
 use dns_wire::{ProtoError, Record, Records};
 use sqlite::{Alter, Error};
 use std::alloc::Global;
@@ -142,6 +144,7 @@ impl<S: Alter> Journal<S> {
             return Ok(());
         }
         let stamp = dns_stamp::stamp(self.alloc, moment)?;
+        self.page = Page::empty(self.alloc);
         match insert_batch(
             &mut self.conn,
             client,
@@ -214,9 +217,10 @@ impl<S: Alter> Keeper for Journal<S> {
             self.count();
             return Err(KeepFault::Failed);
         }
-        match select_row_from(&mut self.conn, id) {
-            Ok(rows) => self.first_of(rows.as_slice()),
-            Err(error) => Err(self.keep_fault(error)),
+        match self.from_page(id) {
+            Ok(None) => self.read_page(id),
+            Ok(Some(row)) => Ok(Some(row)),
+            Err(fault) => Err(fault),
         }
     }
 
@@ -226,21 +230,75 @@ impl<S: Alter> Keeper for Journal<S> {
 }
 
 impl<S: Alter> Journal<S> {
-    /// The first of the rows that a query shows. A row that does not read is a counted fault.
-    fn first_of(&mut self, rows: &[sqlite::Row]) -> Result<Option<Row>, KeepFault>
-        ensures read { IfOk result (FirstReadsAs rows.now) }
+    /// The row that follows by the page, where the page goes on from this id; else none. A row that does not read is a
+    /// counted fault.
+    fn from_page(&mut self, id: i64) -> Result<Option<Row>, KeepFault>
+        ensures stored { IfOk result (λ found. IfSome found (λ row. IsStoredIn id (state S.Store self.new.conn) (Some row))) }
+        ensures none { IfOk result (λ found. found ≡ None → self.new ≡ self.old) }
         ensures kept { (self.new.conn ≡ self.old.conn) × (self.new.version ≡ self.old.version) }
         ensures cause { HasCause self.old.faults self.new.faults result }
         ensures uncounted { result ≢ Err Failed → self.new.faults ≡ self.old.faults }
     {
-        match first_in(self.alloc, rows) {
-            Ok(found) => Ok(found),
-            Err(KeepFault::OutOfMemory) => Err(KeepFault::OutOfMemory),
-            Err(KeepFault::Failed) => {
-                self.count();
-                Err(KeepFault::Failed)
-            }
+        if self.page.next != id {
+            return Ok(None);
         }
+        let alloc = self.alloc;
+        match self.page.take(alloc) {
+            Ok(found) => Ok(found),
+            Err(fault) => Err(self.counted(fault)),
+        }
+    }
+
+    /// The row that a new page begins with.
+    fn read_page(&mut self, id: i64) -> Result<Option<Row>, KeepFault>
+        requires { self.old.version ≡ pos 1 }
+        ensures found { IfOk result (IsRowFrom (told_rows S.Store self.new) id) }
+        ensures shown { IfOk result (ShowsRow id (state S.Store self.old.conn) (state S.Store self.new.conn)) }
+        ensures untouched { KeepsDatabase (state S.Store self.old.conn) (state S.Store self.new.conn) }
+        ensures first { id ≡ neg_ℤ (pos (2 ^ 63)) → IfOk result (IsFirstRow (told_rows S.Store self.new)) }
+        ensures kept { Keeps (told_rows S.Store self.old) (told_rows S.Store self.new) }
+        ensures falls { doubt (state S.Store self.old.conn).is_clean ≤ doubt (state S.Store self.new.conn).is_clean }
+        ensures left { LeavesTrees (state S.Store self.new.conn) (state S.Store self.old.conn).may_leave }
+        ensures version { self.new.version ≡ self.old.version }
+        ensures cause { HasCause self.old.faults self.new.faults result }
+        ensures uncounted { result ≢ Err Failed → self.new.faults ≡ self.old.faults }
+    {
+        let alloc = self.alloc;
+        self.page = Page::empty(alloc);
+        match select_rows_from(&mut self.conn, id) {
+            Ok(rows) => self.first_of(id, rows),
+            Err(error) => Err(self.keep_fault(error)),
+        }
+    }
+
+    /// Makes a page of the rows that a query shows from an id on, and takes the first of them.
+    fn first_of(&mut self, id: i64, rows: Vec<sqlite::Row>) -> Result<Option<Row>, KeepFault>
+        requires { HasCleanDisk (state S.Store self.old.conn) → HasRows 128 id ((state S.Store self.old.conn).now.trees 1) rows.items }
+        ensures stored { IfOk result (IsStoredIn id (state S.Store self.new.conn)) }
+        ensures kept { (self.new.conn ≡ self.old.conn) × (self.new.version ≡ self.old.version) }
+        ensures cause { HasCause self.old.faults self.new.faults result }
+        ensures uncounted { result ≢ Err Failed → self.new.faults ≡ self.old.faults }
+    {
+        let alloc = self.alloc;
+        self.page = Page::new(id, rows);
+        match self.page.take(alloc) {
+            Ok(found) => Ok(found),
+            Err(fault) => Err(self.counted(fault)),
+        }
+    }
+
+    /// Counts a row that does not read; want of memory is not counted.
+    fn counted(&mut self, fault: KeepFault) -> KeepFault
+        ensures same { result ≡ fault }
+        ensures kept { (self.new.conn ≡ self.old.conn) × (self.new.version ≡ self.old.version) }
+        ensures cause { fault ≡ Failed → self.new.faults ≡ one_more self.old.faults }
+        ensures uncounted { fault ≢ Failed → self.new.faults ≡ self.old.faults }
+        ensures later { self.old.faults ≤ self.new.faults }
+    {
+        if matches!(fault, KeepFault::Failed) {
+            self.count();
+        }
+        fault
     }
 
     /// Counts an error of the connection, unless it is want of memory.

@@ -57,7 +57,7 @@ impl JournalIter {
 }
 
 /// The id that follows, if there is one.
-fn id_after(id: i64) -> Option<i64>
+pub(crate) fn id_after(id: i64) -> Option<i64>
     ensures some { IfSome result (λ next. next ≡ id +ℤ pos 1) }
     ensures fits { IfSome result (FitsSigned w64) }
     ensures none { IfNone result (id ≡ pos (2 ^ 63 - 1)) }

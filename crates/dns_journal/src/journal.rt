@@ -11,6 +11,7 @@ ghost use Rattle.dns_journal.specs.Opening.{WasRead, HasNoVersion, refusal_of, v
 ghost use Rattle.dns_journal.specs.declared.error.PersistenceError.TheVariants.{Sqlite, OutOfMemory as NoMemory};
 
 use crate::error::{PersistenceError, RecoveryKind};
+use crate::page::Page;
 use dns_sqlite::VersionFault;
 use sqlite::{Alter, Connection, Error, ErrorCode};
 use std::alloc::Global;
@@ -28,12 +29,15 @@ pub struct Journal<S: Alter> {
     pub(crate) conn: Connection<S>,
     pub(crate) version: i64,
     pub(crate) faults: u64,
+    /// Rows of the connection that were read and not asked for yet. A call that writes lets them go.
+    pub(crate) page: Page,
 }
 
 impl<S: Alter> Model for Journal<S> {
     ghost use Rattle.std.specs.Prelude.{◌≡◌, false};
     ghost use Rattle.sqlite.specs.Held.{state};
     ghost use Rattle.dns_journal.specs.Told.{View, view_code, HasVersion};
+    ghost use Rattle.dns_journal.specs.Pages.{HoldsRows};
 
     ghost Value = { View S };
 
@@ -41,7 +45,7 @@ impl<S: Alter> Model for Journal<S> {
 
     ghost view = { λ j. record { conn = j.conn; version = j.version; faults = j.faults } };
 
-    ghost invariant = { λ j. ((state S.Store j.conn).in_transaction ≡ false) × HasVersion j.version (state S.Store j.conn) };
+    ghost invariant = { λ j. (((state S.Store j.conn).in_transaction ≡ false) × HoldsRows j.page (state S.Store j.conn)) × HasVersion j.version (state S.Store j.conn) };
 }
 
 /// Whether this is the current version.
@@ -116,6 +120,7 @@ impl<S: Alter + Drop> Journal<S> {
                 conn,
                 version,
                 faults: 0,
+                page: Page::empty(alloc),
             }),
             Err(error) => Err(error),
         }
@@ -132,6 +137,7 @@ impl<S: Alter> Journal<S> {
             conn,
             version: _,
             faults: _,
+            page: _page,
         } = self;
         conn
     }
@@ -186,6 +192,7 @@ impl<S: Alter> Journal<S> {
             return Ok(CURRENT_VERSION);
         }
         let is_empty = is_absent(self.version);
+        self.page = Page::empty(self.alloc);
         match dns_sqlite::schema_up(&mut self.conn, is_empty) {
             Ok(()) => {
                 self.version = CURRENT_VERSION;

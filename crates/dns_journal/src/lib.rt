@@ -8,6 +8,7 @@ mod inserts;
 mod iter;
 mod journal;
 pub mod laws;
+mod page;
 mod records;
 mod row;
 

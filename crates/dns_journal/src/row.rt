@@ -3,21 +3,20 @@
 ghost use Rattle.std.specs.Prelude.{◌≡◌, IfOk};
 ghost use Rattle.sqlite.specs.declared.types.Value.TheVariants.{Int, Text, Blob};
 ghost use Rattle.sqlite.specs.Order.{column};
-ghost use Rattle.dns_journal.specs.Reads.{ReadsAs, FirstReadsAs};
+ghost use Rattle.dns_journal.specs.Reads.{ReadsAs};
 
 use dns_io::Octets;
 use dns_keeper::{KeepFault, Row};
-use sqlite::types::Value;
+use sqlite::types::ValueRef;
 use std::alloc::Global;
 
 /// The number in a column; a fault where it holds something else.
-fn number_in(row: &sqlite::Row, at: usize) -> Result<i64, KeepFault>
+pub(crate) fn number_in(row: &sqlite::Row, at: usize) -> Result<i64, KeepFault>
     ensures { IfOk result (λ n. column row.now at ≡ Int n) }
 {
-    match row.get::<Value>(at) {
-        Ok(Value::Int(number)) => Ok(number),
-        Ok(_) => Err(KeepFault::Failed),
-        Err(_) => Err(KeepFault::OutOfMemory),
+    match row.get_ref(at) {
+        Ok(ValueRef::Int(number)) => Ok(number),
+        _ => Err(KeepFault::Failed),
     }
 }
 
@@ -25,10 +24,9 @@ fn number_in(row: &sqlite::Row, at: usize) -> Result<i64, KeepFault>
 fn text_in(alloc: Global, row: &sqlite::Row, at: usize) -> Result<Octets, KeepFault>
     ensures { IfOk result (λ text. column row.now at ≡ Text text) }
 {
-    match row.get::<Value>(at) {
-        Ok(Value::Text(bytes)) => Ok(Octets::from_slice(alloc, bytes.as_slice())?),
-        Ok(_) => Err(KeepFault::Failed),
-        Err(_) => Err(KeepFault::OutOfMemory),
+    match row.get_ref(at) {
+        Ok(ValueRef::Text(bytes)) => Ok(Octets::from_slice(alloc, bytes)?),
+        _ => Err(KeepFault::Failed),
     }
 }
 
@@ -36,15 +34,14 @@ fn text_in(alloc: Global, row: &sqlite::Row, at: usize) -> Result<Octets, KeepFa
 fn blob_in(alloc: Global, row: &sqlite::Row, at: usize) -> Result<Octets, KeepFault>
     ensures { IfOk result (λ bytes. column row.now at ≡ Blob bytes) }
 {
-    match row.get::<Value>(at) {
-        Ok(Value::Blob(bytes)) => Ok(Octets::from_slice(alloc, bytes.as_slice())?),
-        Ok(_) => Err(KeepFault::Failed),
-        Err(_) => Err(KeepFault::OutOfMemory),
+    match row.get_ref(at) {
+        Ok(ValueRef::Blob(bytes)) => Ok(Octets::from_slice(alloc, bytes)?),
+        _ => Err(KeepFault::Failed),
     }
 }
 
 /// A row that a query shows; a fault where a column does not read as the type of its field.
-fn row_in(alloc: Global, row: &sqlite::Row) -> Result<Row, KeepFault>
+pub(crate) fn row_in(alloc: Global, row: &sqlite::Row) -> Result<Row, KeepFault>
     ensures { IfOk result (ReadsAs row.now) }
 {
     Ok(Row {
@@ -54,14 +51,4 @@ fn row_in(alloc: Global, row: &sqlite::Row) -> Result<Row, KeepFault>
         stamp: text_in(alloc, row, 3)?,
         bytes: blob_in(alloc, row, 4)?,
     })
-}
-
-/// The first of the rows that a query shows, if it shows one; a fault where it does not read.
-pub(crate) fn first_in(alloc: Global, rows: &[sqlite::Row]) -> Result<Option<Row>, KeepFault>
-    ensures { IfOk result (FirstReadsAs rows.now) }
-{
-    match rows {
-        [] => Ok(None),
-        [row, ..] => Ok(Some(row_in(alloc, row)?)),
-    }
 }

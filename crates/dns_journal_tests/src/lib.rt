@@ -4,6 +4,8 @@
 #[cfg(test)]
 mod journal;
 #[cfg(test)]
+mod pages;
+#[cfg(test)]
 mod samples;
 #[cfg(test)]
 mod stops;

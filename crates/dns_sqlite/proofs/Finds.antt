@@ -13,7 +13,7 @@ use Rattle.sqlite.specs.Listing.{understood}
 use Rattle.sqlite.specs.Clock.{timed}
 use Rattle.sqlite_schema.specs.declared.command.Returning.{Returning}
 use Rattle.sqlite.proofs.Callers.{IsPlain, reads_as}
-use Rattle.dns_sqlite.specs.Tables.{journal_schema, seen, not_below, by_key, HasRow}
+use Rattle.dns_sqlite.specs.Tables.{journal_schema, seen, not_below, by_key, HasRow, HasRows}
 use Rattle.std.proofs.Common.{length, get_or, ◌<◌, zero, suc, arith, Less, Equal, Greater, Ordering}
 use Rattle.std.specs.List.{AllByRecursion, Contains}
 use Rattle.std.specs.Ordering.{is_lt, is_ge, ordering_then, int_cmp}
@@ -40,7 +40,7 @@ staged_is id (r ∷ rows) = elim (cases_Bool (not_below id r)) [
   | inr away ↦ rw away (staged_is id rows)
 ]
 
-pub finds : (old new : State) (id : ℤ) (rows : List Row) → old.now.schema ≡ journal_schema → Shown from_text (Int id ∷ []) old new rows → HasRow id (old.now.trees 1) rows
+pub finds : (old new : State) (id : ℤ) (rows : List Row) → old.now.schema ≡ journal_schema → Shown from_text (Int id ∷ []) old new rows → HasRows 128 id (old.now.trees 1) rows
 finds old new id rows has h =
     let got = reads_as from_text (Int id ∷ []) old new journal_schema has _ from_is.0 from_plain from_is.1 rows h in
     let a : IsAnswer query (overlay old.now.trees []) (Int id ∷ []) rows = got.answer Null in
@@ -59,13 +59,13 @@ same old new id rows has h =
 
 -- ---- the first of rows by ascending id
 
-abbrev lt : Row × Row → Row × Row → Bool
+abbrev pub lt : Row × Row → Row × Row → Bool
 lt x y = is_lt (by_key x y)
 
-weak : IsStrictWeakOrder lt
+pub weak : IsStrictWeakOrder lt
 weak = ranks_by (key_cmp_total ((record { collation = Binary; descending = false }) ∷ []) 0) (λ (o : Row × Row). o.0)
 
-is_lt_then : (o : Ordering) → is_lt (ordering_then o Equal) ≡ is_lt o
+pub is_lt_then : (o : Ordering) → is_lt (ordering_then o Equal) ≡ is_lt o
 is_lt_then Less = refl
 is_lt_then Equal = refl
 is_lt_then Greater = refl
@@ -111,7 +111,7 @@ pub first_is : (id : ℤ) (rows found : List Row) → AreKeyed rows → HasRow i
 first_is id rows found keyed h =
     h.3 ∙ first_of (filter (not_below id) rows) h.0 (IsShaped-filter shape.Table (not_below id) rows (keyed.table, keyed.ints)).0 h.1 h.2
 
-is_true_of : (b : Bool) → is_true (from_truth (Some b)) ≡ b
+pub is_true_of : (b : Bool) → is_true (from_truth (Some b)) ≡ b
 is_true_of true = refl
 is_true_of false = refl
 

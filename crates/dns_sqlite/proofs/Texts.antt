@@ -25,7 +25,7 @@ abbrev pub insert_text : List ℕ
 insert_text = codes "INSERT INTO records(client_id, soa_serial, timestamp, record) VALUES (?1, ?2, ?3, ?4)"
 
 abbrev pub from_text : List ℕ
-from_text = codes "SELECT id, client_id, soa_serial, timestamp, record FROM records WHERE id >= ?1 ORDER BY id LIMIT 1"
+from_text = codes "SELECT id, client_id, soa_serial, timestamp, record FROM records WHERE id >= ?1 ORDER BY id LIMIT 128"
 
 pub versions_is : (command_of (understood empty_schema create_version_table) ≡ CreateTable) × (statement_of create_version_table (understood empty_schema create_version_table) ≡ create_version_table) × (table_defined_by create_version_table ≡ Ok (record versions { tree = 0 }))
 unfolding understood everything
@@ -51,7 +51,7 @@ query = record {
   distinct = false;
   collations = [];
   order = (col 1 0, record { collation = Binary; descending = false }) ∷ [];
-  limit = lit (Int (pos 1));
+  limit = lit (Int (pos 128));
   offset = lit (Int (pos 0));
 }
 

@@ -85,6 +85,10 @@ seen row = (column row 0 ∷ [], column row 0 ∷ column row 2 ∷ column row 3 
 abbrev pub by_key : Row × Row → Row × Row → Ordering
 by_key = on (λ (o : Row × Row). o.0) (key_cmp 0 ((record { collation = Binary; descending = false }) ∷ []))
 
--- the first of the rows that are not below, in the order of their ids
+-- so many of the rows that are not below, or as many as there are, in the order of their ids
+abbrev pub HasRows : ℕ → ℤ → List Row → List Row → Type 0
+HasRows count id rows found = (ordered : List (Row × Row)) × IsPermutation (map seen (filter (not_below id) rows)) ordered × IsSorted by_key ordered × (found ≡ take count (map (λ (o : Row × Row). o.1) ordered))
+
+-- the first of them
 abbrev pub HasRow : ℤ → List Row → List Row → Type 0
-HasRow id rows found = (ordered : List (Row × Row)) × IsPermutation (map seen (filter (not_below id) rows)) ordered × IsSorted by_key ordered × (found ≡ take 1 (map (λ (o : Row × Row). o.1) ordered))
+HasRow = HasRows 1

@@ -7,7 +7,7 @@ mod shape;
 mod version;
 mod writes;
 
-pub use reads::select_row_from;
+pub use reads::select_rows_from;
 pub use schema::schema_up;
 pub use version::{VersionFault, select_schema_version};
 pub use writes::insert_batch;

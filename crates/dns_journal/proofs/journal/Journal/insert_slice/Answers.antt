@@ -11,6 +11,7 @@ use Rattle.dns_journal.specs.Told.{rows_in}
 use Rattle.dns_journal.specs.Crash.{MayLeave, Leaves}
 use Rattle.dns_journal.specs.Stored.{PutsBatch, LeavesBatch}
 use Rattle.dns_journal.proofs.Telling.{stamp_for, grows_told, leaves_batch, keeps_told, left_of, one, tables_at, still_current, left_told}
+use Rattle.dns_journal.proofs.Pages.{holds_none}
 use Rattle.dns_journal.proofs.journal.Journal.insert_slice.Goals as goal
 
 pub returns-in-Ok-clause-ok : goal.returns-in-Ok-clause-ok
@@ -105,7 +106,7 @@ invariant_of-self g c =
     let new = state g.S.Store c.insert_batch.new.conn in
     let done = c.in-Ok.ensures in
     let is : c.self.inside.version ≡ pos 1 = search rules in (
-      done.alone,
+      (done.alone, λ clean. holds_none c.empty.result _ c.empty.ensures),
       λ clean live.
           let tables = tables_at c.self.inside.version old.now is (c.self.invariant.1 (omega (arith, done.falls, clean)) (done.opened clean)) in
           still_current c.self.inside.version c.args.client c.args.soa_serial c.as_str.result.now c.as_slice.result.now old.now new.now is (done.grows clean tables.0).grown tables.1,
@@ -114,7 +115,7 @@ invariant_of-self g c =
 pub invariant_of-self-in-Err : goal.invariant_of-self-in-Err
 invariant_of-self-in-Err g c =
     let failed = c.in-Err.ensures in (
-      failed.alone,
+      (failed.alone, λ clean. holds_none c.empty.result _ c.empty.ensures),
       λ clean live.
           let kept = failed.kept clean live in
           subst (λ (d : Database). IsAtVersion c.self.inside.version d) (sym kept.1) (c.self.invariant.1 (omega (arith, failed.falls, clean)) kept.0),

@@ -18,3 +18,9 @@ returns-in-Ok-clause-alone g c other clean db may =
     let done = c.in-Ok.ensures in
     let made : BecomesNewJournal new = done.made clean (before c.self.inside.version old.now (rw (← c.self.view_is) at other) (c.self.invariant.1 (omega (arith, done.falls, clean)) (done.opened clean)) c.is_absent-is_empty.result c.is_absent-is_empty.ensures) in
     (new.now, new_journal new.now made.made made.sound, done.crash clean db may)
+
+pub returns-in-Ok-clause-stored : goal.returns-in-Ok-clause-stored
+returns-in-Ok-clause-stored g c other clean =
+    let old = state g.S.Store c.self.inside.conn in
+    let done = c.in-Ok.ensures in
+    done.made clean (before c.self.inside.version old.now (rw (← c.self.view_is) at other) (c.self.invariant.1 (omega (arith, done.falls, clean)) (done.opened clean)) c.is_absent-is_empty.result c.is_absent-is_empty.ensures)

@@ -8,7 +8,7 @@ use Rattle.dns_sqlite.proofs.Texts.{from_text}
 use Rattle.dns_sqlite.proofs.Finds.{finds, same}
 use Rattle.dns_sqlite.proofs.Selects.{from_bare, shows_nothing}
 use Rattle.dns_sqlite.proofs.Queries.{shown_open, fails_query, stays}
-use Rattle.dns_sqlite.proofs.reads.select_row_from.Goals as goal
+use Rattle.dns_sqlite.proofs.reads.select_rows_from.Goals as goal
 
 pub returns-clause-found : goal.returns-clause-found
 returns-clause-found g c clean has =
