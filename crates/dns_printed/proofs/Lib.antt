@@ -1,0 +1,17 @@
+pub mod Numbers
+pub mod Escaping
+pub mod Spans
+pub mod NameBack
+pub mod StringBack
+pub mod AddressBack
+pub mod LinesBack
+pub mod HexBack
+pub mod WideBack
+pub mod WordsBack
+pub mod TypeBack
+pub mod StringsBack
+pub mod DataBack
+pub mod EntryBack
+pub mod Placing
+pub mod Whole
+pub mod Aliases

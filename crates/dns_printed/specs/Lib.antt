@@ -1,0 +1,5 @@
+pub mod Printed
+pub mod Lone
+pub mod Kept
+pub mod Reading
+pub mod Rows

@@ -1,0 +1,110 @@
+-- The records of a zone as text: a line for each, with all names absolute (RFC 1035 5.1; RFC 3597 5; RFC 4291 2.2).
+use Rattle.std.specs.Prelude.{ℕ, ◌+◌, ◌/◌, ◌%◌, ◌^◌, nat_le, Bool, ◌==◌, ◌&&◌, ◌||◌, not, if◌then◌else◌, List, [], ◌∷◌, ◌++◌, length, map}
+use Rattle.std.specs.List.{flat_map}
+use Rattle.std.specs.Fmt.{decimal}
+use Rattle.std.specs.Char.{is_ascii_alphanumeric, digit_char}
+use Rattle.std.specs.Net.Text.{dotted_text}
+use Rattle.hex.specs.Hex.{encode_lower}
+use lib.Chars.{codes}
+use Rattle.dns_wire.specs.declared.rdata.Data.{Data}
+use Rattle.dns_wire.specs.declared.rdata.Data.TheVariants.{A, Aaaa, Ns, Cname, Ptr, Mx, Srv, Soa, Txt, Opaque, Empty}
+use Rattle.dns_wire.specs.declared.record_type.TheConstants as record_type
+use Rattle.dns_wire.specs.declared.record.Record.{Record}
+
+-- a byte as a backslash and the three digits of its number
+abbrev pub escaped : ℕ → List ℕ
+escaped byte = 92 ∷ (48 + byte / 100) ∷ (48 + byte / 10 % 10) ∷ (48 + byte % 10) ∷ []
+
+-- a letter, a digit, a hyphen or an underscore
+abbrev pub is_plain : ℕ → Bool
+is_plain byte = is_ascii_alphanumeric byte || ((byte == 45) || (byte == 95))
+
+-- a byte of a label: it stands for itself, or is escaped
+abbrev pub label_character : ℕ → List ℕ
+label_character byte = if is_plain byte then byte ∷ [] else escaped byte
+
+-- a label, and the dot behind it
+abbrev pub label_text : List ℕ → List ℕ
+label_text label = flat_map label_character label ++ 46 ∷ []
+
+-- an absolute name: a dot stands behind each label, and the root is a dot alone
+abbrev pub name_text : List (List ℕ) → List ℕ
+name_text [] = 46 ∷ []
+name_text (label ∷ labels) = flat_map label_text (label ∷ labels)
+
+-- printable ASCII, from the space on, but for a quote and a backslash
+abbrev pub is_shown : ℕ → Bool
+is_shown byte = (nat_le 32 byte && nat_le byte 126) && (not (byte == 34) && not (byte == 92))
+
+-- a byte of a string: it stands for itself, or is escaped
+abbrev pub string_character : ℕ → List ℕ
+string_character byte = if is_shown byte then byte ∷ [] else escaped byte
+
+-- a string in quotes
+abbrev pub string_text : List ℕ → List ℕ
+string_text bytes = 34 ∷ flat_map string_character bytes ++ 34 ∷ []
+
+-- the four bytes of an IPv4 address in decimal, with dots between them
+abbrev pub address_text : ℕ → List ℕ
+address_text address = dotted_text (address / 2 ^ 24) (address / 2 ^ 16 % 256) (address / 2 ^ 8 % 256) (address % 256)
+
+-- the eight groups of 16 bits that an IPv6 address has
+abbrev pub groups_of : ℕ → List ℕ
+groups_of address =
+    (address / 2 ^ 112) ∷ (address / 2 ^ 96 % 2 ^ 16) ∷ (address / 2 ^ 80 % 2 ^ 16) ∷ (address / 2 ^ 64 % 2 ^ 16)
+    ∷ (address / 2 ^ 48 % 2 ^ 16) ∷ (address / 2 ^ 32 % 2 ^ 16) ∷ (address / 2 ^ 16 % 2 ^ 16) ∷ (address % 2 ^ 16) ∷ []
+
+-- a group in four hex digits
+abbrev pub group_text : ℕ → List ℕ
+group_text n = digit_char (n / 4096) ∷ digit_char (n / 256 % 16) ∷ digit_char (n / 16 % 16) ∷ digit_char (n % 16) ∷ []
+
+-- groups with colons between them
+abbrev pub groups_text : List ℕ → List ℕ
+groups_text [] = []
+groups_text (n ∷ groups) = group_text n ++ flat_map (λ m. 58 ∷ group_text m) groups
+
+-- an IPv6 address in eight groups
+abbrev pub wide_address_text : ℕ → List ℕ
+wide_address_text address = groups_text (groups_of address)
+
+-- the words of a record's data, by its variant; that of a type without a form of its own is a backslash and a number sign,
+-- the number of bytes, and their hex digits
+abbrev pub data_words : Data → List (List ℕ)
+data_words (A address) = address_text address ∷ []
+data_words (Aaaa address) = wide_address_text address ∷ []
+data_words (Ns host) = name_text host ∷ []
+data_words (Cname target) = name_text target ∷ []
+data_words (Ptr target) = name_text target ∷ []
+data_words (Mx preference exchange) = decimal preference ∷ name_text exchange ∷ []
+data_words (Srv priority weight port target) = decimal priority ∷ decimal weight ∷ decimal port ∷ name_text target ∷ []
+data_words (Soa mname rname serial refresh retry expire minimum) =
+    name_text mname ∷ name_text rname ∷ decimal serial ∷ decimal refresh ∷ decimal retry ∷ decimal expire ∷ decimal minimum ∷ []
+data_words (Txt texts) = map string_text texts
+data_words (Opaque bytes) = (92 ∷ 35 ∷ []) ∷ decimal (length bytes) ∷ encode_lower bytes ∷ []
+data_words Empty = []
+
+-- a type by its name, or by its number where it has no form of its own
+abbrev pub type_text : ℕ → List ℕ
+type_text number =
+    if number == record_type.A then codes "A"
+    else if number == record_type.NS then codes "NS"
+    else if number == record_type.CNAME then codes "CNAME"
+    else if number == record_type.SOA then codes "SOA"
+    else if number == record_type.PTR then codes "PTR"
+    else if number == record_type.MX then codes "MX"
+    else if number == record_type.TXT then codes "TXT"
+    else if number == record_type.AAAA then codes "AAAA"
+    else if number == record_type.SRV then codes "SRV"
+    else codes "TYPE" ++ decimal number
+
+-- words with a space before each
+abbrev pub spaced : List (List ℕ) → List ℕ
+spaced words = flat_map (λ word. 32 ∷ word) words
+
+-- what stands in the line of a record: owner, TTL, class IN, type and data
+abbrev pub record_line : Record → List ℕ
+record_line r = name_text r.name ++ spaced (decimal r.ttl ∷ codes "IN" ∷ type_text r.rtype ∷ data_words r.rdata)
+
+-- the text of a zone with these records: each line ends with a line feed
+abbrev pub zone_text : List Record → List ℕ
+zone_text records = flat_map (λ r. record_line r ++ 10 ∷ []) records

@@ -1,0 +1,126 @@
+//! What the types of records keep of them, as facts that proofs can cite. The calls do nothing.
+
+ghost use Rattle.std.specs.Prelude.{◌<◌, ◌^◌};
+ghost use Rattle.std.specs.List.{AllByRecursion};
+ghost use Rattle.dns_name.specs.Name.{IsName};
+ghost use Rattle.dns_wire.specs.Texts.{AreTexts};
+ghost use Rattle.dns_wire.specs.ReadBack.{IsData};
+ghost use Rattle.dns_printed.specs.Kept.{AreBytes, AreOfBytes, IsDataOfBytes, IsKept};
+
+use dns_name::Name;
+use dns_wire::{Data, Record, Texts};
+
+/// What is kept of each record.
+pub fn kept_records(records: &[Record])
+    ensures { AllByRecursion IsKept records.now }
+{
+    for one in records {
+        kept_record(one);
+    }
+}
+
+/// What is kept of a record.
+pub fn kept_record(one: &Record)
+    ensures { IsKept one.now }
+{
+    kept_name(&one.name);
+    kept_u16(one.rtype);
+    kept_u16(one.class);
+    kept_u32(one.ttl);
+    kept_data(&one.rdata);
+}
+
+fn kept_data(value: &Data)
+    ensures kept { IsData value.now }
+    ensures bytes { IsDataOfBytes value.now }
+{
+    match value {
+        Data::A(address) => kept_u32(*address),
+        Data::Aaaa(address) => kept_u128(*address),
+        Data::Ns(name) => kept_name(name),
+        Data::Cname(name) => kept_name(name),
+        Data::Ptr(name) => kept_name(name),
+        Data::Mx {
+            preference,
+            exchange,
+        } => {
+            kept_u16(*preference);
+            kept_name(exchange);
+        }
+        Data::Srv {
+            priority,
+            weight,
+            port,
+            target,
+        } => {
+            kept_u16(*priority);
+            kept_u16(*weight);
+            kept_u16(*port);
+            kept_name(target);
+        }
+        Data::Soa {
+            mname,
+            rname,
+            serial,
+            refresh,
+            retry,
+            expire,
+            minimum,
+        } => {
+            kept_name(mname);
+            kept_name(rname);
+            kept_u32(*serial);
+            kept_u32(*refresh);
+            kept_u32(*retry);
+            kept_u32(*expire);
+            kept_u32(*minimum);
+        }
+        Data::Txt(texts) => kept_texts(texts),
+        Data::Opaque(bytes) => kept_bytes(bytes.as_slice()),
+        Data::Empty => {}
+    }
+}
+
+fn kept_name(name: &Name)
+    ensures name { IsName name.now }
+    ensures bytes { AreOfBytes name.now }
+{
+    let mut labels = name.labels();
+    while let Some(label) = labels.next() {
+        kept_bytes(label);
+    }
+}
+
+fn kept_texts(texts: &Texts)
+    ensures texts { AreTexts texts.now }
+    ensures bytes { AreOfBytes texts.now }
+{
+    let mut left = texts.iter();
+    while let Some(text) = left.next() {
+        kept_bytes(text);
+    }
+}
+
+fn kept_bytes(bytes: &[u8])
+    ensures { AreBytes bytes.now }
+{
+    let _bytes = bytes;
+}
+
+fn kept_u16(number: u16)
+    ensures { number < 2 ^ 16 }
+{
+    let _number = number;
+}
+
+fn kept_u32(number: u32)
+    ensures { number < 2 ^ 32 }
+{
+    let _number = number;
+}
+
+fn kept_u128(number: u128)
+    ensures { number < 2 ^ 128 }
+{
+    let _number = number;
+}
