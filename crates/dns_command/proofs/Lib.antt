@@ -5,6 +5,7 @@ mod TextsRead
 mod TextsWritten
 mod Told
 mod Drawn
+mod ExampleRead
 mod Settled
 mod Endings
 mod Completing

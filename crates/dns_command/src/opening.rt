@@ -113,8 +113,9 @@ fn example(alloc: Global) -> Result<Zone, OutOfMemory>
     let origin = origin_name(alloc)?;
     match read_zone(alloc, EXAMPLE.as_bytes(), &origin) {
         Ok(zone) => Ok(zone),
-        // The text is a zone's, so only memory can be wanting.
-        Err(_) => Err(OutOfMemory),
+        Err(ZoneTextFault::OutOfMemory) => Err(OutOfMemory),
+        // The text is a zone's.
+        Err(ZoneTextFault::Refused { .. }) => unreachable!(),
     }
 }
 
