@@ -32,7 +32,7 @@ fn kept_data(value: &Data)
 {
     match value {
         Data::A(address) => kept_u32(*address),
-        Data::Aaaa(address) => kept_u128(*address),
+        Data::Aaaa(address) => kept_u128(address.number()),
         Data::Ns(name) => kept_name(name),
         Data::Cname(name) => kept_name(name),
         Data::Ptr(name) => kept_name(name),
@@ -63,8 +63,8 @@ fn kept_data(value: &Data)
             expire,
             minimum,
         } => {
-            kept_name(mname);
-            kept_name(rname);
+            kept_name(mname.as_name());
+            kept_name(rname.as_name());
             kept_u32(*serial);
             kept_u32(*refresh);
             kept_u32(*retry);

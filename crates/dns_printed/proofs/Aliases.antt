@@ -5,7 +5,7 @@ use Rattle.std.proofs.lemmas.Bool.Decides.{Decides-eqb}
 use Rattle.dns_name.specs.Name.{fold_of, is_same_name, is_at_or_below}
 use Rattle.dns_name.proofs.SameNames.{is_same_name-Decides}
 use Rattle.dns_wire.specs.declared.record.Record.{Record}
-use Rattle.dns_zone_map.specs.Folds.{data_eq}
+use Rattle.dns_zone_map.specs.SameData.{data_eq}
 use Rattle.dns_zone_map.specs.Zone.{is_type, is_equal}
 use Rattle.dns_presentation.specs.declared.fault.EntryKind.{EntryKind}
 use Rattle.dns_presentation.specs.declared.entry.Context.{Context}

@@ -14,7 +14,7 @@ use Rattle.dns_wire.specs.Forms.{form_of, variant_of}
 use Rattle.dns_wire.specs.Texts.{texts_bytes, AreTexts}
 use Rattle.dns_wire.specs.WireFormat.{data_bytes}
 use Rattle.dns_wire.specs.ReadBack.{IsData}
-use Rattle.dns_zone_map.specs.Folds.{fold_data}
+use Rattle.dns_wire.specs.Folds.{fold_data}
 use Rattle.dns_zone_map.specs.Zone.{is_meta}
 use Rattle.dns_presentation.specs.Words.{Word}
 use Rattle.dns_presentation.specs.TypedData.{typed_data}
@@ -108,7 +108,7 @@ data_srv priority weight port target first second third good = record {
 }
 
 data_soa : (mname rname : List (List ℕ)) (serial refresh retry expire minimum : ℕ) → IsGoodName mname → IsGoodName rname
-    → serial < 2 ^ 32 → refresh < 2 ^ 32 → retry < 2 ^ 32 → expire < 2 ^ 32 → minimum < 2 ^ 32 → IsDataBack 6 false (Soa mname rname serial refresh retry expire minimum)
+    → serial < 2 ^ 32 → refresh < 2 ^ 32 → retry < 2 ^ 32 → expire < 2 ^ 32 → minimum < 2 ^ 32 → IsDataBack 6 false (Soa serial mname rname refresh retry expire minimum)
 unfolding data_of form_data_of soa_of times_of
 data_soa mname rname serial refresh retry expire minimum primary mailbox a b c d e = record {
   words = bare (name_text mname) ∷ bare (name_text rname) ∷ bare (decimal serial) ∷ bare (decimal refresh) ∷ bare (decimal retry) ∷ bare (decimal expire) ∷ bare (decimal minimum) ∷ [];
@@ -190,10 +190,10 @@ typed number (Srv priority weight port target) sound =
     let same : fold_of target ≡ target = cc sound.small in
     named number 33 (Srv priority weight port target) (chosen_form number _ _ (not_opt number sound.plain) sound.filled sound.form) IsTypeBack-srv
     (data_srv priority weight port target sound.kept.0 sound.kept.1 sound.kept.2 (record { is = sound.kept.3; bytes = sound.bytes; small = same }))
-typed number (Soa mname rname serial refresh retry expire minimum) sound =
+typed number (Soa serial mname rname refresh retry expire minimum) sound =
     let primary : fold_of mname ≡ mname = cc sound.small in
     let mailbox : fold_of rname ≡ rname = cc sound.small in
-    named number 6 (Soa mname rname serial refresh retry expire minimum) (chosen_form number _ _ (not_opt number sound.plain) sound.filled sound.form) IsTypeBack-soa
+    named number 6 (Soa serial mname rname refresh retry expire minimum) (chosen_form number _ _ (not_opt number sound.plain) sound.filled sound.form) IsTypeBack-soa
     (data_soa mname rname serial refresh retry expire minimum (record { is = sound.kept.0; bytes = sound.bytes.0; small = primary }) (record { is = sound.kept.1; bytes = sound.bytes.1; small = mailbox })
     sound.kept.2 sound.kept.3 sound.kept.4 sound.kept.5 sound.kept.6)
 typed number (Txt texts) sound = named number 16 (Txt texts) (chosen_form number _ _ (not_opt number sound.plain) sound.filled sound.form) IsTypeBack-txt (data_txt texts sound.filled sound.kept sound.bytes sound.short)

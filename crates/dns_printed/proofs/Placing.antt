@@ -5,7 +5,7 @@ use Rattle.std.proofs.lemmas.Bool.Decides.{same_from_decides, Decides-eqb}
 use Rattle.dns_name.specs.Name.{is_same_name}
 use Rattle.dns_name.proofs.SameNames.{is_same_name-Decides}
 use Rattle.dns_wire.specs.declared.record.Record.{Record}
-use Rattle.dns_zone_map.specs.Folds.{data_eq}
+use Rattle.dns_zone_map.specs.SameData.{data_eq}
 use Rattle.dns_zone_map.specs.Zone.{is_type, is_equal, is_rival, IsEntry}
 use Rattle.dns_zone_map.proofs.Rivals.{is_rival-turned}
 use Rattle.dns_zone.specs.ZoneText.{is_beside_alias, put_in, placed}

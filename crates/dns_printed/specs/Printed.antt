@@ -77,7 +77,7 @@ data_words (Cname target) = name_text target ∷ []
 data_words (Ptr target) = name_text target ∷ []
 data_words (Mx preference exchange) = decimal preference ∷ name_text exchange ∷ []
 data_words (Srv priority weight port target) = decimal priority ∷ decimal weight ∷ decimal port ∷ name_text target ∷ []
-data_words (Soa mname rname serial refresh retry expire minimum) =
+data_words (Soa serial mname rname refresh retry expire minimum) =
     name_text mname ∷ name_text rname ∷ decimal serial ∷ decimal refresh ∷ decimal retry ∷ decimal expire ∷ decimal minimum ∷ []
 data_words (Txt texts) = map string_text texts
 data_words (Opaque bytes) = (92 ∷ 35 ∷ []) ∷ decimal (length bytes) ∷ encode_lower bytes ∷ []

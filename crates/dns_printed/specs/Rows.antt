@@ -32,7 +32,7 @@ abbrev pub service : Record
 service = row (below (codes "_sip" ∷ codes "_tcp" ∷ [])) SRV 3600 (form.Srv 1 20 5060 (below (codes "sip" ∷ [])))
 
 abbrev pub start : Record
-start = row (below []) SOA 3600 (form.Soa (below (codes "ns" ∷ [])) (below (codes "admin" ∷ [])) 2024010100 7200 3600 1209600 300)
+start = row (below []) SOA 3600 (form.Soa 2024010100 (below (codes "ns" ∷ [])) (below (codes "admin" ∷ [])) 7200 3600 1209600 300)
 
 -- the strings hold a space and a semicolon, nothing, and a quote, a backslash, a line feed and the byte 255
 abbrev pub strings : Record

@@ -5,7 +5,7 @@ use Rattle.std.proofs.lemmas.Bool.Decides.{Decides-eqb}
 use Rattle.dns_name.specs.Name.{fold_of, is_same_name}
 use Rattle.dns_name.proofs.SameNames.{is_same_name-Decides}
 use Rattle.dns_wire.specs.declared.record.Record.{Record}
-use Rattle.dns_zone_map.specs.Folds.{data_eq}
+use Rattle.dns_zone_map.specs.SameData.{data_eq}
 use Rattle.dns_zone_map.specs.Zone.{is_type, is_equal}
 use Rattle.dns_zone_map.specs.Changes.{is_taken_with_name, is_taken_with_set}
 use Rattle.dns_update.specs.Change.{is_only_ns, is_taken_by_none, is_taken_by_any, is_taken, without}

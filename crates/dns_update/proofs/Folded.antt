@@ -15,7 +15,7 @@ use Rattle.dns_wire.specs.declared.rdata.Data.TheVariants.{A, Aaaa, Ns, Cname, P
 use Rattle.dns_wire.specs.Forms.{variant_of}
 use Rattle.dns_wire.specs.WireFormat.{data_bytes, IsShort}
 use Rattle.dns_wire.specs.ReadBack.{IsData, IsOfItsType, ReadsBack}
-use Rattle.dns_zone_map.specs.Folds.{fold_data}
+use Rattle.dns_wire.specs.Folds.{fold_data}
 use Rattle.dns_update.specs.Change.{fold_record}
 use Rattle.dns_update.specs.Verdict.{is_empty, is_update}
 
@@ -36,7 +36,7 @@ fold_data-fold_data (Cname target) = rw (fold_of-fold_of target) refl
 fold_data-fold_data (Ptr target) = rw (fold_of-fold_of target) refl
 fold_data-fold_data (Mx preference exchange) = rw (fold_of-fold_of exchange) refl
 fold_data-fold_data (Srv priority weight port target) = rw (fold_of-fold_of target) refl
-fold_data-fold_data (Soa mname rname serial refresh retry expire minimum) = rw (fold_of-fold_of mname, fold_of-fold_of rname) refl
+fold_data-fold_data (Soa serial mname rname refresh retry expire minimum) = rw (fold_of-fold_of mname, fold_of-fold_of rname) refl
 fold_data-fold_data (Txt texts) = refl
 fold_data-fold_data (Opaque bytes) = refl
 fold_data-fold_data Empty = refl
@@ -60,7 +60,7 @@ empty_folded (Cname target) = refl
 empty_folded (Ptr target) = refl
 empty_folded (Mx preference exchange) = refl
 empty_folded (Srv priority weight port target) = refl
-empty_folded (Soa mname rname serial refresh retry expire minimum) = refl
+empty_folded (Soa serial mname rname refresh retry expire minimum) = refl
 empty_folded (Txt texts) = refl
 empty_folded (Opaque bytes) = refl
 empty_folded Empty = refl
@@ -78,7 +78,7 @@ variant_folded (Cname target) = refl
 variant_folded (Ptr target) = refl
 variant_folded (Mx preference exchange) = refl
 variant_folded (Srv priority weight port target) = refl
-variant_folded (Soa mname rname serial refresh retry expire minimum) = refl
+variant_folded (Soa serial mname rname refresh retry expire minimum) = refl
 variant_folded (Txt texts) = refl
 variant_folded (Opaque bytes) = refl
 variant_folded Empty = refl
@@ -110,7 +110,7 @@ length_folded (Cname target) = name_length target
 length_folded (Ptr target) = name_length target
 length_folded (Mx preference exchange) = after_length (to_be_bytes w16 preference) exchange
 length_folded (Srv priority weight port target) = after_length (to_be_bytes w16 priority ++ to_be_bytes w16 weight ++ to_be_bytes w16 port) target
-length_folded (Soa mname rname serial refresh retry expire minimum) =
+length_folded (Soa serial mname rname refresh retry expire minimum) =
     soa_length mname rname (flat_map (to_be_bytes w32) (serial ∷ refresh ∷ retry ∷ expire ∷ minimum ∷ []))
 length_folded (Txt texts) = refl
 length_folded (Opaque bytes) = refl
@@ -124,7 +124,7 @@ data_kept (Cname target) h = IsName-fold_of target h
 data_kept (Ptr target) h = IsName-fold_of target h
 data_kept (Mx preference exchange) h = (h.0, IsName-fold_of exchange h.1)
 data_kept (Srv priority weight port target) h = (h.0, h.1, h.2, IsName-fold_of target h.3)
-data_kept (Soa mname rname serial refresh retry expire minimum) h = (IsName-fold_of mname h.0, IsName-fold_of rname h.1, h.2, h.3, h.4, h.5, h.6)
+data_kept (Soa serial mname rname refresh retry expire minimum) h = (IsName-fold_of mname h.0, IsName-fold_of rname h.1, h.2, h.3, h.4, h.5, h.6)
 data_kept (Txt texts) h = h
 data_kept (Opaque bytes) h = h
 data_kept Empty h = h

@@ -8,7 +8,7 @@ use Rattle.dns_name.specs.Name.{fold_of, is_same_name}
 use Rattle.dns_name.proofs.SameNames.{is_same_name-Decides}
 use Rattle.dns_wire.specs.declared.record.Record.{Record}
 use Rattle.dns_zone_map.specs.declared.sets.RecordSet.{RecordSet}
-use Rattle.dns_zone_map.specs.Folds.{data_eq}
+use Rattle.dns_zone_map.specs.SameData.{data_eq}
 use Rattle.dns_zone_map.specs.Zone.{is_in_set, set_of, is_equal}
 use Rattle.dns_zone_map.specs.Sets.{set_in, records_in, some_of, AreSetsOf}
 use Rattle.dns_zone_map.specs.Existence.{owns_type}

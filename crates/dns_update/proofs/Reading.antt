@@ -36,7 +36,7 @@ has_size d e is h = omega (arith, ap (λ (z : Data). length (data_bytes z)) is, 
 name_size : (n : List (List ℕ)) → 0 < length (name_bytes n)
 name_size n = omega (arith, length-append (labels_bytes n) (0 ∷ []))
 
-soa_size : (n o : List (List ℕ)) (a b c d e : ℕ) → 0 < length (data_bytes (Soa n o a b c d e))
+soa_size : (n o : List (List ℕ)) (a b c d e : ℕ) → 0 < length (data_bytes (Soa a n o b c d e))
 soa_size n o a b c d e = omega (arith, length-append (name_bytes n ++ name_bytes o) (flat_map (to_be_bytes w32) (a ∷ b ∷ c ∷ d ∷ e ∷ [])))
 
 part_size : (m : List ℕ) (i j : ℕ) → j ≤ length m → length (between m i j) ≡ j - i

@@ -5,7 +5,7 @@ use Rattle.std.proofs.lemmas.Bool.Decides.{Decides-eqb}
 use Rattle.std.proofs.lemmas.Slice.Eq.{slice_eq-Decides}
 use Rattle.dns_wire.specs.declared.rdata.Data.{Data}
 use Rattle.dns_wire.specs.declared.record.Record.{Record}
-use Rattle.dns_zone_map.specs.Folds.{lists_eq, data_eq}
+use Rattle.dns_zone_map.specs.SameData.{lists_eq, data_eq}
 use Rattle.dns_zone_map.proofs.SameData.{lists_eq-Decides, data_eq-Decides}
 use Rattle.dns_update.specs.Change.{is_same_record, are_same_records}
 

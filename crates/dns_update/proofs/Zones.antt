@@ -13,7 +13,7 @@ use Rattle.dns_wire.specs.declared.rdata.Form.TheVariants as form
 use Rattle.dns_wire.specs.Forms.{form_of, variant_of}
 use Rattle.dns_wire.specs.WireFormat.{data_bytes, IsShort}
 use Rattle.dns_wire.specs.ReadBack.{IsOfItsType}
-use Rattle.dns_zone_map.specs.Folds.{fold_data}
+use Rattle.dns_wire.specs.Folds.{fold_data}
 use Rattle.dns_zone_map.specs.Zone.{is_type, is_in_set, is_meta, is_equal, is_rival, IsEntry, IsZone, IsSoFar}
 use Rattle.dns_zone_map.specs.Changes.{put_over, bears, data_at, at_if, at_serial, set_serial}
 use Rattle.dns_update.specs.Change.{fold_record, put, is_only_ns, is_left, ns_count, delete, step, steps, applied}
@@ -106,7 +106,7 @@ delete_soa origin count r (s ∷ records) entries some =
     delete_soa_if (is_left origin count r s) (is_type SOA s) origin count r s records refl refl entries.0 some (delete_soa origin count r records entries.1)
 
 -- a serial that is set leaves an entry one
-numbers_length : (n o : List (List ℕ)) (k a b c d e : ℕ) → length (data_bytes (Soa n o k b c d e)) ≡ length (data_bytes (Soa n o a b c d e))
+numbers_length : (n o : List (List ℕ)) (k a b c d e : ℕ) → length (data_bytes (Soa k n o b c d e)) ≡ length (data_bytes (Soa a n o b c d e))
 numbers_length n o k a b c d e =
     omega (
       arith,
@@ -122,7 +122,7 @@ length_at k (Cname target) = refl
 length_at k (Ptr target) = refl
 length_at k (Mx preference exchange) = refl
 length_at k (Srv priority weight port target) = refl
-length_at k (Soa mname rname serial refresh retry expire minimum) = numbers_length mname rname k serial refresh retry expire minimum
+length_at k (Soa serial mname rname refresh retry expire minimum) = numbers_length mname rname k serial refresh retry expire minimum
 length_at k (Txt texts) = refl
 length_at k (Opaque bytes) = refl
 length_at k Empty = refl
@@ -135,7 +135,7 @@ variant_at k (Cname target) = refl
 variant_at k (Ptr target) = refl
 variant_at k (Mx preference exchange) = refl
 variant_at k (Srv priority weight port target) = refl
-variant_at k (Soa mname rname serial refresh retry expire minimum) = refl
+variant_at k (Soa serial mname rname refresh retry expire minimum) = refl
 variant_at k (Txt texts) = refl
 variant_at k (Opaque bytes) = refl
 variant_at k Empty = refl
@@ -148,7 +148,7 @@ fold_at k (Cname target) = refl
 fold_at k (Ptr target) = refl
 fold_at k (Mx preference exchange) = refl
 fold_at k (Srv priority weight port target) = refl
-fold_at k (Soa mname rname serial refresh retry expire minimum) = refl
+fold_at k (Soa serial mname rname refresh retry expire minimum) = refl
 fold_at k (Txt texts) = refl
 fold_at k (Opaque bytes) = refl
 fold_at k Empty = refl
@@ -224,7 +224,7 @@ filled_if true rtype d opt some none is =
     full (Ptr target) e some = cc
     full (Mx preference exchange) e some = cc
     full (Srv priority weight port target) e some = cc
-    full (Soa mname rname serial refresh retry expire minimum) e some = cc
+    full (Soa serial mname rname refresh retry expire minimum) e some = cc
     full (Txt texts) e some = cc
     full (Opaque bytes) e some = cc
     full Empty e some = cc

@@ -7,7 +7,8 @@ use Rattle.dns_wire.specs.declared.record.Record.{Record}
 use Rattle.dns_wire.specs.declared.class.TheConstants as class
 use Rattle.dns_wire.specs.declared.record_type.TheConstants as record_type
 use Rattle.dns_wire.specs.declared.record_type.TheConstants.{NS, CNAME, SOA}
-use Rattle.dns_zone_map.specs.Folds.{fold_data, lists_eq, data_eq}
+use Rattle.dns_wire.specs.Folds.{fold_data}
+use Rattle.dns_zone_map.specs.SameData.{lists_eq, data_eq}
 use Rattle.dns_zone_map.specs.Zone.{is_type, set_of, serial_or, serial_of, is_equal, is_rival}
 use Rattle.dns_zone_map.specs.Changes.{put_over, bears, is_taken_with_name, is_taken_with_set, set_serial}
 use Rattle.dns_zone_map.specs.Existence.{owns_type}

@@ -11,7 +11,7 @@ use Rattle.dns_wire.specs.declared.class.TheConstants as class
 use Rattle.dns_wire.specs.declared.record_type.TheConstants as record_type
 use Rattle.dns_wire.specs.declared.record_type.TheConstants.{SOA}
 use Rattle.dns_wire.specs.declared.response_code.TheConstants.{FORM_ERR, NX_DOMAIN, REFUSED, YX_DOMAIN, YX_RR_SET, NX_RR_SET, NOT_AUTH, NOT_ZONE}
-use Rattle.dns_zone_map.specs.Folds.{data_eq}
+use Rattle.dns_zone_map.specs.SameData.{data_eq}
 use Rattle.dns_zone_map.specs.Zone.{Contents, is_meta, set_of}
 use Rattle.dns_zone_map.specs.Existence.{owns_type}
 use Rattle.dns_update.specs.declared.verdict.Verdict.{Verdict}

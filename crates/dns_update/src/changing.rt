@@ -4,7 +4,7 @@ ghost use Rattle.std.specs.Prelude.{◌≡◌, ◌&&◌, ◌||◌, ◌==◌, tru
 ghost use Rattle.std.specs.List.{list_any};
 ghost use Rattle.dns_name.specs.Name.{is_same_name, is_at_or_below};
 ghost use Rattle.dns_wire.specs.declared.record_type.TheConstants.{SOA, NS};
-ghost use Rattle.dns_zone_map.specs.Folds.{lists_eq};
+ghost use Rattle.dns_zone_map.specs.SameData.{lists_eq};
 ghost use Rattle.dns_zone_map.specs.Zone.{is_equal, serial_or, serial_of, IsZone};
 ghost use Rattle.dns_zone_map.specs.Changes.{is_kept_type, is_taken_with_name, is_taken_with_set};
 ghost use Rattle.dns_update.specs.Change.{is_newer, is_ignored, is_same_record, is_taken_by_none, is_taken_by_any, is_only_ns, ns_count, makes_change};

@@ -3,7 +3,7 @@
 ghost use Rattle.std.specs.Prelude.{◌≡◌, true, IfOk};
 ghost use Rattle.std.specs.List.{list_all};
 ghost use Rattle.dns_name.specs.Name.{is_at_or_below};
-ghost use Rattle.dns_zone_map.specs.Folds.{data_eq};
+ghost use Rattle.dns_zone_map.specs.SameData.{data_eq};
 ghost use Rattle.dns_zone_map.specs.Zone.{is_in_set, set_of};
 ghost use Rattle.dns_zone_map.specs.Existence.{owns_type};
 ghost use Rattle.dns_zone_map.specs.Mapped.{contents};

@@ -72,7 +72,7 @@ Data-Decides a b = (λ e. the_type.to_one a b (ap (intoss the_parts) ((values a 
                 (
                   λ x y. more _ _ x y (Decides-eqb x.0 y.0) (more _ _ x.1 y.1 (Decides-eqb x.1.0 y.1.0) (more _ _ x.1.1 y.1.1 (Decides-eqb x.1.1.0 y.1.1.0) (one _ x.1.1.1 y.1.1.1 (name x.1.1.1.0 y.1.1.1.0)))),
                   (
-                    λ x y. more _ _ x y (name x.0 y.0) (more _ _ x.1 y.1 (name x.1.0 y.1.0) (more _ _ x.1.1 y.1.1 (Decides-eqb x.1.1.0 y.1.1.0) (more _ _ x.1.1.1 y.1.1.1 (Decides-eqb x.1.1.1.0 y.1.1.1.0) (more _ _ x.1.1.1.1 y.1.1.1.1 (Decides-eqb x.1.1.1.1.0 y.1.1.1.1.0) (more _ _ x.1.1.1.1.1 y.1.1.1.1.1 (Decides-eqb x.1.1.1.1.1.0 y.1.1.1.1.1.0) (one _ x.1.1.1.1.1.1 y.1.1.1.1.1.1 (Decides-eqb x.1.1.1.1.1.1.0 y.1.1.1.1.1.1.0))))))),
+                    λ x y. more _ _ x y (Decides-eqb x.0 y.0) (more _ _ x.1 y.1 (name x.1.0 y.1.0) (more _ _ x.1.1 y.1.1 (name x.1.1.0 y.1.1.0) (more _ _ x.1.1.1 y.1.1.1 (Decides-eqb x.1.1.1.0 y.1.1.1.0) (more _ _ x.1.1.1.1 y.1.1.1.1 (Decides-eqb x.1.1.1.1.0 y.1.1.1.1.0) (more _ _ x.1.1.1.1.1 y.1.1.1.1.1 (Decides-eqb x.1.1.1.1.1.0 y.1.1.1.1.1.0) (one _ x.1.1.1.1.1.1 y.1.1.1.1.1.1 (Decides-eqb x.1.1.1.1.1.1.0 y.1.1.1.1.1.1.0))))))),
                     (
                       λ x y. one _ x y (name x.0 y.0),
                       (

@@ -13,7 +13,7 @@ given (Some owner) r = record { name = owner; rtype = r.rtype; class = r.class; 
 
 -- how long a name or set that is not there may be remembered: the lesser of the SOA's TTL and its minimum (RFC 2308 3)
 abbrev pub negative_ttl : Data → ℕ → ℕ
-negative_ttl (Soa mname rname serial refresh retry expire minimum) ttl = min ttl minimum
+negative_ttl (Soa serial mname rname refresh retry expire minimum) ttl = min ttl minimum
 negative_ttl rdata ttl = ttl
 
 -- the SOA as it stands in a negative reply

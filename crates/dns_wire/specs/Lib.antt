@@ -3,6 +3,7 @@ pub mod Forms
 pub mod Standing
 pub mod Header
 pub mod Edns
+pub mod Folds
 pub mod Sections
 pub mod Messages
 pub mod WireFormat

@@ -1,10 +1,13 @@
 //! The wire format of DNS: questions, records and messages, read and written (RFC 1035, RFC 6891).
 #![tactic(auto)]
 
+mod boxed_name;
 pub mod class;
 mod edns;
 mod encoding;
+mod folding;
 mod header;
+mod ipv6_address;
 pub mod laws;
 mod lent_records;
 mod lent_reply;
@@ -24,6 +27,7 @@ mod texts;
 mod writing;
 mod writing_data;
 
+pub use boxed_name::BoxedName;
 pub use dns_io::{
     Clock, FileSource, IoFault, Ip, MemoryClock, MemorySink, MemorySource, Octets, OutOfMemory,
     Peer, Protocol, Reading, Sink, Source, SystemClock, Writing, told_contents, write_all,
@@ -31,6 +35,7 @@ pub use dns_io::{
 pub use dns_name::{Labels, Name, ProtoError, name_laws};
 pub use edns::Edns;
 pub use header::Header;
+pub use ipv6_address::Ipv6Address;
 pub use lent_records::LentRecords;
 pub use lent_reply::{Appended, LentReply};
 pub use message::Message;
