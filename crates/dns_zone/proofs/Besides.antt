@@ -8,7 +8,7 @@ use Rattle.std.proofs.lemmas.List.Folds.{list_any-append}
 use Rattle.dns_name.specs.Name.{is_same_name}
 use Rattle.dns_wire.specs.declared.record.Record.{Record}
 use Rattle.dns_zone_map.specs.declared.sets.RecordSet.{RecordSet}
-use Rattle.dns_zone_map.specs.Folds.{data_eq}
+use Rattle.dns_zone_map.specs.SameData.{data_eq}
 use Rattle.dns_zone_map.specs.Zone.{is_type, is_in_set, is_equal, set_of, IsEntry, IsSoFar}
 use Rattle.dns_zone_map.specs.Sets.{AreSetsOf, TypesRise, set_in, some_of}
 use Rattle.dns_zone.specs.Lent.{in_all, of_type, records_or_none}

@@ -1,13 +1,11 @@
 -- What a look finds where the way down to a name ends.
-use Rattle.std.proofs.Common.{◌≡◌, ℕ, suc, ◌+◌, ◌-◌, ◌<◌, ◌≤◌, List, [], ◌∷◌, length, drop, map, filter, refl, sym, ap, ◌∙◌, subst, arith, Bool, true, false, length-drop}
+use Rattle.std.proofs.Common.{◌≡◌, ℕ, suc, ◌+◌, ◌-◌, ◌<◌, ◌≤◌, List, [], ◌∷◌, length, drop, map, refl, sym, ap, ◌∙◌, subst, arith, Bool, true, false, length-drop}
 use Rattle.std.specs.Prelude.{None, Some, is_some, ◌||◌, ◌&&◌, ◌==◌, nat_le}
 use Rattle.std.specs.List.{list_any, AllByRecursion}
 use Rattle.std.specs.Char.{to_ascii_lowercase}
-use Rattle.std.specs.Str.{bytes_eq}
-use Rattle.std.specs.Cmp.Lexicographic.{pointwise}
 use Rattle.std.proofs.lemmas.List.{length-map}
 use Rattle.std.proofs.lemmas.Bool.Decides.{Decides-eqb}
-use Rattle.dns_name.specs.Name.{SameName, fold_of, is_same_name, is_at_or_below}
+use Rattle.dns_name.specs.Name.{SameName, is_same_name, is_at_or_below}
 use Rattle.dns_name.proofs.SameNames.{is_same_name-Decides, is_at_or_below-Decides}
 use Rattle.dns_wire.specs.declared.record.Record.{Record}
 use Rattle.dns_zone_map.specs.declared.sets.RecordSet.{RecordSet}
@@ -16,10 +14,9 @@ use Rattle.dns_zone_map.specs.Existence.{exists, is_at_or_under}
 use Rattle.dns_zone_map.specs.Sets.{AreSetsOf, set_in}
 use Rattle.dns_zone.specs.declared.look.Look.TheVariants.{Referral}
 use Rattle.dns_zone.specs.Look.{is_cut, topmost, nearest, cut_of, only_if, look_of, look_at, wildcard_under}
-use Rattle.dns_zone.specs.Lent.{of_type}
 use Rattle.dns_zone.specs.Descent.{IsAbove, IsEnclosed}
 use Rattle.dns_zone.proofs.Absent.{gone, gone_uncut, gone_nearest}
-use Rattle.dns_zone.proofs.Owned.{owned_is, set_is}
+use Rattle.dns_zone.proofs.Owned.{owned_is}
 use Rattle.dns_zone.proofs.Walk.{cut_below, no_cut_above, none_here, found_here}
 
 -- a name below the origin is a cut where it has a set of type NS
@@ -155,13 +152,6 @@ pub origin_exists : (origin : List (List ℕ)) (records : List Record) (name : L
 origin_exists origin records name depth zone within size =
     any_with (IsEntry origin) (is_type 6) (is_at_or_under (drop depth name)) records zone.entries
     (λ r entry soa. (is_at_or_below-Decides r.name (drop depth name)).1 ([], (is_same_name-Decides r.name origin).0 (entry.soa soa) ∙ sym (top_same name origin depth within size))) zone.soa
-
--- what it owns is what the sets say that are found there
-pub top_set : (origin : List (List ℕ)) (records : List Record) (name : List (List ℕ)) (depth rtype : ℕ) (sets : List RecordSet) → is_at_or_below name origin ≡ true → length origin + depth ≡ length name
-    → AreSetsOf records (drop depth name) sets → of_type sets rtype ≡ set_of records origin rtype
-top_set origin records name depth rtype sets within size own =
-    sym (set_is records (drop depth name) sets rtype own)
-    ∙ ap (λ (folded : List (List ℕ)). filter (λ r. is_type rtype r && pointwise bytes_eq (fold_of r.name) folded) records) (top_same name origin depth within size)
 
 -- so the way down begins there
 pub above_first : (zone : Contents) (name : List (List ℕ)) (depth : ℕ) → IsZone zone.origin zone.records → is_at_or_below name zone.origin ≡ true → length zone.origin + depth ≡ length name → IsAbove zone name depth

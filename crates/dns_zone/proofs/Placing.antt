@@ -4,7 +4,7 @@ use Rattle.std.specs.List.{AllByRecursion, IsDistinct, list_any}
 use Rattle.std.proofs.lemmas.Bool.Decides.{Decides-eqb}
 use Rattle.dns_wire.specs.declared.record.Record.{Record}
 use Rattle.dns_name.specs.Name.{is_same_name, is_at_or_below}
-use Rattle.dns_zone_map.specs.Folds.{data_eq}
+use Rattle.dns_zone_map.specs.SameData.{data_eq}
 use Rattle.dns_zone_map.specs.Zone.{is_type, is_equal, is_rival, IsEntry, IsSoFar}
 use Rattle.dns_presentation.specs.declared.entry.Context.{Context}
 use Rattle.dns_presentation.specs.LogicalLines.{LogicalLine}

@@ -21,7 +21,7 @@ use Rattle.dns_wire.specs.Texts.{texts_bytes}
 use Rattle.dns_wire.specs.WireFormat.{data_bytes, IsShort}
 use Rattle.dns_name.proofs.Below.{length-fold_of}
 use Rattle.dns_name.proofs.Lengths.{length_name_bytes}
-use Rattle.dns_zone_map.specs.Folds.{fold_data}
+use Rattle.dns_wire.specs.Folds.{fold_data}
 use Rattle.dns_zone_map.specs.Zone.{is_meta}
 use Rattle.dns_presentation.specs.Lines.{parts_of}
 use Rattle.dns_zone.specs.Contexts.{IsFolded}
@@ -236,14 +236,14 @@ IsTyped-srv_of origin (first ∷ second ∷ third ∷ words) rdata above is =
     let target = taken (only_name origin words) (λ target. Some (Srv a.0 b.0 c.0 target)) rdata c.2 in
     subst (λ rdata. IsTyped (33, rdata)) (some_same (Srv a.0 b.0 c.0 target.0) rdata target.2) (IsTyped-srv a.0 b.0 c.0 target.0 (IsFolded-only_name origin words target.0 above target.1))
 
-IsTyped-soa : (mname rname : List (List ℕ)) (serial refresh retry expire minimum : ℕ) → IsFolded mname → IsFolded rname → IsTyped (6, Soa mname rname serial refresh retry expire minimum)
+IsTyped-soa : (mname rname : List (List ℕ)) (serial refresh retry expire minimum : ℕ) → IsFolded mname → IsFolded rname → IsTyped (6, Soa serial mname rname refresh retry expire minimum)
 IsTyped-soa mname rname serial refresh retry expire minimum primary mailbox =
-    let size : length (data_bytes (Soa mname rname serial refresh retry expire minimum)) ≡ length (name_bytes mname) + length (name_bytes rname) + 20 =
+    let size : length (data_bytes (Soa serial mname rname refresh retry expire minimum)) ≡ length (name_bytes mname) + length (name_bytes rname) + 20 =
     omega (arith, length-append (name_bytes mname ++ name_bytes rname) (flat_map (to_be_bytes w32) (serial ∷ refresh ∷ retry ∷ expire ∷ minimum ∷ [])), length-append (name_bytes mname) (name_bytes rname)) in
-    let some : 0 < length (data_bytes (Soa mname rname serial refresh retry expire minimum)) = omega (arith, size) in
+    let some : 0 < length (data_bytes (Soa serial mname rname refresh retry expire minimum)) = omega (arith, size) in
     record {
       plain = refl;
-      form = rw (not_none (length (data_bytes (Soa mname rname serial refresh retry expire minimum))) some) refl;
+      form = rw (not_none (length (data_bytes (Soa serial mname rname refresh retry expire minimum))) some) refl;
       filled = some;
       short = omega (arith, size, primary.short, mailbox.short);
       names = rw (primary.folded, mailbox.folded) refl;
@@ -255,11 +255,11 @@ IsTyped-soa_of origin [] rdata above is = absurd cc
 IsTyped-soa_of origin (primary ∷ []) rdata above is = absurd cc
 IsTyped-soa_of origin (primary ∷ mailbox ∷ []) rdata above is = absurd cc
 IsTyped-soa_of origin (primary ∷ mailbox ∷ version ∷ words) rdata above is =
-    let mname = taken (word_name origin primary) (λ mname. word_name origin mailbox >>= λ rname. word_number version >>= λ serial. times_of words >>= λ times. Some (Soa mname rname serial times.0 times.1 times.2 times.3)) rdata is in
-    let rname = taken (word_name origin mailbox) (λ rname. word_number version >>= λ serial. times_of words >>= λ times. Some (Soa mname.0 rname serial times.0 times.1 times.2 times.3)) rdata mname.2 in
-    let serial = taken (word_number version) (λ serial. times_of words >>= λ times. Some (Soa mname.0 rname.0 serial times.0 times.1 times.2 times.3)) rdata rname.2 in
-    let times = taken (times_of words) (λ times. Some (Soa mname.0 rname.0 serial.0 times.0 times.1 times.2 times.3)) rdata serial.2 in
-    let same : Soa mname.0 rname.0 serial.0 times.0.0 times.0.1 times.0.2 times.0.3 ≡ rdata = some_same _ _ times.2 in
+    let mname = taken (word_name origin primary) (λ mname. word_name origin mailbox >>= λ rname. word_number version >>= λ serial. times_of words >>= λ times. Some (Soa serial mname rname times.0 times.1 times.2 times.3)) rdata is in
+    let rname = taken (word_name origin mailbox) (λ rname. word_number version >>= λ serial. times_of words >>= λ times. Some (Soa serial mname.0 rname times.0 times.1 times.2 times.3)) rdata mname.2 in
+    let serial = taken (word_number version) (λ serial. times_of words >>= λ times. Some (Soa serial mname.0 rname.0 times.0 times.1 times.2 times.3)) rdata rname.2 in
+    let times = taken (times_of words) (λ times. Some (Soa serial.0 mname.0 rname.0 times.0 times.1 times.2 times.3)) rdata serial.2 in
+    let same : Soa serial.0 mname.0 rname.0 times.0.0 times.0.1 times.0.2 times.0.3 ≡ rdata = some_same _ _ times.2 in
     subst (λ rdata. IsTyped (6, rdata)) same
     (IsTyped-soa mname.0 rname.0 serial.0 times.0.0 times.0.1 times.0.2 times.0.3 (IsFolded-word_name origin primary mname.0 above mname.1) (IsFolded-word_name origin mailbox rname.0 above rname.1))
 

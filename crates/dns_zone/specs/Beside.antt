@@ -4,7 +4,7 @@ use Rattle.std.specs.List.{list_any}
 use Rattle.dns_wire.specs.declared.record.Record.{Record}
 use Rattle.dns_wire.specs.declared.record_type.TheConstants.{CNAME}
 use Rattle.dns_zone_map.specs.declared.sets.RecordSet.{RecordSet}
-use Rattle.dns_zone_map.specs.Folds.{data_eq}
+use Rattle.dns_zone_map.specs.SameData.{data_eq}
 use Rattle.dns_zone_map.specs.Zone.{is_type}
 use Rattle.dns_zone_map.specs.Sets.{set_in}
 use Rattle.dns_zone.specs.Lent.{in_all}

@@ -9,7 +9,7 @@ ghost use Rattle.dns_zone.specs.Descent.{IsDescent, IsAbove, IsMet};
 
 use dns_io::OutOfMemory;
 use dns_wire::record_type::{DS, NS};
-use dns_zone_map::{OwnerSets, RecordSet, ZoneKey, ZoneMap};
+use dns_zone_map::{OwnerSets, Presence, RecordSet, ZoneKey, ZoneMap};
 
 /// Where the way down to a name ends.
 #[derive(Drop)]
@@ -33,19 +33,18 @@ enum Met<'a> {
     Gone,
 }
 
-/// Goes down to a name of the zone, which has so many labels more than the origin.
+/// Goes down to a name of the zone.
 pub(crate) fn descend<'a>(
     zone: &'a ZoneMap,
     key: &ZoneKey<'_>,
-    depth: usize,
     rtype: u16,
 ) -> Result<Descent<'a>, OutOfMemory>
     requires zone { IsZone zone.now.origin zone.now.records }
     requires origin { key.now.origin ≡ zone.now.origin }
     requires within { is_at_or_below key.now.name zone.now.origin ≡ true }
-    requires depth { length zone.now.origin + depth ≡ length key.now.name }
     ensures { IfOk result (IsDescent (contents zone.now) key.now.name rtype) }
 {
+    let depth = key.depth();
     if depth == 0 {
         return Ok(Descent::Own(zone.sets(key, 0)));
     }
@@ -71,14 +70,10 @@ fn meet<'a>(
     requires below { length zone.now.origin + labels_dropped < length key.now.name }
     ensures { IfOk result (IsMet (contents zone.now) (drop labels_dropped key.now.name)) }
 {
-    match zone.sets(key, labels_dropped) {
-        None => {
-            if zone.exists(key, labels_dropped)? {
-                return Ok(Met::There);
-            }
-            Ok(Met::Gone)
-        }
-        Some(sets) => match sets.set(NS) {
+    match zone.presence(key, labels_dropped)? {
+        Presence::Absent => Ok(Met::Gone),
+        Presence::Empty => Ok(Met::There),
+        Presence::Owner(sets) => match sets.set(NS) {
             None => Ok(Met::There),
             Some(set) => Ok(Met::Cut(set)),
         },
@@ -93,14 +88,10 @@ fn arrive<'a>(zone: &'a ZoneMap, key: &ZoneKey<'_>, rtype: u16) -> Result<Descen
     requires above { IsAbove (contents zone.now) key.now.name 1 }
     ensures { IfOk result (IsDescent (contents zone.now) key.now.name rtype) }
 {
-    match zone.sets(key, 0) {
-        None => {
-            if zone.exists(key, 0)? {
-                return Ok(Descent::Own(None));
-            }
-            Ok(Descent::Encloser(1))
-        }
-        Some(sets) => {
+    match zone.presence(key, 0)? {
+        Presence::Absent => Ok(Descent::Encloser(1)),
+        Presence::Empty => Ok(Descent::Own(None)),
+        Presence::Owner(sets) => {
             if rtype == DS {
                 return Ok(Descent::Own(Some(sets)));
             }

@@ -153,7 +153,6 @@ fn add_sets<'a>(
 ) -> Result<(), OutOfMemory>
     ensures { OnOk result (in_parts parts.new.items ≡ in_parts parts.old.items ++ map (given (option_map (λ n. fold_of n.now) asked.entry)) (in_all sets.now)) }
 {
-    parts.reserve(sets.len())?;
     for set in sets {
         parts.push(LentRecords::new(set.records().as_slice(), asked))?;
     }

@@ -17,7 +17,7 @@ use dns_io::OutOfMemory;
 use dns_name::Name;
 use dns_wire::LentRecords;
 use dns_wire::record_type::{ANY, CNAME};
-use dns_zone_map::{OwnerSets, RecordSet, ZoneKey, ZoneMap};
+use dns_zone_map::{OwnerSets, Presence, RecordSet, ZoneKey, ZoneMap};
 
 /// What a look finds, lent by the zone.
 #[derive(Drop)]
@@ -47,15 +47,13 @@ pub(crate) fn look_of<'a>(
     let map = zone.map();
     let mut room = [0u8; 255];
     let key = ZoneKey::new(map.origin(), name, &mut room);
-    let depth = name.label_count() - map.origin().label_count();
-    look_by(map, &key, depth, name, rtype)
+    look_by(map, &key, name, rtype)
 }
 
-/// The same by the key of the name, which has so many labels more than the origin.
+/// The same by the key of the name.
 pub(crate) fn look_by<'a>(
     map: &'a ZoneMap,
     key: &ZoneKey<'_>,
-    depth: usize,
     name: &'a Name,
     rtype: u16,
 ) -> Result<Look<'a>, OutOfMemory>
@@ -63,10 +61,9 @@ pub(crate) fn look_by<'a>(
     requires origin { key.now.origin ≡ map.now.origin }
     requires name { key.now.name ≡ name.now }
     requires within { is_at_or_below name.now map.now.origin ≡ true }
-    requires depth { length map.now.origin + depth ≡ length name.now }
     ensures { IfOk result (λ look. look ≡ look_of (contents map.now) name.now rtype) }
 {
-    match descend(map, key, depth, rtype)? {
+    match descend(map, key, rtype)? {
         Descent::Cut(set) => Ok(Look::Referral(own(set))),
         Descent::Own(sets) => Ok(look_at(sets, None, rtype)),
         Descent::Encloser(labels_dropped) => { look_at_star(map, key, labels_dropped, name, rtype) }
@@ -96,14 +93,10 @@ fn look_at_star<'a>(
     ensures { IfOk result (λ look. look
         ≡ look_at map.now.records (wildcard_under map.now.records name.now (Some (drop labels_dropped name.now))) rtype) }
 {
-    match map.star_sets(key, labels_dropped) {
-        Some(sets) => Ok(look_in(sets, Some(name), rtype)),
-        None => {
-            if map.star_exists(key, labels_dropped)? {
-                return Ok(Look::NoData);
-            }
-            Ok(Look::NoName)
-        }
+    match map.star(key, labels_dropped)? {
+        Presence::Absent => Ok(Look::NoName),
+        Presence::Empty => Ok(Look::NoData),
+        Presence::Owner(sets) => Ok(look_in(sets, Some(name), rtype)),
     }
 }
 

@@ -55,16 +55,15 @@ impl Zone {
         let name = &question.name;
         let mut room = [0u8; 255];
         let key = ZoneKey::new(map.origin(), name, &mut room);
-        let depth = name.label_count() - map.origin().label_count();
-        match look_by(map, &key, depth, name, question.qtype)? {
+        match look_by(map, &key, name, question.qtype)? {
             Look::Found(found) => Ok(Answer::found(found.parts(alloc)?)),
             Look::Referral(ns) => Ok(Answer::referral(false, Parts::none(alloc), ns)),
             Look::NoName => {
-                let soa = soa_by(map, &key, depth);
+                let soa = negative_soa(map);
                 Ok(Answer::negative(NX_DOMAIN, Parts::none(alloc), soa))
             }
             Look::NoData => {
-                let soa = soa_by(map, &key, depth);
+                let soa = negative_soa(map);
                 Ok(Answer::negative(NO_ERROR, Parts::none(alloc), soa))
             }
             Look::Alias(one) => {
@@ -115,11 +114,11 @@ fn follow<'a>(
         }
         Some(Look::NoName) => {
             let parts = alias_parts(alloc, &aliases, &last)?;
-            Ok(Answer::negative(NX_DOMAIN, parts, negative_soa(zone)))
+            Ok(Answer::negative(NX_DOMAIN, parts, negative_soa(zone.map())))
         }
         Some(Look::NoData) => {
             let parts = alias_parts(alloc, &aliases, &last)?;
-            Ok(Answer::negative(NO_ERROR, parts, negative_soa(zone)))
+            Ok(Answer::negative(NO_ERROR, parts, negative_soa(zone.map())))
         }
         Some(Look::Alias(next)) => {
             aliases.push(last)?;
@@ -253,23 +252,10 @@ fn leads_to(one: &LentRecord<'_>, name: &Name) -> bool
 }
 
 /// The SOA for an answer that something is not there.
-fn negative_soa(zone: &Zone) -> LentRecords<'_>
-    ensures { result ≡ negative_soa zone.now }
-{
-    match zone.soa() {
-        None => LentRecords::none(),
-        Some(soa) => LentRecords::negative(soa.as_slice()),
-    }
-}
-
-/// The same by the key of a name that has so many labels more than the origin.
-fn soa_by<'a>(map: &'a ZoneMap, key: &ZoneKey<'_>, depth: usize) -> LentRecords<'a>
-    requires origin { key.now.origin ≡ map.now.origin }
-    requires within { is_at_or_below key.now.name map.now.origin ≡ true }
-    requires depth { length map.now.origin + depth ≡ length key.now.name }
+fn negative_soa(map: &ZoneMap) -> LentRecords<'_>
     ensures { result ≡ negative_soa (contents map.now) }
 {
-    match map.sets(key, depth) {
+    match map.top_sets() {
         None => LentRecords::none(),
         Some(sets) => match sets.set(SOA) {
             None => LentRecords::none(),

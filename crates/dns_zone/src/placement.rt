@@ -5,7 +5,7 @@ ghost use Rattle.std.specs.Prelude.{◌≡◌, ◌&&◌, ◌||◌, not, true, Ok
 ghost use Rattle.std.specs.List.{list_any};
 ghost use Rattle.dns_name.specs.Name.{is_same_name, is_at_or_below};
 ghost use Rattle.dns_wire.specs.declared.record_type.TheConstants.{SOA};
-ghost use Rattle.dns_zone_map.specs.Folds.{data_eq};
+ghost use Rattle.dns_zone_map.specs.SameData.{data_eq};
 ghost use Rattle.dns_zone_map.specs.Zone.{is_type, IsEntry, IsSoFar};
 ghost use Rattle.dns_zone.specs.ZoneText.{is_beside_alias, placed, TellsKind};
 ghost use Rattle.dns_zone.specs.Beside.{is_other, stands_beside};

@@ -4,7 +4,6 @@ ghost use Rattle.std.specs.Prelude.{◌≡◌, length, None, IfOk};
 ghost use Rattle.std.specs.Option.{option_copied};
 ghost use Rattle.dns_name.specs.Name.{fold_of};
 ghost use Rattle.dns_wire.specs.WireFormat.{AreShort};
-ghost use Rattle.dns_wire.specs.declared.record_type.TheConstants.{SOA};
 ghost use Rattle.dns_zone_map.specs.Mapped.{contents};
 ghost use Rattle.dns_zone_map.specs.Sets.{some_of};
 ghost use Rattle.dns_zone_map.specs.Zone.{set_of, serial_of, IsZone};
@@ -12,7 +11,6 @@ ghost use Rattle.dns_zone_map.specs.Zone.{set_of, serial_of, IsZone};
 use dns_io::OutOfMemory;
 use dns_name::Name;
 use dns_wire::Records;
-use dns_wire::record_type::SOA;
 use dns_zone_map::ZoneMap;
 use std::alloc::Global;
 use std::marker::Model;
@@ -76,13 +74,6 @@ impl Zone {
         ensures { option_copied result ≡ some_of (set_of self.now.records name.now rtype) }
     {
         self.map.set(name, rtype)
-    }
-
-    /// The SOA at the top of the zone.
-    pub(crate) fn soa(&self) -> Option<&Records>
-        ensures { option_copied result ≡ some_of (set_of self.now.records self.now.origin SOA) }
-    {
-        self.map.set(self.map.origin(), SOA)
     }
 
     /// The records as a map.

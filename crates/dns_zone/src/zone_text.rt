@@ -103,9 +103,9 @@ fn zone_under(alloc: Global, text: &[u8], origin: Name) -> Result<Zone, ZoneText
 {
     let mut context = Context::new(origin.copy()?);
     let mut map = ZoneMap::new(alloc, origin, text.len() / BYTES_A_NAME)?;
+    let mut line = LogicalLine::new(alloc)?;
     let mut rest = text;
-    let mut number = 1u64;
-    while let Some((line, after)) = LogicalLine::first(alloc, number, rest)? {
+    while let Some(after) = line.pass(rest)? {
         match take_line(alloc, &mut map, &mut context, &line) {
             Ok(()) => {}
             Err(LineFault::Kind(kind)) => {
@@ -116,7 +116,6 @@ fn zone_under(alloc: Global, text: &[u8], origin: Name) -> Result<Zone, ZoneText
             }
             Err(LineFault::OutOfMemory) => return Err(ZoneTextFault::OutOfMemory),
         }
-        number = line.next();
         rest = after;
     }
     finished(map)

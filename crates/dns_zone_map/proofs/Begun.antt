@@ -1,11 +1,16 @@
 -- The keys that begin with a key stand in its tree.
-use Rattle.std.proofs.Common.{◌≡◌, ℕ, ◌+◌, ◌<◌, Bool, true, false, List, [], ◌∷◌, ◌++◌, length, take, reverse, refl, sym, ap, ◌∙◌, subst, arith, length-append, eqb, Result, Ok, Err, IfOk}
+use Rattle.std.proofs.Common.{◌≡◌, ℕ, ◌+◌, ◌<◌, Bool, true, false, List, [], ◌∷◌, ◌++◌, length, take, reverse, refl, sym, ap, ◌∙◌, subst, arith, length-append, eqb, if◌then◌else◌}
 use Rattle.std.specs.Prelude.{◌||◌, ◌&&◌, ◌-◌, ◌%◌}
 use Rattle.std.specs.List.{AllByRecursion, list_any, starts_with}
 use Rattle.std.proofs.lemmas.List.{take-append-le}
 use Rattle.dns_name.specs.Name.{labels_bytes, fold_of}
+use Rattle.std.specs.Map.{lookup}
 use Rattle.dns_zone_map.specs.Keys.{key_of, BeginsWith}
-use Rattle.dns_zone_map.specs.Sets.{are_some}
+use Rattle.dns_zone_map.specs.Presence.{is_begun, IsPresenceAt}
+use Rattle.dns_zone_map.specs.declared.presence.Presence.{Presence}
+use Rattle.dns_zone_map.specs.declared.presence.Presence.TheVariants.{Empty, Absent}
+use Rattle.dns_zone_map.specs.Removal.{is_key}
+use Rattle.dns_zone_map.specs.Sets.{are_some, sets_or_none}
 use Rattle.dns_zone_map.specs.Table.{first_label, HasWholeLabel, hash_from, place_of, all_in}
 use Rattle.dns_zone_map.proofs.Firsts.{starts-Decides}
 use Rattle.dns_zone_map.proofs.Lent.{all_to}
@@ -70,6 +75,12 @@ begun_in ts t key place zone there p view whole some is =
     ∙ sym (ap (list_any (begins key)) (sym view ∙ p.was) ∙ any_behind key p.front (t.entries ++ p.back) (none_begins (length ts) key p.front whole some p.led_before)
     ∙ any_before key t.entries p.back (none_begins (length ts) key p.back whole some p.led_behind))
 
-pub begun_ok : {E : Type 0} (ts : List TreeOf) (t : TreeOf) (key : List ℕ) (place : ℕ) (zone : Entries) (result : Result Bool E) → Parted ts t key place → all_in ts ≡ zone → HasWholeLabel key → 0 < length key → IfOk result (λ there. there ≡ list_any (begins key) t.entries) → IfOk result (λ there. there ≡ list_any (begins key) zone)
-begun_ok ts t key place zone (Ok there) p view whole some is = begun_in ts t key place zone there p view whole some is
-begun_ok ts t key place zone (Err e) p view whole some is = tt
+-- what there is at a name that owns nothing
+pub none_at : (es : Entries) (key : List ℕ) (there : Bool) (found : Presence) → [] ≡ sets_or_none (lookup (is_key key) es) → there ≡ is_begun es key → found ≡ (if there then Empty else Absent) → IsPresenceAt es key found
+none_at es key true found none is how = subst (IsPresenceAt es key) (sym how) (none, sym is)
+none_at es key false found none is how = subst (IsPresenceAt es key) (sym how) (sym is)
+
+-- nothing begins so where there is nothing
+pub none_begun : (es : Entries) (key : List ℕ) → length es ≡ 0 → false ≡ is_begun es key
+none_begun [] key none = refl
+none_begun (e ∷ es) key none = absurd (omega (arith, none))

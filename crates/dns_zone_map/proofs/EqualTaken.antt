@@ -10,7 +10,7 @@ use Rattle.std.proofs.lemmas.List.Elements.{filter-append}
 use Rattle.dns_name.specs.Name.{is_same_name}
 use Rattle.dns_wire.specs.declared.record.Record.{Record}
 use Rattle.dns_zone_map.specs.declared.sets.RecordSet.{RecordSet}
-use Rattle.dns_zone_map.specs.Folds.{data_eq}
+use Rattle.dns_zone_map.specs.SameData.{data_eq}
 use Rattle.dns_zone_map.specs.Zone.{is_equal}
 use Rattle.dns_zone_map.specs.Changes.{AtMostOne}
 use Rattle.dns_zone_map.specs.Order.{Numbered, numbered, of_plain, IsRising}

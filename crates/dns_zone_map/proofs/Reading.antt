@@ -1,5 +1,5 @@
 -- What a look at the map of a zone says of its list.
-use Rattle.std.proofs.Common.{◌≡◌, ℕ, suc, Bool, true, false, List, [], ◌∷◌, length, refl, sym, ap, ◌∙◌, subst, Vec, Global, Bor, eqb, Result, Ok, Err, IfOk}
+use Rattle.std.proofs.Common.{◌≡◌, ℕ, suc, Bool, true, false, List, [], ◌∷◌, length, refl, sym, ap, ◌∙◌, subst, Vec, Global, Bor, eqb, arith, Some, None, Result, Ok, Err, IfOk}
 use Rattle.std.specs.Prelude.{Option, ◌&&◌, nat_lt, if◌then◌else◌}
 use Rattle.std.specs.Option.{option_copied}
 use Rattle.std.specs.List.{list_any, starts_with, AllByRecursion}
@@ -12,6 +12,12 @@ use Rattle.dns_zone_map.specs.declared.sets.RecordSet.{RecordSet}
 use Rattle.dns_zone_map.specs.Keys.{key_of, Placed}
 use Rattle.dns_zone_map.specs.Zone.{Contents}
 use Rattle.dns_zone_map.specs.Existence.{exists}
+use Rattle.dns_zone_map.specs.Presence.{IsPresence, IsPresenceAt}
+use Rattle.dns_zone_map.specs.declared.presence.Presence.{Presence}
+use Rattle.dns_zone_map.specs.declared.presence.Presence.TheVariants.{Owner, Empty, Absent}
+use Rattle.dns_zone_map.specs.Removal.{is_key}
+use Rattle.dns_name.proofs.SameNames.{is_at_or_below-Decides}
+use Rattle.dns_zone_map.proofs.Written.{key_none}
 use Rattle.dns_zone_map.specs.Order.{Numbered, into, by_number, plain, list_of}
 use Rattle.dns_zone_map.specs.Sets.{sets_or_none, AreSetsOf, are_some, IsPaired, ArePaired, TypesRise}
 use Rattle.dns_zone_map.specs.Tree.{KeysApart, in_entries, AreEntries, IsTree, AreSets, IsSet}
@@ -52,9 +58,22 @@ module _ (origin : List (List ℕ)) (es : List (Vec ℕ Global × List RecordSet
   pub there_at : (key : List ℕ) (there : Bool) → key ≡ key_of placed.origin name → there ≡ list_any (λ e. starts_with eqb e.0.items key && are_some e.1) es → there ≡ exists zone.records name
   there_at key there is begun = exists_at origin name key es zone there view (subst (λ o. is_at_or_below name o ≡ true) same within) (is ∙ ap (λ o. key_of o name) same) tree.each begun
 
-  pub there_ok : {E : Type 0} (key : List ℕ) (result : Result Bool E) → key ≡ key_of placed.origin name → IfOk result (λ there. there ≡ list_any (λ e. starts_with eqb e.0.items key && are_some e.1) es) → IfOk result (λ there. there ≡ exists zone.records name)
-  there_ok key (Ok there) is begun = there_at key there is begun
-  there_ok key (Err e) is begun = tt
+  -- what there is at the name
+  presence_at : (key : List ℕ) (found : Presence) → KeysApart es → key ≡ key_of placed.origin name → IsPresenceAt es key found → IsPresence zone.records name found
+  presence_at key (Owner sets) apart is h = (sets_at key (Some sets) apart is h.0, h.1)
+  presence_at key Empty apart is h = (sets_at key None apart is h.0, sym (there_at key true is (sym h.1)))
+  presence_at key Absent apart is h = sym (there_at key false is (sym h))
+
+  pub presence_ok : {E : Type 0} (key : List ℕ) (result : Result Presence E) → KeysApart es → key ≡ key_of placed.origin name → IfOk result (IsPresenceAt es key) → IfOk result (IsPresence zone.records name)
+  presence_ok key (Ok found) apart is h = presence_at key found apart is h
+  presence_ok key (Err e) apart is h = tt
+
+-- the sets of the origin are at the empty key
+pub top_sets_at : (origin : List (List ℕ)) (es : List (Vec ℕ Global × List RecordSet)) (next count : ℕ) (zone : Contents) → record { origin = origin; records = list_of (in_entries es) } ≡ zone → IsTree origin es next count
+    → (found : Option (Bor (List RecordSet))) → KeysApart es → sets_or_none (option_copied found) ≡ sets_or_none (lookup (is_key []) es) → AreSetsOf zone.records zone.origin (sets_or_none (option_copied found))
+top_sets_at origin es next count zone view tree found apart at =
+    let top : is_at_or_below zone.origin zone.origin ≡ true = (is_at_or_below-Decides zone.origin zone.origin).1 ([], refl) in
+    subst (AreSetsOf zone.records zone.origin) (sym at) (sets_are origin zone.origin [] es zone (lookup (is_key []) es) view top (sym (key_none zone.origin zone.origin (omega arith))) tree.each apart refl)
 
 -- each set has a number for each record
 pub paired_all : (origin : List (List ℕ)) (es : List (Vec ℕ Global × List RecordSet)) → AreEntries origin es → AllByRecursion (λ e. ArePaired e.1) es

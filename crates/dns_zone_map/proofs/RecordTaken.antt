@@ -11,7 +11,7 @@ use Rattle.dns_name.proofs.SameNames.{is_same_name-Decides}
 use Rattle.dns_wire.specs.declared.record.Record.{Record}
 use Rattle.dns_wire.specs.declared.record_type.TheConstants.{CNAME, SOA}
 use Rattle.dns_zone_map.specs.declared.sets.RecordSet.{RecordSet}
-use Rattle.dns_zone_map.specs.Folds.{data_eq}
+use Rattle.dns_zone_map.specs.SameData.{data_eq}
 use Rattle.dns_zone_map.specs.Keys.{key_of}
 use Rattle.dns_zone_map.specs.Changes.{first_that, AtMostOne}
 use Rattle.dns_zone_map.specs.Zone.{Contents, is_in_set, set_of, is_equal, is_rival, IsSoFar}

@@ -9,7 +9,7 @@ use Rattle.dns_name.specs.Name.{is_same_name, SameName}
 use Rattle.dns_wire.specs.declared.record.Record.{Record}
 use Rattle.dns_wire.specs.declared.record_type.TheConstants.{CNAME, SOA}
 use Rattle.dns_zone_map.specs.declared.sets.RecordSet.{RecordSet}
-use Rattle.dns_zone_map.specs.Folds.{data_eq}
+use Rattle.dns_zone_map.specs.SameData.{data_eq}
 use Rattle.dns_zone_map.specs.Keys.{key_of}
 use Rattle.dns_zone_map.specs.Zone.{is_rival, IsEntry}
 use Rattle.dns_zone_map.specs.Order.{Numbered, into, by_number, plain, list_of, of_plain}

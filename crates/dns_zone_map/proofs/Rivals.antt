@@ -5,7 +5,7 @@ use Rattle.std.proofs.lemmas.Bool.Decides.{same_from_decides, Decides-eqb}
 use Rattle.dns_wire.specs.declared.rdata.Data.{Data}
 use Rattle.dns_wire.specs.declared.record.Record.{Record}
 use Rattle.dns_name.specs.Name.{fold_of, is_same_name}
-use Rattle.dns_zone_map.specs.Folds.{data_eq}
+use Rattle.dns_zone_map.specs.SameData.{data_eq}
 use Rattle.dns_zone_map.specs.Zone.{is_rival}
 use Rattle.dns_zone_map.specs.Changes.{put_over, AtMostOne}
 use Rattle.dns_zone_map.proofs.SameData.{lists_eq-Decides, data_eq-Decides}

@@ -6,7 +6,7 @@ use Rattle.std.proofs.lemmas.Bool.Decides.{same_from_decides, Decides-eqb}
 use Rattle.std.proofs.lemmas.Slice.Eq.{slice_eq-Decides, bytes_eq-Decides}
 use Rattle.dns_wire.specs.declared.rdata.Data.{Data}
 use Rattle.dns_wire.specs.declared.rdata.Data.TheVariants.{A, Aaaa, Ns, Cname, Ptr, Mx, Srv, Soa, Txt, Opaque, Empty}
-use Rattle.dns_zone_map.specs.Folds.{lists_eq, data_eq}
+use Rattle.dns_zone_map.specs.SameData.{lists_eq, data_eq}
 
 -- the test of lists of labels, or of strings
 pub lists_eq-Decides : (a b : List (List ℕ)) → Decides (lists_eq a b) (a ≡ b)
@@ -66,7 +66,7 @@ data_eq-true (Srv p w o a) (Srv q x n b) passed =
     let port : o ≡ n = number o n third.0 in
     let target : a ≡ b = lists a b third.1 in
     cc
-data_eq-true (Soa m r a b c d e) (Soa n s f g h i j) passed =
+data_eq-true (Soa a m r b c d e) (Soa f n s g h i j) passed =
     let first = both_of (lists_eq m n) (lists_eq r s && ((a == f) && ((b == g) && ((c == h) && ((d == i) && (e == j)))))) passed in
     let second = both_of (lists_eq r s) ((a == f) && ((b == g) && ((c == h) && ((d == i) && (e == j))))) first.1 in
     let numbers = soa_numbers a b c d e f g h i j second.1 in
@@ -92,7 +92,7 @@ data_eq-same (Cname a) = same_lists a
 data_eq-same (Ptr a) = same_lists a
 data_eq-same (Mx p a) = and_of _ _ (same_number p) (same_lists a)
 data_eq-same (Srv p w o a) = and_of _ _ (same_number p) (and_of _ _ (same_number w) (and_of _ _ (same_number o) (same_lists a)))
-data_eq-same (Soa m r a b c d e) =
+data_eq-same (Soa a m r b c d e) =
     and_of _ _ (same_lists m) (and_of _ _ (same_lists r) (and_of _ _ (same_number a) (and_of _ _ (same_number b) (and_of _ _ (same_number c) (and_of _ _ (same_number d) (same_number e))))))
 data_eq-same (Txt a) = same_lists a
 data_eq-same (Opaque a) = (bytes_eq-Decides a a).1 refl

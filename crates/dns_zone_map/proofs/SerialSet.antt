@@ -10,7 +10,7 @@ use Rattle.dns_wire.specs.declared.rdata.Data.TheVariants.{A, Aaaa, Ns, Cname, P
 use Rattle.dns_wire.specs.declared.record_type.TheConstants.{SOA}
 use Rattle.dns_wire.specs.Forms.{variant_of}
 use Rattle.dns_wire.specs.WireFormat.{data_bytes}
-use Rattle.dns_zone_map.specs.Folds.{fold_data}
+use Rattle.dns_wire.specs.Folds.{fold_data}
 use Rattle.dns_zone_map.specs.Zone.{is_type, is_rival, IsEntry, IsSoFar}
 use Rattle.dns_zone_map.specs.Changes.{data_at, at_if, at_serial, set_serial}
 use Rattle.dns_zone_map.proofs.Rivals.{is_rival-turned}
@@ -42,7 +42,7 @@ pub same_rival : (r : Record) (k : ℕ) (s : Record) → is_rival r (at_serial k
 same_rival r k s = rival_if (is_type SOA s) (r.rtype == s.rtype) r k s refl refl
 
 -- a serial that is set leaves an entry one
-numbers_length : (n o : List (List ℕ)) (k a b c d e : ℕ) → length (data_bytes (Soa n o k b c d e)) ≡ length (data_bytes (Soa n o a b c d e))
+numbers_length : (n o : List (List ℕ)) (k a b c d e : ℕ) → length (data_bytes (Soa k n o b c d e)) ≡ length (data_bytes (Soa a n o b c d e))
 numbers_length n o k a b c d e =
     omega (
       arith,
@@ -58,7 +58,7 @@ length_at k (Cname target) = refl
 length_at k (Ptr target) = refl
 length_at k (Mx preference exchange) = refl
 length_at k (Srv priority weight port target) = refl
-length_at k (Soa mname rname serial refresh retry expire minimum) = numbers_length mname rname k serial refresh retry expire minimum
+length_at k (Soa serial mname rname refresh retry expire minimum) = numbers_length mname rname k serial refresh retry expire minimum
 length_at k (Txt texts) = refl
 length_at k (Opaque bytes) = refl
 length_at k Empty = refl
@@ -71,7 +71,7 @@ variant_at k (Cname target) = refl
 variant_at k (Ptr target) = refl
 variant_at k (Mx preference exchange) = refl
 variant_at k (Srv priority weight port target) = refl
-variant_at k (Soa mname rname serial refresh retry expire minimum) = refl
+variant_at k (Soa serial mname rname refresh retry expire minimum) = refl
 variant_at k (Txt texts) = refl
 variant_at k (Opaque bytes) = refl
 variant_at k Empty = refl
@@ -84,7 +84,7 @@ fold_at k (Cname target) = refl
 fold_at k (Ptr target) = refl
 fold_at k (Mx preference exchange) = refl
 fold_at k (Srv priority weight port target) = refl
-fold_at k (Soa mname rname serial refresh retry expire minimum) = refl
+fold_at k (Soa serial mname rname refresh retry expire minimum) = refl
 fold_at k (Txt texts) = refl
 fold_at k (Opaque bytes) = refl
 fold_at k Empty = refl

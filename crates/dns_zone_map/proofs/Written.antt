@@ -1,16 +1,18 @@
 -- The key of a name as it is written, label by label, and the fronts of it that are the keys of the names above.
-use Rattle.std.proofs.Common.{◌≡◌, ℕ, zero, suc, ◌+◌, ◌-◌, ◌<◌, ◌≤◌, Bool, true, List, [], ◌∷◌, ◌++◌, length, map, take, drop, reverse, refl, sym, ap, ◌∙◌, subst, arith, append_assoc, length-append, length-drop}
+use Rattle.std.proofs.Common.{◌≡◌, ℕ, zero, suc, ◌+◌, ◌-◌, ◌<◌, ◌≤◌, Bool, true, List, [], ◌∷◌, ◌++◌, length, map, take, drop, reverse, refl, sym, ap, ◌∙◌, subst, arith, inl, inr, append_assoc, length-append, length-drop}
 use Rattle.std.specs.List.{AllByRecursion}
 use Rattle.std.specs.Char.{to_ascii_lowercase}
 use Rattle.std.proofs.lemmas.List.{take_at, drop_at, append-nil, reverse-append, length-take-le, drop-drop, length-map}
 use Rattle.std.proofs.lemmas.List.Concat.{flat_map-append}
-use Rattle.std.specs.Prelude.{◌&&◌, nat_le, false}
+use Rattle.std.specs.Prelude.{◌⊎◌, ◌&&◌, nat_le, false}
 use Rattle.std.proofs.lemmas.Bool.{leb-true, le-leb}
 use Rattle.dns_name.specs.Name.{IsLabel, IsName, IsAtOrBelow, is_at_or_below, fold_of, label_bytes, labels_bytes}
 use Rattle.dns_name.proofs.SameNames.{is_at_or_below-Decides, is_at_or_below-is}
 use Rattle.dns_name.proofs.Wire.{length-labels_bytes}
+use Rattle.dns_name.proofs.Below.{length-fold_of}
 use Rattle.dns_zone_map.specs.Keys.{key_of, Placed}
 use Rattle.dns_zone_map.specs.KeyRoom.{HasKey}
+use Rattle.dns_zone_map.proofs.Keyed.{same_end}
 
 -- the key of a name is that of the name above it, and its first label
 pub key_step : (origin : List (List ℕ)) (l : List ℕ) (ls : List (List ℕ)) → length origin ≤ length ls → key_of origin (l ∷ ls) ≡ key_of origin ls ++ label_bytes (map to_ascii_lowercase l)
@@ -139,6 +141,86 @@ Filled-end origin name left room at start f h =
     let few : length (drop at name) ≤ length origin = omega (arith, length-drop at name) in
     sym (f.key ∙ ap (λ (bytes : List ℕ). bytes ++ drop start room) (key_none origin (drop at name) few))
 
+no_more_bytes : (name : List (List ℕ)) (at : ℕ) → length (labels_bytes (drop at name)) ≤ length (labels_bytes name)
+no_more_bytes name zero = omega arith
+no_more_bytes [] (suc at) = omega arith
+no_more_bytes (l ∷ ls) (suc at) = omega (arith, no_more_bytes ls at, length-append l (labels_bytes ls))
+
+-- each label takes bytes
+fewer_bytes : (name : List (List ℕ)) (at next : ℕ) → at < next → next ≤ length name → length (labels_bytes (drop next name)) < length (labels_bytes (drop at name))
+fewer_bytes name at zero less within = absurd (omega (arith, less))
+fewer_bytes [] at (suc next) less within = absurd (omega (arith, within))
+fewer_bytes (l ∷ ls) zero (suc next) less within = omega (arith, no_more_bytes ls next, length-append l (labels_bytes ls))
+fewer_bytes (l ∷ ls) (suc at) (suc next) less within = fewer_bytes ls at next (omega (arith, less)) (omega (arith, within))
+
+less_or_same : (a b : ℕ) → a ≤ b → (a < b) ⊎ (a ≡ b)
+less_or_same zero zero h = inr refl
+less_or_same zero (suc b) h = inl (omega arith)
+less_or_same (suc a) zero h = absurd (omega (arith, h))
+less_or_same (suc a) (suc b) h = below (less_or_same a b (omega (arith, h)))
+  where
+    below : (a < b) ⊎ (a ≡ b) → (suc a < suc b) ⊎ (suc a ≡ suc b)
+    below (inl less) = inl (omega (arith, less))
+    below (inr same) = inr (ap suc same)
+
+-- a key in the course of being written: its first labels, and no label of the origin
+pub record Writing (origin name left : List (List ℕ)) (room : List ℕ) (depth start : ℕ) : Type 0 where
+  pub filled : Filled origin name left room depth start
+  pub place : start + length (labels_bytes name) ≡ 255 + length (labels_bytes (drop depth name))
+  pub within : length origin + depth ≤ length name
+
+module _ (origin name : List (List ℕ)) (inside : is_at_or_below name origin ≡ true) where
+  pub fewer_labels : length origin ≤ length name
+  fewer_labels = leb-true (length origin) (length name) (and-first (nat_le (length origin) (length name)) _ inside)
+    where
+      and-first : (a b : Bool) → (a && b) ≡ true → a ≡ true
+      and-first true b h = refl
+      and-first false b h = absurd cc
+
+  -- the bytes of the origin's labels are those of as many labels of the name
+  end_bytes : length (labels_bytes (drop (length name - length origin) name)) ≡ length (labels_bytes origin)
+  end_bytes = sym (length-fold_of (drop (length name - length origin) name)) ∙ ap (λ (ls : List (List ℕ)). length (labels_bytes ls)) (same_end origin name inside) ∙ length-fold_of origin
+
+  pub fewer_name_bytes : length (labels_bytes origin) ≤ length (labels_bytes name)
+  fewer_name_bytes = omega (arith, end_bytes, no_more_bytes name (length name - length origin))
+
+  pub Writing-start : (room : List ℕ) → IsName name → length room ≡ 255 → Writing origin name name room 0 255
+  Writing-start room named size = record { filled = Filled-start origin name room named size; place = refl; within = omega (arith, fewer_labels) }
+
+  -- where bytes are left, a label below the origin is
+  pub Writing-more : (left : List (List ℕ)) (room : List ℕ) (depth start first : ℕ) → Writing origin name left room depth start → first + length (labels_bytes name) ≡ 255 + length (labels_bytes origin) → first < start → length origin + depth < length name
+  Writing-more left room depth start first w at more = by_case (less_or_same (length origin + depth) (length name) w.within)
+    where
+      by_case : (length origin + depth < length name) ⊎ (length origin + depth ≡ length name) → length origin + depth < length name
+      by_case (inl less) = less
+      by_case (inr same) =
+          let all : length (labels_bytes (drop depth name)) ≡ length (labels_bytes origin) = ap (λ (n : ℕ). length (labels_bytes (drop n name))) (let e : depth ≡ length name - length origin = omega (arith, same) in e) ∙ end_bytes in
+          absurd (omega (arith, all, w.place, at, more))
+
+  -- where none are, none is
+  pub Writing-all : (left : List (List ℕ)) (room : List ℕ) (depth start first : ℕ) → Writing origin name left room depth start → first + length (labels_bytes name) ≡ 255 + length (labels_bytes origin) → start ≤ first → length origin + depth ≡ length name
+  Writing-all left room depth start first w at none = by_case (less_or_same (length origin + depth) (length name) w.within)
+    where
+      by_case : (length origin + depth < length name) ⊎ (length origin + depth ≡ length name) → length origin + depth ≡ length name
+      by_case (inl less) =
+          let fewer : length (labels_bytes (drop (length name - length origin) name)) < length (labels_bytes (drop depth name)) = fewer_bytes name depth (length name - length origin) (omega (arith, less)) (omega arith) in
+          absurd (omega (arith, end_bytes, fewer, w.place, at, none))
+      by_case (inr same) = same
+
+  pub Writing-next : (left rest : List (List ℕ)) (room new label : List ℕ) (depth start next : ℕ) → Writing origin name left room depth start → left ≡ label ∷ rest → length origin + depth < length name → next ≡ start - (length label + 1)
+      → new ≡ take next room ++ (label_bytes (map to_ascii_lowercase label) ++ drop start room) → Writing origin name rest new (depth + 1) next
+  Writing-next left rest room new label depth start next w e less put back =
+      let is : label ∷ rest ≡ drop depth name = sym e ∙ w.filled.left_is in
+      let after : rest ≡ drop (depth + 1) name = next_left name rest label depth is in
+      let more : length label + 1 ≤ start = Filled-label origin name left rest room label depth start w.filled e in
+      let bytes : length (labels_bytes (label ∷ rest)) ≡ length (labels_bytes (drop depth name)) = ap (λ ls. length (labels_bytes ls)) is in
+      let bytes_after : length (labels_bytes rest) ≡ length (labels_bytes (drop (depth + 1) name)) = ap (λ ls. length (labels_bytes ls)) after in
+      record {
+        filled = Filled-next origin name left rest room new label depth start next w.filled e less put back;
+        place = omega (arith, w.place, bytes, bytes_after, put, more, length-append label (labels_bytes rest));
+        within = omega (arith, less);
+      }
+
 pub some_left : (name left : List (List ℕ)) (at : ℕ) → left ≡ drop at name → left ≡ [] → at < length name → ⊥
 some_left name left at is none h = omega (arith, length-drop at name, ap length is, ap length none)
 
@@ -161,8 +243,8 @@ Passed-label name left rest label at place end p e fits =
     omega (arith, p.place_is, bytes, fits, length-append label (labels_bytes rest))
 
 -- the bytes from the start of a key to that place are the key of the name above
-pub front_is : (origin name : List (List ℕ)) (room : List ℕ) (start at place : ℕ) → HasKey origin name room start → length origin + at ≤ length name → place + length (labels_bytes name) ≡ 255 + length (labels_bytes (drop at name)) → (start ≤ place) × (place ≤ 255) × (take (place - start) (drop start room) ≡ key_of origin (drop at name))
-front_is origin name room start at place k h where_ =
+pub front_is : (origin name : List (List ℕ)) (room : List ℕ) (start depth at place : ℕ) → HasKey origin name room start depth → length origin + at ≤ length name → place + length (labels_bytes name) ≡ 255 + length (labels_bytes (drop at name)) → (start ≤ place) × (place ≤ 255) × (take (place - start) (drop start room) ≡ key_of origin (drop at name))
+front_is origin name room start depth at place k h where_ =
     let f : Fronts origin name at = fronts origin name at h in
     let long : 255 - start ≡ length (key_of origin (drop at name)) + length f.rest = omega (arith, k.size, length-drop start room, ap length (k.key ∙ f.is), length-append (key_of origin (drop at name)) f.rest) in
     let short : length (labels_bytes name) ≤ 254 = name_short name k.named in
@@ -201,9 +283,4 @@ within_below origin name l within =
 -- the key of `*` under a name
 pub star_key : (origin name : List (List ℕ)) (bytes key : List ℕ) → is_at_or_below name origin ≡ true → key ≡ key_of origin name → bytes ≡ key ++ 1 ∷ 42 ∷ [] → bytes ≡ key_of origin ((42 ∷ []) ∷ name)
 star_key origin name bytes key within is e =
-    let more : length origin ≤ length name = leb-true (length origin) (length name) (and-first (nat_le (length origin) (length name)) _ within) in
-    e ∙ ap (λ (k : List ℕ). k ++ 1 ∷ 42 ∷ []) is ∙ sym (key_step origin (42 ∷ []) name more)
-  where
-    and-first : (a b : Bool) → (a && b) ≡ true → a ≡ true
-    and-first true b h = refl
-    and-first false b h = h
+    e ∙ ap (λ (k : List ℕ). k ++ 1 ∷ 42 ∷ []) is ∙ sym (key_step origin (42 ∷ []) name (fewer_labels origin name within))

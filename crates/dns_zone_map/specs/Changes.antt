@@ -66,7 +66,7 @@ is_free_at origin r = bears origin r && not (is_kept_type r.rtype)
 
 -- data with this serial, where it is an SOA's
 abbrev pub data_at : ℕ → Data → Data
-data_at serial (Soa mname rname old refresh retry expire minimum) = Soa mname rname serial refresh retry expire minimum
+data_at serial (Soa old mname rname refresh retry expire minimum) = Soa serial mname rname refresh retry expire minimum
 data_at serial rdata = rdata
 
 -- a record with this serial, where a test says so

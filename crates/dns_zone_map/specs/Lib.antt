@@ -1,4 +1,4 @@
-pub mod Folds
+pub mod SameData
 pub mod Zone
 pub mod Existence
 pub mod Keys
@@ -14,3 +14,4 @@ pub mod Removal
 pub mod Serial
 pub mod Mapped
 pub mod Former
+pub mod Presence

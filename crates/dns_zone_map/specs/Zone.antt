@@ -9,7 +9,8 @@ use Rattle.dns_wire.specs.declared.class.TheConstants.{IN}
 use Rattle.dns_wire.specs.declared.record_type.TheConstants.{CNAME, SOA, OPT}
 use Rattle.dns_wire.specs.Forms.{form_of, variant_of}
 use Rattle.dns_wire.specs.WireFormat.{data_bytes, IsShort}
-use Rattle.dns_zone_map.specs.Folds.{fold_data, data_eq}
+use Rattle.dns_wire.specs.Folds.{fold_data}
+use Rattle.dns_zone_map.specs.SameData.{data_eq}
 
 -- the name at the top of a zone, and the zone's records in their order
 pub record Contents : Type 0 where
@@ -30,7 +31,7 @@ set_of records name rtype = filter (is_in_set name rtype) records
 
 -- the serial of an SOA, or another number where the data is no SOA's
 abbrev pub serial_or : Data → ℕ → ℕ
-serial_or (Soa mname rname serial refresh retry expire minimum) other = serial
+serial_or (Soa serial mname rname refresh retry expire minimum) other = serial
 serial_or rdata other = other
 
 -- the serial of the SOA, 0 where there is none (RFC 1035 3.3.13)

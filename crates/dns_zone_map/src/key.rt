@@ -22,6 +22,8 @@ pub struct ZoneKey<'a> {
     /// The key of the name, at the end.
     room: &'a [u8],
     start: usize,
+    /// How many labels the name has more than the origin.
+    depth: usize,
 }
 
 impl<'a> Model for ZoneKey<'a> {
@@ -32,7 +34,7 @@ impl<'a> Model for ZoneKey<'a> {
 
     ghost view = { λ k. record { origin = k.origin.now; name = k.name.now } };
 
-    ghost invariant = { λ k. HasKey k.origin.now k.name.now k.room.now k.start };
+    ghost invariant = { λ k. HasKey k.origin.now k.name.now k.room.now k.start k.depth };
 }
 
 impl<'a> ZoneKey<'a> {
@@ -43,13 +45,21 @@ impl<'a> ZoneKey<'a> {
         ensures origin { result.origin ≡ origin.now }
         ensures name { result.name ≡ name.now }
     {
-        let start = write_key(origin, name, room);
+        let written = write_labels(origin, name, room);
         ZoneKey {
             origin,
             name,
             room,
-            start,
+            start: written.start,
+            depth: written.depth,
         }
+    }
+
+    /// How many labels the name has more than the origin.
+    pub fn depth(&self) -> usize
+        ensures { length self.now.origin + result ≡ length self.now.name }
+    {
+        self.depth
     }
 
     /// The key of the name without its first `labels_dropped` labels.
@@ -97,17 +107,49 @@ pub(crate) fn write_key(origin: &Name, name: &Name, room: &mut [u8]) -> usize
     ensures key { drop result room.new ≡ key_of origin.now name.now }
     ensures named { IsName name.now }
 {
-    let _short = name.len();
-    let below = name.label_count() - origin.label_count();
+    write_labels(origin, name, room).start
+}
+
+/// What was written of a key.
+#[derive(Clone, Copy)]
+struct Written {
+    /// The place where it starts.
+    start: usize,
+    /// How many labels it has.
+    depth: usize,
+}
+
+/// Writes the key of a name at the end of a room: label by label, until only those of the origin are left.
+fn write_labels(origin: &Name, name: &Name, room: &mut [u8]) -> Written
+    requires within { is_at_or_below name.now origin.now ≡ true }
+    requires room { length room.old ≡ 255 }
+    ensures size { length room.new ≡ 255 }
+    ensures start { result.start ≤ 255 }
+    ensures key { drop result.start room.new ≡ key_of origin.now name.now }
+    ensures depth { length origin.now + result.depth ≡ length name.now }
+    ensures named { IsName name.now }
+{
+    let first = first_place(origin, name);
     let mut start = MAX_KEY_LEN;
+    let mut depth = 0;
     let mut labels = name.labels();
-    for _ in 0..below {
+    while start > first {
         match labels.next() {
             Some(label) => start = put_label(room, start, label),
-            None => return start,
+            None => return Written { start, depth },
         }
+        depth += 1;
     }
-    start
+    Written { start, depth }
+}
+
+/// Where the key of a name starts.
+fn first_place(origin: &Name, name: &Name) -> usize
+    requires { is_at_or_below name.now origin.now ≡ true }
+    ensures is { result + length (labels_bytes name.now) ≡ 255 + length (labels_bytes origin.now) }
+    ensures named { IsName name.now }
+{
+    MAX_KEY_LEN - (name.len() - origin.len())
 }
 
 /// Writes a label in small letters, behind its length, before a place, and gives the place where it starts.

@@ -7,11 +7,13 @@ mod key;
 pub mod laws;
 mod listing;
 mod names;
+mod presence;
 mod rival;
 mod sets;
 mod tree;
 mod zone_map;
 
 pub use key::ZoneKey;
+pub use presence::Presence;
 pub use sets::{OwnerSets, RecordSet};
 pub use zone_map::ZoneMap;

@@ -12,7 +12,9 @@ ghost use Rattle.dns_zone_map.specs.Removal.{is_key, IsTakenFrom, IsFreedFrom, I
 ghost use Rattle.dns_zone_map.specs.Insertion.{PutUnder};
 ghost use Rattle.dns_zone_map.specs.Serial.{IsSerialSetAt};
 ghost use Rattle.dns_zone_map.specs.Former.{blanked, HasName};
+ghost use Rattle.dns_zone_map.specs.Presence.{IsPresenceAt, is_begun};
 
+use crate::presence::{Presence, without_sets};
 use crate::sets::{OwnerSets, RecordSet};
 use crate::tree;
 use crate::tree::Tree;
@@ -22,8 +24,11 @@ use std::alloc::Global;
 use std::collections::BTreeMap;
 use std::marker::Model;
 
-/// For about how many names a table has one tree.
+/// For about how many names a table of many has one tree.
 const NAMES_A_TREE: usize = 8;
+
+/// Of how many names at most a table has a tree for each.
+const FEW_TREES: usize = 64;
 
 /// How many trees a table has at most.
 const MOST_TREES: usize = 1 << 20;
@@ -55,7 +60,7 @@ impl Names {
     pub(crate) fn new(alloc: Global, names: usize) -> Result<Names, OutOfMemory>
         ensures { IfOk result (λ names. names ≡ []) }
     {
-        let count = (names / NAMES_A_TREE + 1).min(MOST_TREES);
+        let count = trees_for(names);
         let mut trees = Vec::with_capacity(alloc, count)?;
         trees.push(BTreeMap::new(alloc))?;
         for _ in 1..count {
@@ -95,16 +100,22 @@ impl Names {
         tree::copied_sets(alloc, &self.trees[place], key)
     }
 
-    /// Whether a key begins with this one at which there are sets. Takes memory in a tree of many names alone.
-    pub(crate) fn is_begun(&self, alloc: Global, key: &[u8]) -> Result<bool, OutOfMemory>
+    /// What there is at the name with this key. Takes memory in a tree of many names alone.
+    pub(crate) fn presence(&self, alloc: Global, key: &[u8]) -> Result<Presence<'_>, OutOfMemory>
         requires { HasWholeLabel key.now }
-        ensures { IfOk result (λ there. there ≡ list_any (λ e. starts_with eqb e.0.items key.now && are_some e.1) self.now) }
+        ensures { IfOk result (IsPresenceAt self.now key.now) }
     {
-        if key.is_empty() {
-            return is_any_begun(alloc, &self.trees, key);
-        }
         let place = place_of(self.trees.len(), key);
-        tree::is_begun(alloc, &self.trees[place], key)
+        let tree = &self.trees[place];
+        match tree::sets_at(tree, key) {
+            Some(sets) => Ok(Presence::Owner(sets)),
+            None => {
+                if key.is_empty() {
+                    return Ok(without_sets(is_any_begun(alloc, &self.trees, key)?));
+                }
+                Ok(without_sets(tree::is_begun(alloc, tree, key)?))
+            }
+        }
     }
 
     /// Puts a record of the name with this key in the place of its rival, which is given back, or at the end of its set with
@@ -212,9 +223,18 @@ impl Names {
     }
 }
 
+/// How many trees a table has that is made for about so many names.
+fn trees_for(names: usize) -> usize
+    ensures { 0 < result }
+{
+    let few = names.min(FEW_TREES);
+    let many = names / NAMES_A_TREE;
+    (few.max(many) + 1).min(MOST_TREES)
+}
+
 /// Whether a key of some tree begins with this one at which there are sets.
 fn is_any_begun(alloc: Global, trees: &[Tree], key: &[u8]) -> Result<bool, OutOfMemory>
-    ensures { IfOk result (λ there. there ≡ list_any (λ e. starts_with eqb e.0.items key.now && are_some e.1) (all_in trees.now)) }
+    ensures { IfOk result (λ there. there ≡ is_begun (all_in trees.now) key.now) }
 {
     for tree in trees {
         if tree::is_begun(alloc, tree, key)? {

@@ -3,7 +3,7 @@
 ghost use Rattle.std.specs.Prelude.{◌≡◌, ◌==◌, ◌&&◌, ◌||◌, true, false, Some, IfOk, IfErr};
 ghost use Rattle.std.specs.List.{list_any};
 ghost use Rattle.dns_name.specs.Name.{is_same_name};
-ghost use Rattle.dns_zone_map.specs.Folds.{data_eq};
+ghost use Rattle.dns_zone_map.specs.SameData.{data_eq};
 ghost use Rattle.dns_zone_map.specs.Zone.{is_rival};
 ghost use Rattle.dns_zone_map.specs.Changes.{put_over, first_that};
 

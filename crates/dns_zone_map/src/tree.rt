@@ -11,6 +11,7 @@ ghost use Rattle.dns_zone_map.specs.Removal.{is_key, IsTakenFrom, IsFreedFrom, I
 ghost use Rattle.dns_zone_map.specs.Insertion.{PutUnder, IsAdded};
 ghost use Rattle.dns_zone_map.specs.Serial.{IsSerialSetAt};
 ghost use Rattle.dns_zone_map.specs.Former.{blanked, HasName};
+ghost use Rattle.dns_zone_map.specs.Presence.{is_begun};
 
 use crate::sets::{OwnerSets, RecordSet};
 use dns_io::OutOfMemory;
@@ -55,9 +56,13 @@ pub(crate) fn copied_sets(alloc: Global, names: &Tree, key: &[u8]) -> Result<Own
 
 /// Whether a key begins with this one at which there are sets. Takes memory in a tree of many names alone.
 pub(crate) fn is_begun(alloc: Global, names: &Tree, key: &[u8]) -> Result<bool, OutOfMemory>
-    ensures { IfOk result (λ there. there ≡ list_any (λ e. starts_with eqb e.0.items key.now && are_some e.1) names.now.entries) }
+    ensures { IfOk result (λ there. there ≡ is_begun names.now.entries key.now) }
 {
-    if names.len() <= FEW_NAMES {
+    let count = names.len();
+    if count == 0 {
+        return Ok(false);
+    }
+    if count <= FEW_NAMES {
         return Ok(is_begun_among(names, key));
     }
     let mut start = Vec::with_capacity(alloc, key.len())?;
@@ -67,7 +72,7 @@ pub(crate) fn is_begun(alloc: Global, names: &Tree, key: &[u8]) -> Result<bool, 
 
 /// The same, of one name after another.
 fn is_begun_among(names: &Tree, key: &[u8]) -> bool
-    ensures { result ≡ list_any (λ e. starts_with eqb e.0.items key.now && are_some e.1) names.now.entries }
+    ensures { result ≡ is_begun names.now.entries key.now }
 {
     for (next, sets) in names {
         if next.starts_with(key) && sets.is_some() {
@@ -80,7 +85,7 @@ fn is_begun_among(names: &Tree, key: &[u8]) -> bool
 /// The same, of the names from the key on. The keys that begin with it follow it at once; only names whose last sets were taken by a
 /// change that may still be undone are passed over.
 fn is_begun_from(names: &Tree, key: &Vec<u8>) -> bool
-    ensures { result ≡ list_any (λ e. starts_with eqb e.0.items key.now.items && are_some e.1) names.now.entries }
+    ensures { result ≡ is_begun names.now.entries key.now.items }
 {
     for (next, sets) in names.range(key..) {
         if !next.starts_with(key) {

@@ -12,7 +12,7 @@ ghost use Rattle.dns_zone_map.specs.Former.{blanked};
 ghost use Rattle.dns_zone_map.specs.Zone.{is_in_set, set_of, serial_or, serial_of, first_serial, is_equal, is_rival, IsEntry, IsSoFar};
 ghost use Rattle.dns_zone_map.specs.Changes.{put_over, first_that, bears, is_kept_type, is_free_at, is_taken_with_name, is_taken_with_set, set_serial};
 ghost use Rattle.dns_zone_map.specs.Serial.{IsSerialSetAt};
-ghost use Rattle.dns_zone_map.specs.Existence.{exists};
+ghost use Rattle.dns_zone_map.specs.Presence.{IsPresence};
 ghost use Rattle.dns_zone_map.specs.Sets.{some_of, sets_or_none, are_some, AreSetsOf, ArePaired, TypesRise};
 ghost use Rattle.dns_zone_map.specs.Removal.{is_key, IsTakenFrom, IsFreedFrom, IsClearedFrom, IsOneTakenFrom};
 ghost use Rattle.dns_zone_map.specs.Tree.{in_entries};
@@ -22,6 +22,7 @@ use crate::former::{Undoing, keep_former, put_all_back, sweep, sweep_unless};
 use crate::key::{ZoneKey, write_key, write_star};
 use crate::listing::in_order;
 use crate::names::Names;
+use crate::presence::Presence;
 use crate::sets::{OwnerSets, RecordSet, is_kept_type};
 use dns_io::OutOfMemory;
 use dns_name::Name;
@@ -434,40 +435,44 @@ impl ZoneMap {
         self.names.sets_at(key.above(labels_dropped))
     }
 
-    /// Whether the name without its first `labels_dropped` labels exists: it owns records, or a name below it does (RFC
-    /// 4592 2.2.2). Takes memory at most where the first label below the origin has many names under it.
-    pub fn exists(&self, key: &ZoneKey<'_>, labels_dropped: usize) -> Result<bool, OutOfMemory>
-        requires origin { key.now.origin ≡ self.now.origin }
-        requires labels { length self.now.origin + labels_dropped ≤ length key.now.name }
-        ensures { IfOk result (λ there. there ≡ exists self.now.records (drop labels_dropped key.now.name)) }
+    /// The sets of the name at the top of the zone: none exactly where it owns no records. Takes no memory.
+    pub fn top_sets(&self) -> Option<&OwnerSets>
+        ensures { AreSetsOf self.now.records self.now.origin (sets_or_none (option_copied result)) }
     {
-        self.names.is_begun(self.alloc, key.above(labels_dropped))
+        let _apart = self.names.tree_count();
+        self.names.sets_at(b"")
     }
 
-    /// The sets of the label `*` under the name without its first `labels_dropped` labels (RFC 4592 2.1.1): none exactly
-    /// where it owns no records. Takes no memory.
-    pub fn star_sets(&self, key: &ZoneKey<'_>, labels_dropped: usize) -> Option<&OwnerSets>
+    /// What the zone has at the name without its first `labels_dropped` labels. Takes memory at most where the name owns nothing,
+    /// and the first label below the origin has many names under it.
+    pub fn presence(
+        &self,
+        key: &ZoneKey<'_>,
+        labels_dropped: usize,
+    ) -> Result<Presence<'_>, OutOfMemory>
         requires origin { key.now.origin ≡ self.now.origin }
         requires labels { length self.now.origin + labels_dropped ≤ length key.now.name }
-        ensures sets { AreSetsOf self.now.records (star_above labels_dropped key.now.name) (sets_or_none (option_copied result)) }
-        ensures some { IfSome result (λ sets. 0 < length sets.now) }
+        ensures { IfOk result (IsPresence self.now.records (drop labels_dropped key.now.name)) }
+    {
+        let _apart = self.names.tree_count();
+        self.names.presence(self.alloc, key.above(labels_dropped))
+    }
+
+    /// What the zone has at the label `*` under the name without its first `labels_dropped` labels (RFC 4592 2.1.1). Takes memory
+    /// as `presence` does.
+    pub fn star(
+        &self,
+        key: &ZoneKey<'_>,
+        labels_dropped: usize,
+    ) -> Result<Presence<'_>, OutOfMemory>
+        requires origin { key.now.origin ≡ self.now.origin }
+        requires labels { length self.now.origin + labels_dropped ≤ length key.now.name }
+        ensures { IfOk result (IsPresence self.now.records (star_above labels_dropped key.now.name)) }
     {
         let _apart = self.names.tree_count();
         let mut room = [0u8; 257];
         let end = write_star(&mut room, key.above(labels_dropped));
-        self.names.sets_at(front_of(&room, end))
-    }
-
-    /// Whether the label `*` under the name without its first `labels_dropped` labels exists (RFC 4592 2.1.1, 2.2.2). Takes
-    /// memory as `exists` does.
-    pub fn star_exists(&self, key: &ZoneKey<'_>, labels_dropped: usize) -> Result<bool, OutOfMemory>
-        requires origin { key.now.origin ≡ self.now.origin }
-        requires labels { length self.now.origin + labels_dropped ≤ length key.now.name }
-        ensures { IfOk result (λ there. there ≡ exists self.now.records (star_above labels_dropped key.now.name)) }
-    {
-        let mut room = [0u8; 257];
-        let end = write_star(&mut room, key.above(labels_dropped));
-        self.names.is_begun(self.alloc, front_of(&room, end))
+        self.names.presence(self.alloc, front_of(&room, end))
     }
 }
 

@@ -1,20 +1,19 @@
-use Rattle.std.proofs.Common.{◌≡◌, [], true, sym, ◌∙◌, subst}
-use Rattle.std.specs.Prelude.{IfSome, length, ◌<◌}
-use Rattle.std.specs.Option.{option_copied}
+use Rattle.std.proofs.Common.{◌∙◌, subst}
 use Rattle.dns_zone_map.specs.Keys.{star_above}
-use Rattle.dns_zone_map.specs.Existence.{exists}
-use Rattle.dns_zone_map.specs.Sets.{AreSetsOf, sets_or_none}
+use Rattle.dns_zone_map.specs.declared.presence.Presence.TheVariants.{Owner, Empty}
+use Rattle.dns_zone_map.specs.Presence.{IsPresence}
 use Rattle.dns_zone.proofs.Looking.{at_star, at_bare_star}
 use Rattle.dns_zone.proofs.look.look_at_star.Goals as goal
 
-pub returns-then-branch : goal.returns-then-branch
-returns-then-branch c =
-    at_bare_star c.args.map.now.records c.args.name.now c.args.labels_dropped c.args.rtype
-    (subst (λ name. AreSetsOf c.args.map.now.records (star_above c.args.labels_dropped name) []) c.requires.name c.in-None.ensures.sets)
-    (subst (λ name. exists c.args.map.now.records (star_above c.args.labels_dropped name) ≡ true) c.requires.name (sym c.in_ok-star_exists-in-None.ensures ∙ c.if-branch.true))
+pub returns-in-Empty : goal.returns-in-Empty
+returns-in-Empty c =
+    let met = subst (λ name. IsPresence c.args.map.now.records (star_above c.args.labels_dropped name) Empty) c.requires.name
+    (subst (IsPresence c.args.map.now.records (star_above c.args.labels_dropped c.args.key.now.name)) c.in-Empty.is c.in_ok-star.ensures) in
+    at_bare_star c.args.map.now.records c.args.name.now c.args.labels_dropped c.args.rtype met.0 met.1
 
-pub returns-in-Some : goal.returns-in-Some
-returns-in-Some c =
+pub returns-in-Owner : goal.returns-in-Owner
+returns-in-Owner c =
+    let met = subst (λ name. IsPresence c.args.map.now.records (star_above c.args.labels_dropped name) (Owner c.in-Owner.sets)) c.requires.name
+    (subst (IsPresence c.args.map.now.records (star_above c.args.labels_dropped c.args.key.now.name)) c.in-Owner.is c.in_ok-star.ensures) in
     c.look_in.ensures.is
-    ∙ at_star c.args.map.now.records c.args.name.now c.args.labels_dropped c.args.rtype c.in-Some.sets.now
-    (subst (λ name. AreSetsOf c.args.map.now.records (star_above c.args.labels_dropped name) c.in-Some.sets.now) c.requires.name c.in-Some.ensures.sets) c.in-Some.ensures.some c.look_in.ensures.types
+    ∙ at_star c.args.map.now.records c.args.name.now c.args.labels_dropped c.args.rtype c.in-Owner.sets.now met.0 met.1 c.look_in.ensures.types

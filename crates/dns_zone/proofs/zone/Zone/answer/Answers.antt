@@ -27,7 +27,7 @@ returns-in-NoName-clause-is c =
     let is = c.negative.ensures in
     answer_is c.args.self.now c.args.question.now.name c.args.question.now.qtype NoName r.code r.aa r.answers r.authority
     (sym c.in-NoName.is ∙ c.in_ok-found.ensures ∙ ap (λ zone. look_of zone c.args.question.now.name c.args.question.now.qtype) c.map-map.ensures.is)
-    is.aa (rw (is.code, is.answers, c.none-in-NoName.ensures, is.authority, c.soa_by-soa.ensures ∙ ap negative_soa c.map-map.ensures.is) refl)
+    is.aa (rw (is.code, is.answers, c.none-in-NoName.ensures, is.authority, c.negative_soa-soa.ensures ∙ ap negative_soa c.map-map.ensures.is) refl)
 
 pub returns-in-NoData-clause-is : goal.returns-in-NoData-clause-is
 returns-in-NoData-clause-is c =
@@ -35,7 +35,7 @@ returns-in-NoData-clause-is c =
     let is = c.negative-in-NoData.ensures in
     answer_is c.args.self.now c.args.question.now.name c.args.question.now.qtype NoData r.code r.aa r.answers r.authority
     (sym c.in-NoData.is ∙ c.in_ok-found.ensures ∙ ap (λ zone. look_of zone c.args.question.now.name c.args.question.now.qtype) c.map-map.ensures.is)
-    is.aa (rw (is.code, is.answers, c.none-in-NoData.ensures, is.authority, c.soa_by-soa-in-NoData.ensures ∙ ap negative_soa c.map-map.ensures.is) refl)
+    is.aa (rw (is.code, is.answers, c.none-in-NoData.ensures, is.authority, c.negative_soa-soa-in-NoData.ensures ∙ ap negative_soa c.map-map.ensures.is) refl)
 
 pub returns-in_ok-follow-in-Alias-clause-is : goal.returns-in_ok-follow-in-Alias-clause-is
 returns-in_ok-follow-in-Alias-clause-is c =

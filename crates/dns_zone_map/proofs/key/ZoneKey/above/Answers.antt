@@ -7,14 +7,14 @@ pub cut_back-end-requires-clause-fits : goal.cut_back-end-requires-clause-fits
 cut_back-end-requires-clause-fits c = omega (arith, name_short _ c.self.invariant.named)
 
 pub part-requires-clause-order : goal.part-requires-clause-order
-part-requires-clause-order c = (front_is _ _ _ _ _ _ c.self.invariant (placed _ _ _ _ c.self.view_is c.requires) c.cut_back-end.ensures).0
+part-requires-clause-order c = (front_is _ _ _ _ _ _ _ c.self.invariant (placed _ _ _ _ c.self.view_is c.requires) c.cut_back-end.ensures).0
 
 pub part-requires-clause-within : goal.part-requires-clause-within
-part-requires-clause-within c = let f = front_is _ _ _ _ _ _ c.self.invariant (placed _ _ _ _ c.self.view_is c.requires) c.cut_back-end.ensures in omega (arith, f.1, c.self.invariant.size)
+part-requires-clause-within c = let f = front_is _ _ _ _ _ _ _ c.self.invariant (placed _ _ _ _ c.self.view_is c.requires) c.cut_back-end.ensures in omega (arith, f.1, c.self.invariant.size)
 
 pub returns-clause-key : goal.returns-clause-key
 returns-clause-key c =
-    c.part.ensures ∙ (front_is _ _ _ _ _ _ c.self.invariant (placed _ _ _ _ c.self.view_is c.requires) c.cut_back-end.ensures).2
+    c.part.ensures ∙ (front_is _ _ _ _ _ _ _ c.self.invariant (placed _ _ _ _ c.self.view_is c.requires) c.cut_back-end.ensures).2
     ∙ ap (λ p. key_of p.origin (drop c.args.labels_dropped p.name)) c.self.view_is
 
 pub returns-clause-within : goal.returns-clause-within
