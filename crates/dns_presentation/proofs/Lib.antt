@@ -2,5 +2,6 @@ pub mod Wording
 pub mod Searches
 pub mod Parts
 pub mod Addresses
+pub mod NameRooms
 pub mod TypedData
 pub mod TypedRecords

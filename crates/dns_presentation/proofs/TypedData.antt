@@ -73,9 +73,9 @@ spelled-written (Srv p w o n) h =
     ∙ ap (λ (q : ℕ). Srv p q (word_at m 4) (first_name (drop 6 m))) (word_back m 2 w _ h.1 g)
     ∙ ap (λ (q : ℕ). Srv p w q (first_name (drop 6 m))) (word_back m 4 o _ h.2 k)
     ∙ ap (Srv p w o) (ap first_name left ∙ first_name-alone n h.3)
-spelled-written (Soa a b s r t x y) h =
+spelled-written (Soa s a b r t x y) h =
     let numbers : List ℕ = flat_map (to_be_bytes w32) (s ∷ r ∷ t ∷ x ∷ y ∷ []) in
-    let m : List ℕ = data_bytes (Soa a b s r t x y) in
+    let m : List ℕ = data_bytes (Soa s a b r t x y) in
     let f : drop 0 m ≡ name_bytes a ++ (name_bytes b ++ numbers) = append_assoc (name_bytes a) (name_bytes b) numbers in
     let first : first_name m ≡ a = ap first_name f ∙ first_name-written a (name_bytes b ++ numbers) h.0 in
     let middle : 0 + length (name_bytes a) ≡ name_len a = omega (arith, length_name_bytes a) in
@@ -88,7 +88,7 @@ spelled-written (Soa a b s r t x y) h =
     ∙ ap (λ (n : List (List ℕ)). spelled_soa a n m) second
     ∙ numbers_back m end k
   where
-    numbers_back : (m : List ℕ) (end : ℕ) → drop end m ≡ flat_map (to_be_bytes w32) (s ∷ r ∷ t ∷ x ∷ y ∷ []) → soa_at m end a b ≡ Soa a b s r t x y
+    numbers_back : (m : List ℕ) (end : ℕ) → drop end m ≡ flat_map (to_be_bytes w32) (s ∷ r ∷ t ∷ x ∷ y ∷ []) → soa_at m end a b ≡ Soa s a b r t x y
     numbers_back m end k =
         let k1 = step_4 m end s _ k in
         let k2 = step_4 m (end + 4) r _ k1 in
@@ -139,8 +139,8 @@ is_data-Decides (Mx p n) = Decides-and (nat_lt p (2 ^ 16)) (is_name n) (Decides-
 is_data-Decides (Srv p w o n) =
     Decides-like (is_data (Srv p w o n)) (λ x. (x.0, x.1.0, x.1.1.0, x.1.1.1)) (λ x. (x.0, (x.1, (x.2, x.3))))
     (Decides-and _ _ (Decides-ltb p (2 ^ 16)) (Decides-and _ _ (Decides-ltb w (2 ^ 16)) (Decides-and _ _ (Decides-ltb o (2 ^ 16)) (name n))))
-is_data-Decides (Soa a b s r t x y) =
-    Decides-like (is_data (Soa a b s r t x y)) (λ x. (x.0, x.1.0, x.1.1.0, x.1.1.1.0, x.1.1.1.1.0, x.1.1.1.1.1.0, x.1.1.1.1.1.1)) (λ x. (x.0, (x.1, (x.2, (x.3, (x.4, (x.5, x.6)))))))
+is_data-Decides (Soa s a b r t x y) =
+    Decides-like (is_data (Soa s a b r t x y)) (λ x. (x.0, x.1.0, x.1.1.0, x.1.1.1.0, x.1.1.1.1.0, x.1.1.1.1.1.0, x.1.1.1.1.1.1)) (λ x. (x.0, (x.1, (x.2, (x.3, (x.4, (x.5, x.6)))))))
     (Decides-and _ _ (name a) (Decides-and _ _ (name b) (Decides-and _ _ (Decides-ltb s (2 ^ 32)) (Decides-and _ _ (Decides-ltb r (2 ^ 32)) (Decides-and _ _ (Decides-ltb t (2 ^ 32)) (Decides-and _ _ (Decides-ltb x (2 ^ 32)) (Decides-ltb y (2 ^ 32))))))))
 is_data-Decides (Txt ts) = list_all-Decides (λ text. nat_lt (length text) 256) IsText (λ text. Decides-ltb (length text) 256) ts
 is_data-Decides (Opaque bs) = (λ e. tt, λ h. refl)

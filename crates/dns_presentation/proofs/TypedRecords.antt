@@ -18,7 +18,7 @@ use Rattle.dns_wire.specs.ReadBack.{IsData, ReadsBack}
 use Rattle.dns_wire.specs.Standing.{word_at, FormAt, RecordAt, Reads}
 use Rattle.dns_wire.specs.WireFormat.{data_bytes, record_bytes}
 use Rattle.dns_wire.proofs.Back.{step, step_2, step_4, word_back, record_alone}
-use Rattle.dns_zone_map.specs.Folds.{fold_data}
+use Rattle.dns_wire.specs.Folds.{fold_data}
 use Rattle.dns_presentation.specs.DataText.{in_small_letters}
 use Rattle.dns_presentation.specs.declared.fault.ValueFault.{ValueFault}
 use Rattle.dns_presentation.specs.declared.fault.ValueFault.TheVariants.{Refused, OutOfMemory}

@@ -11,7 +11,7 @@ use Rattle.dns_wire.specs.Texts.{texts_bytes}
 use Rattle.dns_presentation.specs.declared.data_text.WrittenType.{WrittenType}
 use Rattle.dns_presentation.specs.Lines.{parts_of}
 use Rattle.dns_presentation.specs.Words.{Word}
-use Rattle.dns_zone_map.specs.Folds.{fold_data}
+use Rattle.dns_wire.specs.Folds.{fold_data}
 use Rattle.dns_presentation.specs.TypedData.{typed_data}
 use Rattle.dns_presentation.specs.Values.{◌>>=◌, plain_text, is_word, number_of, number_up_to, seconds_of, name_in, string_of, address_from, wide_address_of}
 
@@ -95,7 +95,7 @@ soa_of origin (primary ∷ mailbox ∷ version ∷ words) = do
   rname ← word_name origin mailbox
   serial ← word_number version
   times ← times_of words
-  Some (Soa mname rname serial times.0 times.1 times.2 times.3)
+  Some (Soa serial mname rname times.0 times.1 times.2 times.3)
 soa_of origin words = None
 
 -- a string that may come behind others: of at most 255 bytes, and with them of at most 65,535 bytes of data

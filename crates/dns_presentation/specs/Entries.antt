@@ -89,7 +89,7 @@ needed_ttl None type = if is_soa type then Ok None else Err kind.Ttl
 -- the TTL, or else that of an SOA, its minimum
 abbrev pub ttl_or : Option ℕ → Data → ℕ
 ttl_or (Some ttl) rdata = ttl
-ttl_or None (Soa mname rname serial refresh retry expire minimum) = minimum
+ttl_or None (Soa serial mname rname refresh retry expire minimum) = minimum
 ttl_or None rdata = 0
 
 -- the record of this owner, type and TTL, with the data that the words write

@@ -59,7 +59,7 @@ is_data (Cname target) = is_name target
 is_data (Ptr target) = is_name target
 is_data (Mx preference exchange) = nat_lt preference (2 ^ 16) && is_name exchange
 is_data (Srv priority weight port target) = nat_lt priority (2 ^ 16) && (nat_lt weight (2 ^ 16) && (nat_lt port (2 ^ 16) && is_name target))
-is_data (Soa mname rname serial refresh retry expire minimum) =
+is_data (Soa serial mname rname refresh retry expire minimum) =
     is_name mname && (is_name rname && (nat_lt serial (2 ^ 32) && (nat_lt refresh (2 ^ 32) && (nat_lt retry (2 ^ 32) && (nat_lt expire (2 ^ 32) && nat_lt minimum (2 ^ 32))))))
 is_data (Txt texts) = list_all (λ text. nat_lt (length text) 256) texts
 is_data (Opaque bytes) = true

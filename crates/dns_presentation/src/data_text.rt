@@ -12,7 +12,7 @@ use crate::values::{address_of, number_of, number_up_to, seconds_of, string_of, 
 use crate::words::Word;
 use dns_io::Octets;
 use dns_name::Name;
-use dns_wire::{Data, Texts, limits, record_type};
+use dns_wire::{BoxedName, Data, Ipv6Address, Texts, limits, record_type};
 use hex::FromHexError;
 use std::alloc::Global;
 
@@ -136,7 +136,7 @@ fn aaaa_of(words: &[Word<'_>]) -> Result<Data, ValueFault>
     let text = plain_text(word)?;
     match wide_address_of(text) {
         None => Err(ValueFault::Refused),
-        Some(address) => Ok(Data::Aaaa(address)),
+        Some(address) => Ok(Data::Aaaa(Ipv6Address::new(address))),
     }
 }
 
@@ -192,8 +192,8 @@ fn soa_of(alloc: Global, origin: &Name, words: &[Word<'_>]) -> Result<Data, Valu
             let serial = word_number(version)?;
             let (refresh, retry, expire, minimum) = times_of(rest)?;
             Ok(Data::Soa {
-                mname,
-                rname,
+                mname: BoxedName::new(alloc, mname)?,
+                rname: BoxedName::new(alloc, rname)?,
                 serial,
                 refresh,
                 retry,

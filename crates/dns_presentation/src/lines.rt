@@ -45,13 +45,16 @@ fn ends_in(byte: u8, bytes: &[u8]) -> bool
     }
 }
 
-/// The part of a text before the first separator, and the text behind that; none where there is no separator.
-#[tactic(auto, using(crate::proofs::Searches::parts_none))]
+/// The part of a text before the first separator, and the text behind that; none where there is no separator. The parts are short.
 pub(crate) fn split_part(separator: u8, text: &[u8]) -> Option<(&[u8], &[u8])>
     ensures some { IfSome result (λ parts. parts_of separator text.now ≡ parts.0.now ∷ parts_of separator parts.1.now) }
     ensures none { IfNone result (parts_of separator text.now ≡ text.now ∷ []) }
 {
-    let place = memchr(separator, text)?;
-    let (part, end) = text.split_at(place);
-    Some((part, &end[1..]))
+    for (place, byte) in text.iter().enumerate() {
+        if *byte == separator {
+            let (part, end) = text.split_at(place);
+            return Some((part, &end[1..]));
+        }
+    }
+    None
 }

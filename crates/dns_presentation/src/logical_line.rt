@@ -35,24 +35,36 @@ impl<'a> Model for LogicalLine<'a> {
 }
 
 impl<'a> LogicalLine<'a> {
-    /// The first logical line of a text whose first line has this number, and the text behind it; none at the text's end.
-    pub fn first(
-        alloc: Global,
-        number: u64,
-        text: &'a [u8],
-    ) -> Result<Option<(LogicalLine<'a>, &'a [u8])>, OutOfMemory>
-        requires { number + length text.now < 2 ^ 64 }
-        ensures some { IfOk result (λ found. IfSome found (λ parts. logical_lines number text.now ≡ parts.0 ∷ logical_lines parts.0.next parts.1.now)) }
-        ensures none { IfOk result (λ found. IfNone found (logical_lines number text.now ≡ [])) }
-        ensures shorter { IfOk result (λ found. IfSome found (λ parts. length parts.1.now < length text.now)) }
-        ensures counted { IfOk result (λ found. IfSome found (λ parts. parts.0.next + length parts.1.now ≤ number + length text.now)) }
+    /// No line yet: the first one of a text comes next.
+    pub fn new(alloc: Global) -> Result<LogicalLine<'a>, OutOfMemory>
+        ensures { IfOk result (λ line. line.next ≡ 1) }
+    {
+        Ok(LogicalLine {
+            number: 0,
+            next: 1,
+            indented: false,
+            words: Vec::with_capacity(alloc, WORD_COUNT)?,
+            open_count: 0,
+            stray: false,
+            unclosed: false,
+        })
+    }
+
+    /// Becomes the first logical line of a text, whose first line is the next one, and gives the text behind it; none at the
+    /// text's end. The room that it has is used again; where memory runs out, nothing is said of what it is then.
+    pub fn pass(&mut self, text: &'a [u8]) -> Result<Option<&'a [u8]>, OutOfMemory>
+        requires { self.old.next + length text.now < 2 ^ 64 }
+        ensures some { IfOk result (λ found. IfSome found (λ after. logical_lines self.old.next text.now ≡ self.new ∷ logical_lines self.new.next after.now)) }
+        ensures none { IfOk result (λ found. IfNone found (logical_lines self.old.next text.now ≡ [])) }
+        ensures shorter { IfOk result (λ found. IfSome found (λ after. length after.now < length text.now)) }
+        ensures counted { IfOk result (λ found. IfSome found (λ after. self.new.next + length after.now ≤ self.old.next + length text.now)) }
     {
         let Some((line, after)) = split_line(text) else {
             return Ok(None);
         };
-        let begun = LogicalLine::begun(alloc, number, line)?;
-        let (whole, rest) = begun.completed(after)?;
-        Ok(Some((whole, rest)))
+        self.begin(line)?;
+        let rest = self.complete(after)?;
+        Ok(Some(rest))
     }
 
     /// The number of the line on which it begins, from 1.
@@ -60,13 +72,6 @@ impl<'a> LogicalLine<'a> {
         ensures { result ≡ self.now.number }
     {
         self.number
-    }
-
-    /// The number of the line behind it.
-    pub fn next(&self) -> u64
-        ensures { result ≡ self.now.next }
-    {
-        self.next
     }
 
     /// Whether it begins with a blank.
@@ -104,45 +109,41 @@ impl<'a> LogicalLine<'a> {
         self.unclosed
     }
 
-    /// A logical line that begins with a line.
-    fn begun(alloc: Global, number: u64, line: &'a [u8]) -> Result<LogicalLine<'a>, OutOfMemory>
-        requires next { number + 1 < 2 ^ 64 }
+    /// Becomes the logical line that begins with a line, the next one.
+    fn begin(&mut self, line: &'a [u8]) -> Result<(), OutOfMemory>
+        requires next { self.old.next + 1 < 2 ^ 64 }
         requires few { length line.now < 2 ^ 64 }
-        ensures ok { IfOk result (λ logical. logical ≡ begun_line number line.now) }
-        ensures few { IfOk result (λ logical. logical.open_count ≤ length line.now) }
-        ensures counted { IfOk result (λ logical. logical.next ≡ number + 1) }
+        ensures ok { OnOk result (self.new ≡ begun_line self.old.next line.now) }
+        ensures few { OnOk result (self.new.open_count ≤ length line.now) }
+        ensures counted { OnOk result (self.new.next ≡ self.old.next + 1) }
     {
-        let mut logical = LogicalLine {
-            number,
-            next: number + 1,
-            indented: begins_blank(line),
-            words: Vec::with_capacity(alloc, WORD_COUNT)?,
-            open_count: 0,
-            stray: false,
-            unclosed: false,
-        };
-        logical.take_tokens(line)?;
-        Ok(logical)
+        self.number = self.next;
+        self.next = self.number + 1;
+        self.indented = begins_blank(line);
+        self.words.clear();
+        self.open_count = 0;
+        self.stray = false;
+        self.unclosed = false;
+        self.take_tokens(line)
     }
 
-    /// The logical line with the lines of a text that it goes on in, and the text behind them.
-    fn completed(self, text: &'a [u8]) -> Result<(LogicalLine<'a>, &'a [u8]), OutOfMemory>
-        requires next { self.next + length text.now < 2 ^ 64 }
-        requires few { self.open_count + length text.now < 2 ^ 64 }
-        ensures whole { IfOk result (λ parts. lines_after self.entry (lines_of text.now) ≡ parts.0 ∷ logical_lines parts.0.next parts.1.now) }
-        ensures shorter { IfOk result (λ parts. length parts.1.now ≤ length text.now) }
-        ensures counted { IfOk result (λ parts. parts.0.next + length parts.1.now ≤ self.entry.next + length text.now) }
+    /// Goes on in the lines of a text while a bracket is open, and gives the text behind them.
+    fn complete(&mut self, text: &'a [u8]) -> Result<&'a [u8], OutOfMemory>
+        requires next { self.old.next + length text.now < 2 ^ 64 }
+        requires few { self.old.open_count + length text.now < 2 ^ 64 }
+        ensures whole { IfOk result (λ rest. lines_after self.old (lines_of text.now) ≡ self.new ∷ logical_lines self.new.next rest.now) }
+        ensures shorter { IfOk result (λ rest. length rest.now ≤ length text.now) }
+        ensures counted { IfOk result (λ rest. self.new.next + length rest.now ≤ self.old.next + length text.now) }
     {
-        let mut logical = self;
         let mut rest = text;
-        while let Some((line, after)) = split_line(rest) {
-            if logical.open_count == 0 {
-                return Ok((logical, rest));
-            }
-            logical.take_line(line)?;
+        while self.open_count > 0 {
+            let Some((line, after)) = split_line(rest) else {
+                return Ok(rest);
+            };
+            self.take_line(line)?;
             rest = after;
         }
-        Ok((logical, rest))
+        Ok(rest)
     }
 
     /// Goes on in a line.

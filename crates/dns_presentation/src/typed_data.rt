@@ -2,11 +2,9 @@
 
 ghost use Rattle.std.specs.Prelude.{◌≡◌, ◌≤◌, length, IfOk, if◌then◌else◌};
 ghost use Rattle.std.specs.Str.{bytes_eq};
-ghost use Rattle.dns_name.specs.Name.{fold_of, IsName};
 ghost use Rattle.dns_wire.specs.ReadBack.{IsData};
-ghost use Rattle.dns_wire.specs.Texts.{AreTexts};
 ghost use Rattle.dns_wire.specs.WireFormat.{record_bytes, IsShort};
-ghost use Rattle.dns_zone_map.specs.Folds.{fold_data};
+ghost use Rattle.dns_wire.specs.Folds.{fold_data};
 ghost use Rattle.dns_presentation.specs.DataText.{in_small_letters};
 ghost use Rattle.dns_presentation.specs.TypedData.{typed_data};
 ghost use Rattle.dns_presentation.specs.Values.{Gives};
@@ -14,7 +12,7 @@ ghost use Rattle.dns_presentation.specs.Values.{Gives};
 use crate::fault::ValueFault;
 use dns_io::{Octets, OutOfMemory};
 use dns_name::Name;
-use dns_wire::{Data, Record, Texts, class, read_record};
+use dns_wire::{Data, Record, class, read_record};
 use std::alloc::Global;
 
 /// The data of a type whose bytes in a message are these, its names in small letters. They are read as those of a record
@@ -48,7 +46,7 @@ fn own_data(alloc: Global, one: &Record, message: &[u8]) -> Result<Data, ValueFa
     if again.as_slice() != message {
         return Err(ValueFault::Refused);
     }
-    Ok(folded_data(alloc, &one.rdata)?)
+    Ok(one.rdata.folded(alloc)?)
 }
 
 /// The bytes of a record whose data can be written.
@@ -60,74 +58,4 @@ fn written(alloc: Global, one: &Record) -> Result<Octets, OutOfMemory>
         Ok(bytes) => Ok(bytes),
         Err(_) => Err(OutOfMemory),
     }
-}
-
-/// The data with the ASCII capitals of its names made small.
-fn folded_data(alloc: Global, rdata: &Data) -> Result<Data, OutOfMemory>
-    ensures small { IfOk result (λ small. small ≡ fold_data rdata.now) }
-    ensures kept { IfOk result (λ small. IsData rdata.now) }
-{
-    match rdata {
-        Data::Ns(host) => Ok(Data::Ns(small(alloc, host)?)),
-        Data::Cname(target) => Ok(Data::Cname(small(alloc, target)?)),
-        Data::Ptr(target) => Ok(Data::Ptr(small(alloc, target)?)),
-        Data::Mx {
-            preference,
-            exchange,
-        } => Ok(Data::Mx {
-            preference: *preference,
-            exchange: small(alloc, exchange)?,
-        }),
-        Data::Srv {
-            priority,
-            weight,
-            port,
-            target,
-        } => Ok(Data::Srv {
-            priority: *priority,
-            weight: *weight,
-            port: *port,
-            target: small(alloc, target)?,
-        }),
-        Data::Soa {
-            mname,
-            rname,
-            serial,
-            refresh,
-            retry,
-            expire,
-            minimum,
-        } => Ok(Data::Soa {
-            mname: small(alloc, mname)?,
-            rname: small(alloc, rname)?,
-            serial: *serial,
-            refresh: *refresh,
-            retry: *retry,
-            expire: *expire,
-            minimum: *minimum,
-        }),
-        Data::Txt(texts) => Ok(Data::Txt(copied(texts)?)),
-        Data::A(address) => Ok(Data::A(*address)),
-        Data::Aaaa(address) => Ok(Data::Aaaa(*address)),
-        Data::Opaque(bytes) => Ok(Data::Opaque(bytes.clone()?)),
-        Data::Empty => Ok(Data::Empty),
-    }
-}
-
-/// A name with its ASCII capitals made small; what a name keeps to is told with its length.
-fn small(alloc: Global, name: &Name) -> Result<Name, OutOfMemory>
-    ensures small { IfOk result (λ small. small ≡ fold_of name.now) }
-    ensures kept { IfOk result (λ small. IsName name.now) }
-{
-    let _ = name.len();
-    name.folded(alloc)
-}
-
-/// A copy of byte strings; what they keep to is told where they are gone through.
-fn copied(texts: &Texts) -> Result<Texts, OutOfMemory>
-    ensures same { IfOk result (λ copy. copy ≡ texts.now) }
-    ensures kept { IfOk result (λ copy. AreTexts texts.now) }
-{
-    let _ = texts.iter();
-    Ok(texts.clone()?)
 }

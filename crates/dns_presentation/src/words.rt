@@ -1,6 +1,6 @@
 //! The words of one line of a zone's text (RFC 1035 5.1).
 
-ghost use Rattle.std.specs.Prelude.{◌≡◌, ◌<◌, ◌∷◌, [], true, false, length, IfSome, IfNone};
+ghost use Rattle.std.specs.Prelude.{◌≡◌, ◌<◌, ◌∷◌, ◌==◌, ◌&&◌, not, [], true, false, length, IfSome, IfNone};
 ghost use Rattle.dns_presentation.specs.Words.{is_blank, is_mark, is_stop, begins_blank, begins_plain, tokens_from, tokens_of, plain, quoted};
 ghost use Rattle.dns_presentation.specs.Words.{Plain, Quoted, Unclosed};
 
@@ -75,8 +75,26 @@ pub(crate) fn split_quoted(line: &[u8]) -> Option<(&[u8], &[u8])>
     None
 }
 
-/// The part of a line up to the byte that ends a word out of quotes, and the line from that byte on.
+/// The part of a line up to the byte that ends a word out of quotes, and the line from that byte on. In the most words stands no
+/// backslash, and each byte is looked at alone.
 pub(crate) fn split_plain(line: &[u8]) -> (&[u8], &[u8])
+    ensures word { tokens_from (Plain []) line.now ≡ plain result.0.now ∷ tokens_of result.1.now }
+    ensures shorter { begins_plain line.now ≡ true → length result.1.now < length line.now }
+{
+    for (place, byte) in line.iter().enumerate() {
+        if goes_on(*byte) {
+            continue;
+        }
+        if *byte == b'\\' {
+            return split_escaped(line);
+        }
+        return line.split_at(place);
+    }
+    line.split_at(line.len())
+}
+
+/// The same where a backslash may stand in the word.
+fn split_escaped(line: &[u8]) -> (&[u8], &[u8])
     ensures word { tokens_from (Plain []) line.now ≡ plain result.0.now ∷ tokens_of result.1.now }
     ensures shorter { begins_plain line.now ≡ true → length result.1.now < length line.now }
 {
@@ -92,6 +110,24 @@ pub(crate) fn split_plain(line: &[u8]) -> (&[u8], &[u8])
         escaped = *byte == b'\\';
     }
     line.split_at(line.len())
+}
+
+/// A dot for each byte that goes on with a word out of quotes, and another byte for each that ends it, and for the backslash.
+static WORD_BYTES: [u8; 256] = *b"\
+    .........#......................\
+    #.#.....##.................#....\
+    ............................#...\
+    ................................\
+    ................................\
+    ................................\
+    ................................\
+    ................................";
+
+/// Whether the byte goes on with a word out of quotes, and is no backslash.
+fn goes_on(byte: u8) -> bool
+    ensures { result ≡ (not (is_stop byte) && not (byte == 92)) }
+{
+    WORD_BYTES[byte as usize] == b'.'
 }
 
 /// Whether a line begins with a blank.

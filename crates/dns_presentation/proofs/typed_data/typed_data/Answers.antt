@@ -4,7 +4,7 @@ use Rattle.std.specs.Str.{bytes_eq}
 use Rattle.dns_wire.specs.declared.record.Record.{Record}
 use Rattle.dns_wire.specs.Standing.{Reads, RecordAt}
 use Rattle.dns_wire.specs.WireFormat.{record_bytes}
-use Rattle.dns_zone_map.specs.Folds.{fold_data}
+use Rattle.dns_wire.specs.Folds.{fold_data}
 use Rattle.dns_presentation.specs.Values.{Gives}
 use Rattle.dns_presentation.proofs.TypedRecords.{none_read, some_read}
 use Rattle.dns_presentation.proofs.typed_data.typed_data.Goals as goal

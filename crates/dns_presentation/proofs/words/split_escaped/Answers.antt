@@ -1,6 +1,6 @@
 use Rattle.std.proofs.Common.{◌∙◌, sym}
 use Rattle.dns_presentation.proofs.Wording.{plain_past}
-use Rattle.dns_presentation.proofs.words.split_plain.Goals as goal
+use Rattle.dns_presentation.proofs.words.split_escaped.Goals as goal
 
 pub loop-place-preserved-then-escaped : goal.loop-place-preserved-then-escaped
 loop-place-preserved-then-escaped c =
