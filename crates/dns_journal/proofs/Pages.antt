@@ -1,54 +1,60 @@
 -- What a page holds when it is made, and when its first row is passed.
-use Rattle.std.proofs.Common.{◌≡◌, ◌+ℤ◌, ℕ, ℤ, suc, pos, List, [], ◌∷◌, ◌++◌, Option, Some, None, IfSome, IfNone, option_to_list, refl, sym, ap, subst, ◌∙◌}
-use Rattle.sqlite.specs.declared.types.Value.TheVariants.{Int}
-use Rattle.sqlite.specs.Order.{Row as Shown, column}
+use Rattle.std.proofs.Common.{◌≡◌, ◌+ℤ◌, ℕ, ℤ, suc, pos, List, [], ◌∷◌, ◌++◌, Option, Some, None, IfSome, IfNone, option_to_list, true, refl, sym, subst}
+use Rattle.std.specs.Int.Signed.{le_z}
+use Rattle.sqlite.specs.Order.{Row as Shown}
 use Rattle.sqlite.specs.Effect.{Database}
 use Rattle.sqlite.specs.State.{State, HasCleanDisk}
 use Rattle.dns_sqlite.specs.Tables.{HasRows}
+use Rattle.dns_sqlite.specs.Reads.{AreRead, HasPage}
 use Rattle.dns_sqlite.proofs.Pages.{first_has, none_has, next_has}
 use Rattle.dns_keeper.specs.declared.row.Row.{Row}
-use Rattle.dns_journal.specs.Reads.{FirstReadsAs}
 use Rattle.dns_journal.specs.Stored.{IsStoredFrom, ShowsRow}
-use Rattle.dns_journal.specs.Pages.{led, rows_left, HoldsPage, Holds, HoldsRows, IsFrom, IsStoredIn}
+use Rattle.dns_journal.specs.Pages.{led, rows_left, IsFirstOf, HoldsPage, Holds, HoldsRows, IsStoredIn}
 use Rattle.dns_journal.specs.declared.page.Page.{Page}
 
 -- ---- rows
 
 -- rows go on behind their first one, where the next row has a greater id
-passed : (next k : ℤ) (table rest : List Shown) (r s : Shown) → column r 0 ≡ Int k → IsFrom (k +ℤ pos 1) s → HoldsPage next table (r ∷ s ∷ rest) → HoldsPage (k +ℤ pos 1) table (s ∷ rest)
-passed next k table rest r s is from holds = next_has holds.0 next k from.0 table rest r s is from.1 from.2 holds.1
+passed : (count : ℕ) (next : ℤ) (table shown : List Shown) (rest : List Row) (r s : Row) → le_z (r.id +ℤ pos 1) s.id ≡ true → HasRows count next table shown → AreRead shown (r ∷ s ∷ rest)
+    → HoldsPage (r.id +ℤ pos 1) table (s ∷ rest)
+passed count next table [] rest r s above has read = absurd read
+passed count next table (f ∷ []) rest r s above has read = absurd read.1
+passed count next table (f ∷ h ∷ shown) rest r s above has read =
+    let it = next_has count next r.id s.id table shown f h read.0.id read.1.0.id above has in
+    (it.0, h ∷ shown, it.1, read.1)
 
 -- The first row of a page is the row that is asked for.
-first_stored : (id : ℤ) (table rows : List Shown) (row : Row) → HoldsPage id table rows → FirstReadsAs rows (Some row) → IsStoredFrom id table (Some row)
-first_stored id table rows row holds read =
-    let it : HoldsPage id table (read.0 ∷ read.1) = subst (HoldsPage id table) read.2 holds in
-    (read.0 ∷ [], first_has it.0 id table read.1 read.0 it.1, (read.0, [], refl, read.3))
+first_stored : (count : ℕ) (id : ℤ) (table shown : List Shown) (rest : List Row) (row : Row) → HasRows count id table shown → AreRead shown (row ∷ rest) → IsStoredFrom id table (Some row)
+first_stored count id table [] rest row has read = absurd read
+first_stored count id table (f ∷ shown) rest row has read = (f ∷ [], first_has count id table shown f has, (f, [], refl, read.0))
 
--- The first of the rows that a query shows is the row that is asked for; where it shows none there is none.
-page_stored : (count : ℕ) (id : ℤ) (table rows : List Shown) (found : Option Row) → HasRows (suc count) id table rows → FirstReadsAs rows found → IsStoredFrom id table found
-page_stored count id table rows None has read = ([], none_has count id table (subst (HasRows (suc count) id table) read has), refl)
-page_stored count id table rows (Some row) has read =
-    let it : HasRows (suc count) id table (read.0 ∷ read.1) = subst (HasRows (suc count) id table) read.2 has in
-    (read.0 ∷ [], first_has (suc count) id table read.1 read.0 it, (read.0, [], refl, read.3))
+-- where a page has no row there is none
+none_stored : (count : ℕ) (id : ℤ) (table shown : List Shown) → HasRows (suc count) id table shown → AreRead shown [] → IsStoredFrom id table None
+none_stored count id table [] has read = ([], none_has count id table has, refl)
+none_stored count id table (f ∷ shown) has read = absurd read
 
--- The rows that a query shows make a page.
-opened_page : (count : ℕ) (id : ℤ) (table rows : List Shown) → HasRows count id table rows → HoldsPage id table rows
-opened_page count id table [] has = tt
-opened_page count id table (r ∷ rows) has = (count, has)
+-- The first of the rows that were read is the row that is asked for; where none was read there is none.
+page_stored : (id : ℤ) (table : List Shown) (rows : List Row) (found : Option Row) → HasPage id table rows → IsFirstOf rows found → IsStoredFrom id table found
+page_stored id table rows None page is = let it = subst (HasPage id table) is page in none_stored it.0 id table it.1 it.2 it.3
+page_stored id table rows (Some row) page is = let it = subst (HasPage id table) is.1 page in first_stored (suc it.0) id table it.1 is.0 row it.2 it.3
+
+-- The rows that were read make a page.
+opened_page : (id : ℤ) (table : List Shown) (rows : List Row) → HasPage id table rows → HoldsPage id table rows
+opened_page id table [] page = tt
+opened_page id table (r ∷ rows) page = (suc page.0, page.1, page.2, page.3)
 
 -- ---- of a page
 
 -- the rows that are left, once the first was asked for
-pub led_is : (first : Option Shown) (rest all : List Shown) → all ≡ option_to_list first ++ rest → IfNone first (all ≡ []) → led first rest ≡ all
+pub led_is : (first : Option Row) (rest all : List Row) → all ≡ option_to_list first ++ rest → IfNone first (all ≡ []) → led first rest ≡ all
 led_is None rest all is none = sym none
 led_is (Some row) rest all is none = sym is
 
 -- A page goes on behind its first row.
-pub passes : (next id : ℤ) (table : List Shown) (first : Option Shown) (was rest : List Shown) (r s : Shown) → first ≡ Some r → column r 0 ≡ Int id → was ≡ s ∷ rest → IsFrom (id +ℤ pos 1) s
-    → HoldsPage next table (led first was) → HoldsPage (id +ℤ pos 1) table (s ∷ rest)
-passes next id table first was rest r s one is two from holds =
-    let left : led first was ≡ r ∷ s ∷ rest = ap (λ o. led o was) one ∙ ap (λ xs. r ∷ xs) two in
-    passed next id table rest r s is from (subst (HoldsPage next table) left holds)
+pub passes : (next : ℤ) (table : List Shown) (was rest : List Row) (r s : Row) → was ≡ s ∷ rest → le_z (r.id +ℤ pos 1) s.id ≡ true → HoldsPage next table (r ∷ was) → HoldsPage (r.id +ℤ pos 1) table (s ∷ rest)
+passes next table was rest r s is above holds =
+    let it : HoldsPage next table (r ∷ s ∷ rest) = subst (λ xs. HoldsPage next table (r ∷ xs)) is holds in
+    passed it.0 next table it.1 rest r s above it.2 it.3
 
 -- ---- of a connection
 
@@ -56,19 +62,21 @@ passes next id table first was rest r s one is two from holds =
 pub holds_none : (page : Page) (table : List Shown) → rows_left page ≡ [] → Holds page table
 holds_none page table none = subst (HoldsPage page.next table) (sym none) tt
 
--- what was read of the page that a query shows
-pub opens : (page : Page) (id : ℤ) (s : State) (rows : List Shown) → rows_left page ≡ rows → page.next ≡ id → (HasCleanDisk s → HasRows 128 id (s.now.trees 1) rows) → HoldsRows page s
+-- what was read is the page
+pub opens : (page : Page) (id : ℤ) (s : State) (rows : List Row) → rows_left page ≡ rows → page.next ≡ id → (HasCleanDisk s → HasPage id (s.now.trees 1) rows) → HoldsRows page s
 opens page id s rows left next has clean =
-    let it : HoldsPage id (s.now.trees 1) rows = opened_page 128 id (s.now.trees 1) rows (has clean) in
+    let it : HoldsPage id (s.now.trees 1) rows = opened_page id (s.now.trees 1) rows (has clean) in
     subst (λ n. HoldsPage n (s.now.trees 1) (rows_left page)) (sym next) (subst (HoldsPage id (s.now.trees 1)) (sym left) it)
 
-pub opens_with : (page : Page) (id : ℤ) (s : State) (rows : List Shown) (found : Option Row) → rows_left page ≡ rows → (HasCleanDisk s → HasRows 128 id (s.now.trees 1) rows) → FirstReadsAs (rows_left page) found → IsStoredIn id s found
-opens_with page id s rows found left has read clean = page_stored 127 id (s.now.trees 1) rows found (has clean) (subst (λ xs. FirstReadsAs xs found) left read)
+pub opens_with : (page : Page) (id : ℤ) (s : State) (rows : List Row) (found : Option Row) → rows_left page ≡ rows → (HasCleanDisk s → HasPage id (s.now.trees 1) rows) → IsFirstOf (rows_left page) found → IsStoredIn id s found
+opens_with page id s rows found left has is clean = page_stored id (s.now.trees 1) rows found (has clean) (subst (λ xs. IsFirstOf xs found) left is)
 
 -- the first row of a page that goes on from an id
-pub goes_on : (page : Page) (id : ℤ) (s : State) (found : Option Row) → page.next ≡ id → HoldsRows page s → FirstReadsAs (rows_left page) found → IfSome found (λ row. IsStoredIn id s (Some row))
-goes_on page id s None next holds read = tt
-goes_on page id s (Some row) next holds read = λ clean. first_stored id (s.now.trees 1) (rows_left page) row (subst (λ n. HoldsPage n (s.now.trees 1) (rows_left page)) next (holds clean)) read
+pub goes_on : (page : Page) (id : ℤ) (s : State) (found : Option Row) → page.next ≡ id → HoldsRows page s → IsFirstOf (rows_left page) found → IfSome found (λ row. IsStoredIn id s (Some row))
+goes_on page id s None next holds is = tt
+goes_on page id s (Some row) next holds is = λ clean.
+    let it : HoldsPage id (s.now.trees 1) (row ∷ is.0) = subst (HoldsPage id (s.now.trees 1)) is.1 (subst (λ n. HoldsPage n (s.now.trees 1) (rows_left page)) next (holds clean)) in
+    first_stored it.0 id (s.now.trees 1) it.1 is.0 row it.2 it.3
 
 pub shows_row : (id : ℤ) (old new : State) (found : Option Row) → (HasCleanDisk new → new.now ≡ old.now) → IsStoredIn id new found → ShowsRow id old new found
 shows_row id old new found same stored = λ clean. (same clean, subst (λ (d : Database). IsStoredFrom id (d.trees 1) found) (same clean) (stored clean))

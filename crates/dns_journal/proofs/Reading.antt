@@ -13,7 +13,8 @@ use Rattle.dns_sqlite.proofs.Finds.{first_is, not_below_is}
 use Rattle.dns_keeper.specs.declared.row.Row.{Row}
 use Rattle.dns_keeper.specs.Rows.{first_of, first_from, is_ascending}
 use Rattle.dns_keeper.specs.Keeping.{TellsAscending, IsRowFrom, IsFirstRow}
-use Rattle.dns_journal.specs.Reads.{ReadsAs, FirstReadsAs}
+use Rattle.dns_sqlite.specs.Reads.{ReadsAs}
+use Rattle.dns_journal.specs.Reads.{FirstReadsAs}
 use Rattle.dns_journal.specs.Stored.{IsStoredFrom}
 use Rattle.dns_journal.specs.Pages.{IsStoredIn}
 use Rattle.dns_journal.specs.Told.{View, is_signed, row_of, rows_of, if_ascending, told, rows_in, told_rows}

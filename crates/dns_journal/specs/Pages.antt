@@ -1,28 +1,32 @@
--- Rows that a query has shown and that are not taken yet.
-use Rattle.std.specs.Prelude.{◌≡◌, ℕ, ℤ, List, [], ◌∷◌, Option, Some, None, true}
-use Rattle.std.specs.Int.Signed.{le_z}
+-- Rows that were read and that are not taken yet.
+use Rattle.std.specs.Prelude.{◌≡◌, ℕ, ℤ, List, [], ◌∷◌, Option, Some, None}
 use Rattle.std.specs.Vec.Iter.{into_iter_items}
-use Rattle.sqlite.specs.declared.types.Value.TheVariants.{Int}
-use Rattle.sqlite.specs.Order.{Row as Shown, column}
+use Rattle.sqlite.specs.Order.{Row as Shown}
 use Rattle.sqlite.specs.State.{State, HasCleanDisk}
 use Rattle.dns_sqlite.specs.Tables.{HasRows}
+use Rattle.dns_sqlite.specs.Reads.{AreRead}
 use Rattle.dns_keeper.specs.declared.row.Row.{Row}
 use Rattle.dns_journal.specs.Stored.{IsStoredFrom}
 use Rattle.dns_journal.specs.declared.page.Page.{Page}
 
 -- a first row and those behind it; none where there is no first
-abbrev pub led : Option Shown → List Shown → List Shown
+abbrev pub led : Option Row → List Row → List Row
 led None rest = []
 led (Some first) rest = first ∷ rest
 
 -- the rows that are left of a page
-abbrev pub rows_left : Page → List Shown
+abbrev pub rows_left : Page → List Row
 rows_left page = led page.first (into_iter_items page.rest)
 
+-- the first of some rows, or none where there is none
+abbrev pub IsFirstOf : List Row → Option Row → Type 0
+IsFirstOf rows None = rows ≡ []
+IsFirstOf rows (Some row) = (more : List Row) × (rows ≡ row ∷ more)
+
 -- these are rows of the table, by ascending id, and none of those from this id on is passed over
-abbrev pub HoldsPage : ℤ → List Shown → List Shown → Type 0
+abbrev pub HoldsPage : ℤ → List Shown → List Row → Type 0
 HoldsPage next table [] = Unit {0}
-HoldsPage next table (first ∷ rest) = (count : ℕ) × HasRows count next table (first ∷ rest)
+HoldsPage next table (first ∷ rest) = (count : ℕ) × (shown : List Shown) × HasRows count next table shown × AreRead shown (first ∷ rest)
 
 -- the rows of the page are those of the table from its id on
 abbrev pub Holds : Page → List Shown → Type 0
@@ -31,10 +35,6 @@ Holds page table = HoldsPage page.next table (rows_left page)
 -- the rows of the page are those of the connection, where its disk is clean
 abbrev pub HoldsRows : Page → State → Type 0
 HoldsRows page s = HasCleanDisk s → Holds page (s.now.trees 1)
-
--- this row follows one of this id: its own id is a number from here on
-abbrev pub IsFrom : ℤ → Shown → Type 0
-IsFrom next row = (id : ℤ) × (column row 0 ≡ Int id) × (le_z next id ≡ true)
 
 -- where the disk is clean, the row of the connection with the least id from this one on reads as this row; or there is none
 abbrev pub IsStoredIn : ℤ → State → Option Row → Type 0

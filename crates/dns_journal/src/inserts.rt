@@ -4,7 +4,7 @@ ghost use Rattle.std.specs.Prelude.{◌≡◌, ◌≢◌, ◌<◌, ◌≤◌, �
 ghost use Rattle.sqlite_trees.specs.View.{doubt};
 ghost use Rattle.sqlite.specs.Held.{state};
 ghost use Rattle.sqlite.specs.State.{HasCleanDisk};
-ghost use Rattle.dns_sqlite.specs.Tables.{HasRows};
+ghost use Rattle.dns_sqlite.specs.Reads.{HasPage};
 ghost use Rattle.dns_io.specs.Edge.{Keeps, Rose, one_more};
 ghost use Rattle.dns_wire.specs.WireFormat.{record_bytes, IsShort, AreShort};
 ghost use Rattle.dns_keeper.specs.declared.keeper.KeepFault.TheVariants.{Failed, OutOfMemory as NoRoom};
@@ -218,9 +218,8 @@ impl<S: Alter> Keeper for Journal<S> {
             return Err(KeepFault::Failed);
         }
         match self.from_page(id) {
-            Ok(None) => self.read_page(id),
-            Ok(Some(row)) => Ok(Some(row)),
-            Err(fault) => Err(fault),
+            Some(row) => Ok(Some(row)),
+            None => self.read_page(id),
         }
     }
 
@@ -230,23 +229,15 @@ impl<S: Alter> Keeper for Journal<S> {
 }
 
 impl<S: Alter> Journal<S> {
-    /// The row that follows by the page, where the page goes on from this id; else none. A row that does not read is a
-    /// counted fault.
-    fn from_page(&mut self, id: i64) -> Result<Option<Row>, KeepFault>
-        ensures stored { IfOk result (λ found. IfSome found (λ row. IsStoredIn id (state S.Store self.new.conn) (Some row))) }
-        ensures none { IfOk result (λ found. found ≡ None → self.new ≡ self.old) }
-        ensures kept { (self.new.conn ≡ self.old.conn) × (self.new.version ≡ self.old.version) }
-        ensures cause { HasCause self.old.faults self.new.faults result }
-        ensures uncounted { result ≢ Err Failed → self.new.faults ≡ self.old.faults }
+    /// The row that follows by the page, where the page goes on from this id; else none. Takes no memory.
+    fn from_page(&mut self, id: i64) -> Option<Row>
+        ensures stored { IfSome result (λ row. IsStoredIn id (state S.Store self.new.conn) (Some row)) }
+        ensures kept { self.new ≡ self.old }
     {
         if self.page.next != id {
-            return Ok(None);
+            return None;
         }
-        let alloc = self.alloc;
-        match self.page.take(alloc) {
-            Ok(found) => Ok(found),
-            Err(fault) => Err(self.counted(fault)),
-        }
+        self.page.take()
     }
 
     /// The row that a new page begins with.
@@ -265,40 +256,20 @@ impl<S: Alter> Journal<S> {
     {
         let alloc = self.alloc;
         self.page = Page::empty(alloc);
-        match select_rows_from(&mut self.conn, id) {
-            Ok(rows) => self.first_of(id, rows),
+        match select_rows_from(alloc, &mut self.conn, id) {
+            Ok(rows) => Ok(self.first_of(id, rows)),
             Err(error) => Err(self.keep_fault(error)),
         }
     }
 
-    /// Makes a page of the rows that a query shows from an id on, and takes the first of them.
-    fn first_of(&mut self, id: i64, rows: Vec<sqlite::Row>) -> Result<Option<Row>, KeepFault>
-        requires { HasCleanDisk (state S.Store self.old.conn) → HasRows 128 id ((state S.Store self.old.conn).now.trees 1) rows.items }
-        ensures stored { IfOk result (IsStoredIn id (state S.Store self.new.conn)) }
-        ensures kept { (self.new.conn ≡ self.old.conn) × (self.new.version ≡ self.old.version) }
-        ensures cause { HasCause self.old.faults self.new.faults result }
-        ensures uncounted { result ≢ Err Failed → self.new.faults ≡ self.old.faults }
+    /// Makes a page of the rows that were read from an id on, and takes the first of them.
+    fn first_of(&mut self, id: i64, rows: Vec<Row>) -> Option<Row>
+        requires { HasCleanDisk (state S.Store self.old.conn) → HasPage id ((state S.Store self.old.conn).now.trees 1) rows.items }
+        ensures stored { IsStoredIn id (state S.Store self.new.conn) result }
+        ensures kept { self.new ≡ self.old }
     {
-        let alloc = self.alloc;
         self.page = Page::new(id, rows);
-        match self.page.take(alloc) {
-            Ok(found) => Ok(found),
-            Err(fault) => Err(self.counted(fault)),
-        }
-    }
-
-    /// Counts a row that does not read; want of memory is not counted.
-    fn counted(&mut self, fault: KeepFault) -> KeepFault
-        ensures same { result ≡ fault }
-        ensures kept { (self.new.conn ≡ self.old.conn) × (self.new.version ≡ self.old.version) }
-        ensures cause { fault ≡ Failed → self.new.faults ≡ one_more self.old.faults }
-        ensures uncounted { fault ≢ Failed → self.new.faults ≡ self.old.faults }
-        ensures later { self.old.faults ≤ self.new.faults }
-    {
-        if matches!(fault, KeepFault::Failed) {
-            self.count();
-        }
-        fault
+        self.page.take()
     }
 
     /// Counts an error of the connection, unless it is want of memory.

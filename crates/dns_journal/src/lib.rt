@@ -10,7 +10,6 @@ mod journal;
 pub mod laws;
 mod page;
 mod records;
-mod row;
 
 pub use dns_keeper::{KeepFault, Keeper, MemoryKeeper, Row};
 pub use error::{PersistenceError, RecoveryKind};

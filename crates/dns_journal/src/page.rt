@@ -1,31 +1,30 @@
-//! A page of rows that a query has shown, which are taken one by one.
+//! A page of rows that were read, which are taken one by one.
 
-ghost use Rattle.std.specs.Prelude.{◌≡◌, ◌+ℤ◌, ◌++◌, [], List, pos, Some, IfOk, IfSome, IfNone, FitsSigned};
+ghost use Rattle.std.specs.Prelude.{◌≡◌, ◌+ℤ◌, ◌++◌, ◌∷◌, [], List, pos, true, Some, IfSome, IfNone, FitsSigned};
 ghost use Rattle.std.specs.Int.{w64};
+ghost use Rattle.std.specs.Int.Signed.{le_z};
 ghost use Rattle.std.specs.Option.{option_to_list};
 ghost use Rattle.std.specs.Vec.Iter.{into_iter_items};
-ghost use Rattle.sqlite.specs.declared.types.Value.TheVariants.{Int};
-ghost use Rattle.sqlite.specs.Order.{Row as Shown, column};
-ghost use Rattle.dns_journal.specs.Reads.{FirstReadsAs};
-ghost use Rattle.dns_journal.specs.Pages.{rows_left, Holds, IsFrom};
+ghost use Rattle.sqlite.specs.Order.{Row as Shown};
+ghost use Rattle.dns_keeper.specs.declared.row.Row.{Row as JournalRow};
+ghost use Rattle.dns_journal.specs.Pages.{rows_left, IsFirstOf, HoldsPage, Holds};
 
 use crate::iter::id_after;
-use crate::row::{number_in, row_in};
-use dns_keeper::{KeepFault, Row};
+use dns_keeper::Row;
 use std::alloc::Global;
+use std::mem::replace;
 use std::vec::IntoIter;
 
-/// The rows of a query that are not taken yet, and the id from which they go on. Where there is no first row there is
-/// none.
+/// The rows that are not taken yet, and the id from which they go on. Where there is no first row there is none.
 #[derive(Drop)]
 pub(crate) struct Page {
-    first: Option<sqlite::Row>,
-    rest: IntoIter<sqlite::Row, Global>,
+    first: Option<Row>,
+    rest: IntoIter<Row, Global>,
     pub(crate) next: i64,
 }
 
 /// The next of the rows; none at the end.
-fn next_of(rows: &mut IntoIter<sqlite::Row, Global>) -> Option<sqlite::Row>
+fn next_of(rows: &mut IntoIter<Row, Global>) -> Option<Row>
     ensures next { into_iter_items rows.old ≡ option_to_list result ++ into_iter_items rows.new }
     ensures end { IfNone result (into_iter_items rows.old ≡ []) }
 {
@@ -33,8 +32,8 @@ fn next_of(rows: &mut IntoIter<sqlite::Row, Global>) -> Option<sqlite::Row>
 }
 
 /// The row behind one of this id, and the id that follows this one; none where the row's own id is no greater number.
-fn behind(id: i64, row: Option<sqlite::Row>) -> Option<(i64, sqlite::Row)>
-    ensures some { IfSome result (λ found. (row ≡ Some found.1) × (found.0 ≡ id +ℤ pos 1) × IsFrom found.0 found.1) }
+fn behind(id: i64, row: Option<Row>) -> Option<(i64, Row)>
+    ensures some { IfSome result (λ found. (row ≡ Some found.1) × (found.0 ≡ id +ℤ pos 1) × (le_z found.0 found.1.id ≡ true)) }
     ensures fits { IfSome result (λ found. FitsSigned w64 found.0) }
 {
     let Some(row) = row else {
@@ -43,10 +42,7 @@ fn behind(id: i64, row: Option<sqlite::Row>) -> Option<(i64, sqlite::Row)>
     let Some(next) = id_after(id) else {
         return None;
     };
-    let Ok(number) = number_in(&row, 0) else {
-        return None;
-    };
-    if number < next {
+    if row.id < next {
         return None;
     }
     Some((next, row))
@@ -64,8 +60,8 @@ impl Page {
         }
     }
 
-    /// The page of the rows that a query shows from an id on.
-    pub(crate) fn new(next: i64, rows: Vec<sqlite::Row>) -> Page
+    /// The page of the rows that were read from an id on.
+    pub(crate) fn new(next: i64, rows: Vec<Row>) -> Page
         ensures rows { rows_left result ≡ rows.items }
         ensures next { result.next ≡ next }
     {
@@ -74,23 +70,23 @@ impl Page {
         Page { first, rest, next }
     }
 
-    /// Takes the first of the rows that are left. One that does not read stays, and so does one for which memory is
-    /// wanting.
-    pub(crate) fn take(&mut self, alloc: Global) -> Result<Option<Row>, KeepFault>
-        ensures read { IfOk result (FirstReadsAs (rows_left self.old)) }
+    /// Takes the first of the rows that are left. Takes no memory.
+    pub(crate) fn take(&mut self) -> Option<Row>
+        ensures first { IsFirstOf (rows_left self.old) result }
         ensures held { (table : List Shown) → Holds self.old table → Holds self.new table }
     {
-        let Some(first) = &self.first else {
-            return Ok(None);
-        };
-        let row = row_in(alloc, first)?;
-        self.pass(row.id);
-        Ok(Some(row))
+        match replace(&mut self.first, None) {
+            None => None,
+            Some(row) => {
+                self.pass(row.id);
+                Some(row)
+            }
+        }
     }
 
-    /// Passes the first row, which has this id. Where the row behind it does not follow by its own id, no row is left.
+    /// Goes behind a row with this id. Where the row that follows it does not follow by its own id, no row is left.
     fn pass(&mut self, id: i64)
-        ensures held { (first : Shown) → self.old.first ≡ Some first → column first 0 ≡ Int id → (table : List Shown) → Holds self.old table → Holds self.new table }
+        ensures held { (row : JournalRow) → row.id ≡ id → (table : List Shown) → HoldsPage self.old.next table (row ∷ into_iter_items self.old.rest) → Holds self.new table }
     {
         let row = next_of(&mut self.rest);
         match behind(id, row) {

@@ -1,5 +1,5 @@
 -- What the query shows.
-use Rattle.std.proofs.Common.{◌≡◌, inl, inr, ℕ, ℤ, List, [], ◌∷◌, map, filter, flat_map, take, Bool, true, false, if◌then◌else◌, Option, Some, None, refl, sym, ap, subst, ◌∙◌}
+use Rattle.std.proofs.Common.{◌≡◌, ◌++◌, inl, inr, ℕ, ℤ, List, [], ◌∷◌, map, filter, flat_map, take, Bool, true, false, if◌then◌else◌, Option, Some, None, refl, sym, ap, subst, ◌∙◌}
 use Rattle.std.proofs.lemmas.Bool.{cases_Bool}
 use Rattle.std.specs.List.{list_all}
 use Rattle.std.specs.List.Sorted.{IsPermutation, IsSorted}
@@ -8,11 +8,12 @@ use Rattle.sqlite.specs.Order.{Row}
 use Rattle.sqlite.specs.Term.{Env, holds}
 use Rattle.sqlite.specs.Query.{IsAnswer, output, Output}
 use Rattle.sqlite.specs.Program.{overlay}
-use Rattle.sqlite.specs.State.{State, Shown, ShowsRows, IsUnchanged}
+use Rattle.sqlite.specs.State.{State, Shown, ShowsRows, Begins, IsUnchanged}
 use Rattle.sqlite.specs.Listing.{understood}
 use Rattle.sqlite.specs.Clock.{timed}
 use Rattle.sqlite_schema.specs.declared.command.Returning.{Returning}
-use Rattle.sqlite.proofs.Callers.{IsPlain, reads_as}
+use Rattle.sqlite.proofs.Callers.{IsPlain, EndsIn, command_of, reads_as, begins_shown}
+use Rattle.sqlite.proofs.StateLemmas.{unchanged}
 use Rattle.dns_sqlite.specs.Tables.{journal_schema, seen, not_below, by_key, HasRow, HasRows}
 use Rattle.std.proofs.Common.{length, get_or, ◌<◌, zero, suc, arith, Less, Equal, Greater, Ordering}
 use Rattle.std.specs.List.{AllByRecursion, Contains}
@@ -46,6 +47,15 @@ finds old new id rows has h =
     let a : IsAnswer query (overlay old.now.trees []) (Int id ∷ []) rows = got.answer Null in
     let kept : a.kept ≡ map seen (filter (not_below id) (old.now.trees 1)) = a.distinct ∙ ap (map (output query)) a.grouped ∙ staged_is id (old.now.trees 1) in
     (a.ordered, subst (λ k. IsPermutation k a.ordered) kept a.same, a.sorted, a.shown)
+
+-- the rows that the query has given so far begin those that it finds
+pub begins : (s : State) (id : ℤ) (rows : List Row) → s.now.schema ≡ journal_schema → s.is_open ≡ true → Begins from_text (Int id ∷ []) s rows → (tail : List Row) × HasRows 128 id (s.now.trees 1) (rows ++ tail)
+begins s id rows has live h =
+    let more = begins_shown from_text (Int id ∷ []) s s rows h (unchanged s live) (λ c db it source.
+    let known = ap (λ k. understood k from_text) (sym has) ∙ it.is in
+    let selects = sym (ap command_of known) ∙ from_is.0 in
+    subst (λ k. EndsIn k db (timed (Int id ∷ []) c.formats it.now)) (sym selects) tt) in
+    (more.0, finds s s id (rows ++ more.0) has more.1)
 
 -- and it changes nothing
 pub same : (old new : State) (id : ℤ) (rows : List Row) → old.now.schema ≡ journal_schema → Shown from_text (Int id ∷ []) old new rows → IsUnchanged old new

@@ -14,6 +14,7 @@ use Rattle.sqlite.specs.Listing.{understood, reads_listing}
 use Rattle.sqlite.proofs.Callers.{IsPlain, command_of, statement_of}
 use Rattle.dns_sqlite.specs.Versions.{version_text}
 use Rattle.dns_sqlite.specs.Tables.{versions, records, journal_schema, version_schema, empty_schema}
+pub use Rattle.dns_sqlite.specs.Tables.{from_text}
 
 abbrev pub create_version_table : List ℕ
 create_version_table = codes "CREATE TABLE tdns_schema(version INTEGER NOT NULL)"
@@ -23,9 +24,6 @@ create_record_table = codes "CREATE TABLE records(id INTEGER PRIMARY KEY, client
 
 abbrev pub insert_text : List ℕ
 insert_text = codes "INSERT INTO records(client_id, soa_serial, timestamp, record) VALUES (?1, ?2, ?3, ?4)"
-
-abbrev pub from_text : List ℕ
-from_text = codes "SELECT id, client_id, soa_serial, timestamp, record FROM records WHERE id >= ?1 ORDER BY id LIMIT 128"
 
 pub versions_is : (command_of (understood empty_schema create_version_table) ≡ CreateTable) × (statement_of create_version_table (understood empty_schema create_version_table) ≡ create_version_table) × (table_defined_by create_version_table ≡ Ok (record versions { tree = 0 }))
 unfolding understood everything

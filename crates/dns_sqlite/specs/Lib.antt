@@ -1,4 +1,5 @@
 pub mod Tables
+pub mod Reads
 pub mod Batch
 pub mod Versions
 pub mod Shapes

@@ -92,3 +92,7 @@ HasRows count id rows found = (ordered : List (Row × Row)) × IsPermutation (ma
 -- the first of them
 abbrev pub HasRow : ℤ → List Row → List Row → Type 0
 HasRow = HasRows 1
+
+-- the query for the rows from an id on
+abbrev pub from_text : List ℕ
+from_text = codes "SELECT id, client_id, soa_serial, timestamp, record FROM records WHERE id >= ?1 ORDER BY id LIMIT 128"

@@ -2,6 +2,7 @@
 #![tactic(auto)]
 
 mod reads;
+mod row;
 mod schema;
 mod shape;
 mod version;

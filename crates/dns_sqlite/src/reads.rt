@@ -1,28 +1,76 @@
 //! The rows of a journal, read.
 
-ghost use Rattle.std.specs.Prelude.{◌≡◌, ◌≤◌, false, IsTrue, IfOk, OnOk, OnErr};
+ghost use Rattle.std.specs.Prelude.{◌≡◌, ◌≤◌, ◌++◌, ◌∷◌, [], ℤ, false, IsTrue, IfOk, OnOk, OnErr};
 ghost use Rattle.sqlite_trees.specs.View.{doubt};
-ghost use Rattle.sqlite.specs.State.{HasCleanDisk, IsUnchanged};
+ghost use Rattle.sqlite.specs.declared.types.Value.TheVariants.{Int};
+ghost use Rattle.sqlite.specs.Given.{HasGiven};
+ghost use Rattle.sqlite.specs.State.{HasCleanDisk, IsUnchanged, Survives};
 ghost use Rattle.sqlite.specs.Held.{state};
-ghost use Rattle.dns_sqlite.specs.Tables.{journal_schema, HasRows};
+ghost use Rattle.dns_sqlite.specs.Tables.{journal_schema, from_text};
+ghost use Rattle.dns_sqlite.specs.Reads.{HasPage, IsKept};
 
-use sqlite::{Alter, Connection, Error, Row, params};
+use crate::row::row_in;
+use dns_keeper::Row;
+use sqlite::{Alter, Connection, Error, ErrorCode, Rows, params};
+use std::alloc::Global;
 
-/// The rows whose ids are not below this one, by ascending id: 128, or as many as there are. The columns are the id, the
-/// client, the serial, the stamp and the bytes of the record. It changes nothing, and what a crash may leave stays as
-/// it is.
-pub fn select_rows_from<S: Alter>(conn: &mut Connection<S>, id: i64) -> Result<Vec<Row>, Error>
+/// Adds a row at the end.
+fn push(rows: &mut Vec<Row>, row: Row) -> Result<(), Error>
+    ensures { OnOk result (rows.new.items ≡ rows.old.items ++ row ∷ []) }
+{
+    match rows.push(row) {
+        Ok(()) => Ok(()),
+        Err(_) => Err(Error::SqliteFailure(ErrorCode::OutOfMemory)),
+    }
+}
+
+/// Takes the rows of a query from the first to the last, or to the one before the first that does not read.
+fn take_rows<S: Alter>(alloc: Global, shown: &mut Rows<'_, S>) -> Result<Vec<Row>, Error>
+    ensures same_reference { shown.new.conn.ghost_name ≡ shown.old.conn.ghost_name }
+    ensures mode { shown.old.conn.now.in_transaction ≡ false → shown.new.conn.now.in_transaction ≡ false }
+    ensures survives { Survives (state S.Store shown.old.conn.now) (state S.Store shown.new.conn.now) (λ _. ⊥) }
+    ensures same { HasCleanDisk (state S.Store shown.new.conn.now) → IsTrue (state S.Store shown.old.conn.now).is_open → OnOk result (IsUnchanged (state S.Store shown.old.conn.now) (state S.Store shown.new.conn.now)) }
+    ensures kept { HasCleanDisk (state S.Store shown.new.conn.now) → IsTrue (state S.Store shown.old.conn.now).is_open → OnErr result (IsKept (state S.Store shown.old.conn.now) (state S.Store shown.new.conn.now)) }
+    ensures found { HasCleanDisk (state S.Store shown.new.conn.now) → IsTrue (state S.Store shown.old.conn.now).is_open → (state S.Store shown.old.conn.now).now.schema ≡ journal_schema → (id : ℤ) → HasGiven S.Store from_text (Int id ∷ []) shown.old.conn.now [] → IfOk result (λ rows. HasPage id ((state S.Store shown.old.conn.now).now.trees 1) rows.items) }
+{
+    let mut rows = Vec::with_capacity(alloc, 128)?;
+    for _ in 0..u64::MAX {
+        shown.advance()?;
+        let Some(row) = shown.get() else {
+            return Ok(rows);
+        };
+        match row_in(alloc, row) {
+            Ok(one) => push(&mut rows, one)?,
+            Err(error) => {
+                if rows.is_empty() {
+                    return Err(error);
+                }
+                return Ok(rows);
+            }
+        }
+    }
+    Err(Error::SqliteFailure(ErrorCode::OutOfMemory))
+}
+
+/// The rows whose ids are not below this one, by ascending id: 128, or as many as there are. Where a row does not read,
+/// those before it; an error where that is the first. It changes nothing, and what a crash may leave stays as it is.
+pub fn select_rows_from<S: Alter>(
+    alloc: Global,
+    conn: &mut Connection<S>,
+    id: i64,
+) -> Result<Vec<Row>, Error>
     requires alone { (state S.Store conn.old).in_transaction ≡ false }
     ensures alone { (state S.Store conn.new).in_transaction ≡ false }
     ensures falls { doubt (state S.Store conn.old).is_clean ≤ doubt (state S.Store conn.new).is_clean }
     ensures opened { HasCleanDisk (state S.Store conn.new) → OnOk result (IsTrue (state S.Store conn.old).is_open) }
-    ensures found { HasCleanDisk (state S.Store conn.new) → (state S.Store conn.old).now.schema ≡ journal_schema → IfOk result (λ rows. HasRows 128 id ((state S.Store conn.old).now.trees 1) rows.items × IsUnchanged (state S.Store conn.old) (state S.Store conn.new)) }
+    ensures found { HasCleanDisk (state S.Store conn.new) → (state S.Store conn.old).now.schema ≡ journal_schema → IfOk result (λ rows. HasPage id ((state S.Store conn.old).now.trees 1) rows.items × IsUnchanged (state S.Store conn.old) (state S.Store conn.new)) }
     ensures kept { HasCleanDisk (state S.Store conn.new) → IsTrue (state S.Store conn.new).is_open → OnErr result (IsTrue (state S.Store conn.old).is_open × ((state S.Store conn.new).now ≡ (state S.Store conn.old).now)) }
     ensures left { HasCleanDisk (state S.Store conn.new) → (db : _) → (state S.Store conn.new).may_leave db → (state S.Store conn.old).may_leave db }
 {
     let _settled = conn.is_autocommit();
-    conn.query_all(
+    let mut shown = conn.query(
         "SELECT id, client_id, soa_serial, timestamp, record FROM records WHERE id >= ?1 ORDER BY id LIMIT 128",
         params![id],
-    )
+    )?;
+    take_rows(alloc, &mut shown)
 }

@@ -13,14 +13,5 @@ invariant_of-self g c = (
   c.self.invariant.1,
 )
 
-pub invariant_of-self-in-Err : goal.invariant_of-self-in-Err
-invariant_of-self-in-Err g c = (
-  (
-    c.self.invariant.0.0,
-    λ clean. c.take.ensures.held _ (opens c.new.result c.args.id (state g.S.Store c.self.inside.conn) c.args.rows.items c.new.ensures.rows (rw (to_z-of_z w64 c.args.id c.ranges.id) at c.new.ensures.next) (rw (← c.self.view_is) at c.requires) clean),
-  ),
-  c.self.invariant.1,
-)
-
-pub returns-in-Ok-clause-stored : goal.returns-in-Ok-clause-stored
-returns-in-Ok-clause-stored g c = opens_with c.new.result c.args.id (state g.S.Store c.self.inside.conn) c.args.rows.items c.in-Ok.found c.new.ensures.rows (rw (← c.self.view_is) at c.requires) c.in-Ok.ensures.read
+pub returns-clause-stored : goal.returns-clause-stored
+returns-clause-stored g c = opens_with c.new.result c.args.id (state g.S.Store c.self.inside.conn) c.args.rows.items c.take.result c.new.ensures.rows (rw (← c.self.view_is) at c.requires) c.take.ensures.first

@@ -6,8 +6,5 @@ use Rattle.dns_journal.proofs.journal.Journal.from_page.Goals as goal
 pub invariant_of-self : goal.invariant_of-self
 invariant_of-self g c = ((c.self.invariant.0.0, λ clean. c.take.ensures.held _ (c.self.invariant.0.1 clean)), c.self.invariant.1)
 
-pub invariant_of-self-in-Err : goal.invariant_of-self-in-Err
-invariant_of-self-in-Err g c = ((c.self.invariant.0.0, λ clean. c.take.ensures.held _ (c.self.invariant.0.1 clean)), c.self.invariant.1)
-
-pub returns-in-Ok-clause-stored : goal.returns-in-Ok-clause-stored
-returns-in-Ok-clause-stored g c = goes_on c.self.inside.page c.args.id (state g.S.Store c.self.inside.conn) c.in-Ok.found (search rules) c.self.invariant.0.1 c.in-Ok.ensures.read
+pub returns-clause-stored : goal.returns-clause-stored
+returns-clause-stored g c = goes_on c.self.inside.page c.args.id (state g.S.Store c.self.inside.conn) c.take.result (search rules) c.self.invariant.0.1 c.take.ensures.first

@@ -1,10 +1,9 @@
-use Rattle.std.proofs.Common.{◌≡◌, pos, sym, subst, IfOk, arith, w64, to_z, of_z}
+use Rattle.std.proofs.Common.{◌≡◌, pos, sym, subst, arith, w64, to_z, of_z}
 use Rattle.std.proofs.lemmas.Int.{to_z-of_z}
-use Rattle.std.proofs.lemmas.Result.{IfOk-weaker}
 use Rattle.sqlite.specs.Held.{state}
 use Rattle.sqlite.specs.Effect.{Database}
 use Rattle.dns_io.specs.Edge.{Keeps}
-use Rattle.dns_sqlite.specs.Tables.{HasRows}
+use Rattle.dns_sqlite.specs.Reads.{HasPage}
 use Rattle.dns_journal.specs.Told.{rows_in}
 use Rattle.dns_journal.specs.Stored.{ShowsRow}
 use Rattle.dns_journal.proofs.Telling.{keeps_told, one, tables_at}
@@ -19,17 +18,17 @@ first_of-requires g c clean =
     let done = c.in-Ok.ensures in
     let is : c.self.inside.version ≡ pos 1 = rw (← c.self.view_is) at c.requires in
     let it = done.found clean (tables_at c.self.inside.version old.now is (c.self.invariant.1 (omega (arith, done.falls, clean)) (done.opened clean))).0 in
-    subst (λ (d : Database). HasRows 128 (to_z w64 (of_z w64 c.args.id)) (d.trees 1) c.in-Ok.rows.items) (sym it.1.0.now_is) it.0
+    subst (λ (d : Database). HasPage (to_z w64 (of_z w64 c.args.id)) (d.trees 1) c.in-Ok.rows.items) (sym it.1.0.now_is) it.0
 
 pub returns-in-Ok-clause-found : goal.returns-in-Ok-clause-found
 returns-in-Ok-clause-found g c =
     let stored = rw (to_z-of_z w64 c.args.id c.ranges.id) at c.first_of.ensures.stored in
-    IfOk-weaker c.first_of.result _ _ (λ r it. row_told g.S.Store c.first_of.new.self c.args.id r it) stored
+    row_told g.S.Store c.first_of.new.self c.args.id c.first_of.result stored
 
 pub returns-in-Ok-clause-first : goal.returns-in-Ok-clause-first
 returns-in-Ok-clause-first g c least =
     let stored = rw (to_z-of_z w64 c.args.id c.ranges.id, least) at c.first_of.ensures.stored in
-    IfOk-weaker c.first_of.result _ _ (λ r it. first_row_told g.S.Store c.first_of.new.self r it) stored
+    first_row_told g.S.Store c.first_of.new.self c.first_of.result stored
 
 pub returns-in-Ok-clause-shown : goal.returns-in-Ok-clause-shown
 returns-in-Ok-clause-shown g c =
@@ -37,10 +36,10 @@ returns-in-Ok-clause-shown g c =
     let new = state g.S.Store c.select_rows_from.new.conn in
     let done = c.in-Ok.ensures in
     let is : c.self.inside.version ≡ pos 1 = rw (← c.self.view_is) at c.requires in
-    let stored = rw (to_z-of_z w64 c.args.id c.ranges.id, c.first_of.ensures.kept.0) at c.first_of.ensures.stored in
-    let all : IfOk c.first_of.result (ShowsRow c.args.id old new) = IfOk-weaker c.first_of.result _ _ (λ r it. shows_row c.args.id old new r
-    (λ clean. (done.found clean (tables_at c.self.inside.version old.now is (c.self.invariant.1 (omega (arith, done.falls, clean)) (done.opened clean))).0).1.0.now_is) it) stored in
-    rw (← c.self.view_is, c.first_of.ensures.kept.0) all
+    let stored = rw (to_z-of_z w64 c.args.id c.ranges.id, c.first_of.ensures.kept) at c.first_of.ensures.stored in
+    let all : ShowsRow c.args.id old new c.first_of.result = shows_row c.args.id old new c.first_of.result
+    (λ clean. (done.found clean (tables_at c.self.inside.version old.now is (c.self.invariant.1 (omega (arith, done.falls, clean)) (done.opened clean))).0).1.0.now_is) stored in
+    rw (← c.self.view_is, c.first_of.ensures.kept) all
 
 pub returns-in-Ok-clause-kept : goal.returns-in-Ok-clause-kept
 returns-in-Ok-clause-kept g c =
@@ -50,7 +49,7 @@ returns-in-Ok-clause-kept g c =
     let is : c.self.inside.version ≡ pos 1 = rw (← c.self.view_is) at c.requires in
     let kept : Keeps (rows_in old) (rows_in new) = keeps_told old new done.falls (λ clean live.
     let it = done.found clean (tables_at c.self.inside.version old.now is (c.self.invariant.1 (omega (arith, done.falls, clean)) (done.opened clean))).0 in (done.opened clean, it.1.0.now_is)) in
-    rw (← c.self.view_is, c.first_of.ensures.kept.0, c.first_of.ensures.kept.1, one c.self.inside.version is) kept
+    rw (← c.self.view_is, c.first_of.ensures.kept, one c.self.inside.version is) kept
 
 pub returns-in-Err-clause-kept : goal.returns-in-Err-clause-kept
 returns-in-Err-clause-kept g c =
