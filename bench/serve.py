@@ -4,6 +4,9 @@ time a reply, over UDP and over one connection with many queries under way, on z
 start to the first answer; what a second worker adds; and updates a second on a journal in a file, beside SQLite alone doing the same
 inserts.
 
+What such a machine gives differs from minute to minute, so what is compared is measured in turns: the program for a moment, then the echo
+(or one worker, then two), and again, and the sums of these are told.
+
   serve.py [SECONDS]  so long for each figure, or 3
 
 Needs a C compiler (cc). Uses loopback alone.
@@ -28,6 +31,8 @@ ZONES = (7, 50_000, 500_000)  # names
 WINDOW = {"udp": 64, "tcp": 64}
 WINDOWS = (1, 8, 64)  # queries under way on each of two connections
 UPDATES = 2_000
+TURNS = 10  # in which what is compared takes turns
+UPDATE_TURNS = 3  # of which the fastest counts
 TICKS = os.sysconf("SC_CLK_TCK")
 
 
@@ -39,13 +44,28 @@ def processor(run):
 
 
 def measured(load, run, port, way, seconds, names):
-    """Replies a second, and microseconds of processor time a reply, of all and in user mode."""
+    """The replies in about so many seconds, these seconds, the processor time, that in user mode, and how many datagrams were lost."""
     begin = processor(run)
     out = subprocess.run([load, way, str(port), str(seconds), str(WINDOW[way]), names], stdout=subprocess.PIPE, text=True, check=True)
     end = processor(run)
     replies, passed, lost = out.stdout.split()
-    spent, user = ((now - before) * 1e6 / int(replies) for before, now in zip(begin, end))
-    return int(replies) / float(passed), spent, user, int(lost)
+    return int(replies), float(passed), end[0] - begin[0], end[1] - begin[1], int(lost)
+
+
+def in_turns(measures, turns=TURNS):
+    """What each of these measures gives in all, where they take turns."""
+    sums = [None] * len(measures)
+    for _ in range(turns):
+        for place, measure in enumerate(measures):
+            got = measure(turns)
+            sums[place] = got if sums[place] is None else tuple(map(sum, zip(sums[place], got)))
+    return sums
+
+
+def figures_of(sums):
+    """Replies a second, microseconds of processor time a reply, of all and in user mode, and how many datagrams were lost."""
+    replies, passed, spent, user, lost = sums
+    return replies / passed, spent * 1e6 / replies, user * 1e6 / replies, lost
 
 
 def line(title, figures, echo=None):
@@ -67,31 +87,32 @@ def zone_of(count, folder):
 
 def serving(load, seconds, folder):
     port = clients.free_port()
-    zone, names = zone_of(ZONES[0], folder)
     echo = subprocess.Popen([load, "echo", str(port)])
     time.sleep(0.3)
-    bare = {way: measured(load, echo, port, way, seconds, names) for way in WINDOW}
-    for pid in Path(f"/proc/{echo.pid}/task/{echo.pid}/children").read_text().split():
-        os.kill(int(pid), 9)
-    echo.kill()
-    echo.wait()
-    for way in WINDOW:
-        line(f"echo in C, {way}", bare[way])
     for count in ZONES:
         zone, names = zone_of(count, folder)
         begin = time.perf_counter()
         with clients.Serving(zone=zone, workers=1) as server:
             print(f"{count} names: {1000 * (time.perf_counter() - begin):,.0f} ms from the start to the first answer, {server.resident():,} KiB")
             for way in WINDOW:
-                line(f"{count} names, {way}", measured(load, server.run, server.port, way, seconds, names), bare[way])
+                bare, ours = map(figures_of, in_turns([
+                    lambda turns: measured(load, echo, port, way, seconds / turns, names),
+                    lambda turns: measured(load, server.run, server.port, way, seconds / turns, names),
+                ]))
+                line(f"echo in C, {way}", bare)
+                line(f"{count} names, {way}", ours, bare)
+    for pid in Path(f"/proc/{echo.pid}/task/{echo.pid}/children").read_text().split():
+        os.kill(int(pid), 9)
+    echo.kill()
+    echo.wait()
 
 
 def replies_of(load, port, seconds, names, connections, window):
-    """Replies a second over so many connections at once, with so many queries under way on each."""
+    """The replies a second over so many connections at once, with so many queries under way on each."""
     command = [load, "tcp", str(port), str(seconds), str(window), names]
     runs = [subprocess.Popen(command, stdout=subprocess.PIPE, text=True) for _ in range(connections)]
     outs = [run.communicate()[0].split() for run in runs]
-    return sum(int(replies) / float(passed) for replies, passed, _lost in outs)
+    return (sum(int(replies) / float(passed) for replies, passed, _lost in outs),)
 
 
 def second_worker(load, seconds, folder):
@@ -99,27 +120,33 @@ def second_worker(load, seconds, folder):
     zone, names = zone_of(ZONES[0], folder)
     with clients.Serving(zone=zone, workers=2) as server:
         for window in WINDOWS:
-            one, two = (replies_of(load, server.port, seconds, names, count, window) for count in (1, 2))
-            print(f"{ZONES[0]} names, tcp, two workers, {window} under way: {two:,.0f} a second; the second adds {two / one - 1:.2f} of the "
-                  f"first's {one:,.0f}", flush=True)
+            (one,), (two,) = in_turns([
+                lambda turns: replies_of(load, server.port, seconds / turns, names, 1, window),
+                lambda turns: replies_of(load, server.port, seconds / turns, names, 2, window),
+            ])
+            print(f"{ZONES[0]} names, tcp, two workers, {window} under way: {two / TURNS:,.0f} a second; the second adds {two / one - 1:.2f} of the "
+                  f"first's {one / TURNS:,.0f}", flush=True)
 
 
-def updated(folder):
+def updated(folder, turn):
     """Updates a second over one connection, each acknowledged before the next."""
     zone, _ = zone_of(ZONES[0], folder)
-    with clients.Serving("--update", zone=zone, journal=Path(folder, "journal"), workers=1) as server, server.connected() as stream:
+    with clients.Serving("--update", zone=zone, journal=Path(folder, f"journal{turn}"), workers=1) as server, server.connected() as stream:
         replies = clients.frames_in(stream)
         begin = time.perf_counter()
         for place in range(UPDATES):
             stream.sendall(clients.framed(clients.added(place)))
-            if next(replies)[3] & 15:
+            reply = next(replies, None)
+            if reply is None:
+                sys.exit(f"the connection was ended: an update took longer than its limit of {clients.LIMIT} ms")
+            if reply[3] & 15:
                 sys.exit("an update is refused")
         return UPDATES / (time.perf_counter() - begin)
 
 
-def inserted(folder):
+def inserted(folder, turn):
     """The same inserts by SQLite alone, one a transaction."""
-    database = sqlite3.connect(Path(folder, "bare"), isolation_level=None)
+    database = sqlite3.connect(Path(folder, f"bare{turn}"), isolation_level=None)
     database.execute("PRAGMA journal_mode = WAL")
     database.execute("PRAGMA synchronous = FULL")
     database.execute("CREATE TABLE records (id INTEGER PRIMARY KEY, client_id, soa_serial, timestamp, record)")
@@ -142,7 +169,7 @@ def main():
         subprocess.run([compiler, "-O2", "-o", load, TOP / "bench" / "load.c"], check=True)
         serving(load, seconds, folder)
         second_worker(load, seconds, folder)
-        ours, bare = updated(folder), inserted(folder)
+        ours, bare = map(max, zip(*((updated(folder, turn), inserted(folder, turn)) for turn in range(UPDATE_TURNS))))
         print(f"updates on a journal in a file: {ours:,.0f} a second, {100 * ours / bare:.0f} % of SQLite's own {bare:,.0f}")
 
 

@@ -2,7 +2,7 @@
 """Asks the built program, which serves on loopback, with the clients that people use, and treats it as they do at their worst.
 
 dig, kdig and dnspython ask hits, aliases, referrals, wildcards and negatives, with and without EDNS, over UDP and TCP, and an answer
-that is too long for UDP; nsupdate sends each kind of prerequisite, and adds and deletes; a restart on the same journal shows what was
+that is too long for UDP; dnsperf asks the same with many under way; nsupdate sends each kind of prerequisite, and adds and deletes; a restart on the same journal shows what was
 acknowledged. Then the program is killed under streams of updates, and what was answered NoError has to be there afterwards; and 900
 connections come at once, some of which send single bytes or nothing. A client that is not installed is skipped, with a line.
 
@@ -61,6 +61,8 @@ ASKED = [
     ("example.com", "NS", "NOERROR", True, ["example.com. 3600 IN NS ns.example.com."], []),
     ("example.net", "A", "REFUSED", False, [], []),
 ]
+PERF_TURNS = 100  # times that dnsperf asks each question
+PERF_WAYS = [("-m", "udp"), ("-m", "tcp"), ("-m", "udp", "-e")]
 LONG = [f"many.example.com. 60 IN A 10.0.0.{place}" for place in range(MANY)]
 
 
@@ -272,6 +274,24 @@ def look(server):
             raise Wrong(f"after the updates {name} {kind} is answered {reply.hex()}")
 
 
+def dnsperf(server, folder):
+    """Asks each question many times over by dnsperf, with many under way: each has to be answered, with the code that is due."""
+    if shutil.which("dnsperf") is None:
+        print("clients: dnsperf is not installed, skipped")
+        return 0
+    questions = Path(folder, "questions")
+    questions.write_text("".join(f"{name} {kind}\n" for name, kind, *_ in ASKED))
+    due = {code: PERF_TURNS * sum(code == other for _, _, other, *_ in ASKED) for _, _, code, *_ in ASKED}
+    for way in PERF_WAYS:
+        command = ["dnsperf", "-s", "127.0.0.1", "-p", str(server.port), "-d", questions, "-n", str(PERF_TURNS), "-c", "4", *way]
+        told = subprocess.run(command, stdout=subprocess.PIPE, stderr=subprocess.DEVNULL, text=True, timeout=2 * BOUND).stdout
+        codes = re.search(r"Response codes: +(.*)", told)
+        got = {code: int(count) for code, count in re.findall(r"([A-Z]+) (\d+)", codes[1])} if codes else {}
+        if got != due or not re.search(r"Queries lost: +0 ", told):
+            raise Wrong(f"dnsperf {' '.join(way)} tells {got} where {due} are due")
+    return len(PERF_WAYS) * PERF_TURNS * len(ASKED)
+
+
 def clients():
     """People's clients, then a restart."""
     with tempfile.TemporaryDirectory() as folder:
@@ -281,6 +301,7 @@ def clients():
             count = diggers(server, "dig", [("+edns=0",), ("+noedns",), ("+tcp",), ("+tcp", "+noedns"), ("+edns=0", "+bufsize=4096")])
             count += diggers(server, "kdig", [(), ("+edns",), ("+tcp",)])
             count += dnspython(server)
+            count += dnsperf(server, folder)
             sent = nsupdates(server)
             if sent:
                 look(server)

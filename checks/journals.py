@@ -247,6 +247,11 @@ def text_for_bytes(journal, zone):
     spoil(journal, "UPDATE records SET record = 'text' WHERE id = 2")
 
 
+def missing_row_before_text(journal, zone):
+    missing_row(journal, zone)
+    spoil(journal, "INSERT INTO records SELECT 4, client_id, soa_serial, timestamp, 'text' FROM records WHERE id = 3")
+
+
 REFUSALS = [
     (no_database, 8, "keeper fault"),
     (a_folder, 8, "keeper fault"),
@@ -257,6 +262,7 @@ REFUSALS = [
     (no_snapshot, 5, "journal row 1: row out of place"),
     (no_soa, 5, "journal row 1: not one SOA"),
     (text_for_bytes, 8, "keeper fault"),
+    (missing_row_before_text, 5, "journal row 3: row out of place"),
 ]
 
 
