@@ -1,5 +1,5 @@
 -- The keys that begin with one follow it at once: a search from it on for one that owns records.
-use Rattle.std.proofs.Common.{Ordering, ◌≡◌, ℕ, ◌<◌, Bool, true, false, List, [], ◌∷◌, ◌++◌, length, drop, refl, sym, ap, subst, ◌∙◌, arith, Vec, Global, eqb}
+use Rattle.std.proofs.Common.{Ordering, ◌≡◌, ℕ, ◌<◌, Bool, true, false, List, [], ◌∷◌, ◌++◌, length, take, drop, slice_index_or, refl, sym, ap, subst, ◌∙◌, arith, Vec, Global, eqb}
 use Rattle.std.specs.Prelude.{filter, ◌&&◌, ◌||◌, not, cond}
 use Rattle.std.specs.Bool.{Decides}
 use Rattle.std.specs.List.{AllByRecursion, list_any, starts_with}
@@ -14,6 +14,7 @@ use Rattle.std.proofs.lemmas.List.Kept.{IsStrictlySortedBy-filter}
 use Rattle.std.proofs.lemmas.Map.Keys.{sorted_head, sorted_tail}
 use Rattle.std.proofs.lemmas.Slice.Eq.{starts_is}
 use Rattle.std.proofs.lemmas.Bool.Decides.{Decides-eqb}
+use Rattle.std.proofs.lemmas.List.{take-append-drop, get_or_append_left}
 use Rattle.dns_zone_map.specs.Keys.{BeginsWith}
 
 abbrev pub IsUpTo : List ℕ → List ℕ → Type 0
@@ -56,6 +57,21 @@ starts-Decides bytes front =
     let p = starts_is Decides-eqb bytes front (starts_with eqb bytes front) refl in
     (λ t. (drop (length front) bytes, p.0 t), λ h. p.1 h.0 h.1)
 
+pub no_true : (b : Bool) → (b ≡ true → ⊥) → b ≡ false
+no_true true h = absurd (h refl)
+no_true false h = refl
+
+-- bytes whose front is the other begin with it, and those that differ from it at one place do not
+pub begins_with : (bytes front : List ℕ) → take (length front) bytes ≡ front → true ≡ starts_with eqb bytes front
+begins_with bytes front e =
+    sym ((starts-Decides bytes front).1 (drop (length front) bytes, sym (take-append-drop (length front) bytes) ∙ ap (λ (xs : List ℕ). xs ++ drop (length front) bytes) e))
+
+pub begins_otherwise : (bytes front : List ℕ) (i : ℕ) → i < length front → (slice_index_or bytes i 0 ≡ slice_index_or front i 0 → ⊥) → false ≡ starts_with eqb bytes front
+begins_otherwise bytes front i within other =
+    sym (no_true (starts_with eqb bytes front) (λ t.
+    let b = (starts-Decides bytes front).0 t in
+    other (ap (λ (xs : List ℕ). slice_index_or xs i 0) b.1 ∙ get_or_append_left front b.0 0 i within)))
+
 pub begins_is : (b : Bool) (bytes front key next : List ℕ) → b ≡ starts_with eqb bytes front → bytes ≡ key → front ≡ next → starts_with eqb key next ≡ b
 begins_is b bytes front key next is at of = sym (is ∙ rw (at, of) refl)
 
@@ -70,10 +86,6 @@ less_up o e = rw e refl
 bool_cases : {P : Type 0} (b : Bool) → (b ≡ true → P) → (b ≡ false → P) → P
 bool_cases true t f = t refl
 bool_cases false t f = f refl
-
-pub no_true : (b : Bool) → (b ≡ true → ⊥) → b ≡ false
-no_true true h = absurd (h refl)
-no_true false h = refl
 
 up_to : (o : Ordering) → is_le o ≡ true → is_gt o ≡ false
 up_to Less h = refl

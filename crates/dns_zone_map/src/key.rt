@@ -163,9 +163,19 @@ fn put_label(room: &mut [u8], end: usize, label: &[u8]) -> usize
     let start = end - (label.len() + 1);
     room[start] = label.len() as u8;
     let place = &mut room[start + 1..end];
-    place.copy_from_slice(label);
-    place.make_ascii_lowercase();
+    copy_folded(place, label);
     start
+}
+
+/// Copies the bytes of a label into a room of their number, with ASCII capitals made small. Labels are short, so that byte by byte is
+/// the fastest way.
+fn copy_folded(room: &mut [u8], label: &[u8])
+    requires { length room.old ≡ length label.now }
+    ensures { room.new ≡ map to_ascii_lowercase label.now }
+{
+    for place in 0..label.len() {
+        room[place] = label[place].to_ascii_lowercase();
+    }
 }
 
 /// The place that is before another by as many bytes as the first labels of a name take.

@@ -75,7 +75,7 @@ fn is_begun_among(names: &Tree, key: &[u8]) -> bool
     ensures { result ≡ is_begun names.now.entries key.now }
 {
     for (next, sets) in names {
-        if next.starts_with(key) && sets.is_some() {
+        if begins(next, key) && sets.is_some() {
             return true;
         }
     }
@@ -88,7 +88,7 @@ fn is_begun_from(names: &Tree, key: &Vec<u8>) -> bool
     ensures { result ≡ is_begun names.now.entries key.now.items }
 {
     for (next, sets) in names.range(key..) {
-        if !next.starts_with(key) {
+        if !begins(next, key) {
             return false;
         }
         if sets.is_some() {
@@ -96,6 +96,21 @@ fn is_begun_from(names: &Tree, key: &Vec<u8>) -> bool
         }
     }
     false
+}
+
+/// Whether a key begins with another.
+fn begins(key: &[u8], front: &[u8]) -> bool
+    ensures { result ≡ starts_with eqb key.now front.now }
+{
+    if key.len() < front.len() {
+        return false;
+    }
+    for place in 0..front.len() {
+        if key[place] != front[place] {
+            return false;
+        }
+    }
+    true
 }
 
 /// Puts a record of the name with this key in the place of its rival, which is given back, or at the end of its set with
