@@ -78,6 +78,17 @@ impl<'a> LentRecords<'a> {
         }
     }
 
+    /// The same records, lent once more.
+    pub fn again(&self) -> LentRecords<'a>
+        ensures { result ≡ self.now }
+    {
+        LentRecords {
+            records: self.records,
+            owner: self.owner,
+            is_negative: self.is_negative,
+        }
+    }
+
     /// The records as they are kept: their types and classes are those that the reply gives.
     pub fn as_kept(&self) -> &'a [Record]
         ensures { kinds result.now ≡ kinds self.now }
