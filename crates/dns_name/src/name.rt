@@ -3,7 +3,7 @@
 ghost use Rattle.std.specs.Prelude.{◌≡◌, ◌+◌, ◌<◌, ◌≤◌, ◌↔◌, ℕ, List, [], ◌∷◌, ◌++◌, length, map, IsTrue, IfOk, IfSome, IsSomeAnd, OnOk, OnErr};
 ghost use Rattle.std.specs.Char.{to_ascii_lowercase};
 ghost use Rattle.std.specs.Iterator.{YieldsFirstRef, item_count};
-ghost use Rattle.dns_name.specs.Name.{IsLabel, IsName, name_len, fold_of, SameName, IsAtOrBelow, is_same_name, is_at_or_below, label_bytes, name_bytes};
+ghost use Rattle.dns_name.specs.Name.{IsLabel, IsName, name_len, fold_of, SameName, IsAtOrBelow, is_same_name, is_at_or_below, label_bytes, labels_bytes, name_bytes};
 ghost use Rattle.dns_name.specs.NameBuffer.{labels_of, IsWire};
 ghost use Rattle.dns_name.specs.NameInMessage.{StandsAt};
 
@@ -128,6 +128,15 @@ impl Name {
         ensures name { IsName self.now }
     {
         Labels { left: &self.wire }
+    }
+
+    /// The bytes that the labels take in a message, each behind its length, without the zero byte at the end (RFC 1035 3.1).
+    #[inline]
+    pub fn as_wire(&self) -> &[u8]
+        ensures bytes { result.now ≡ labels_bytes self.now }
+        ensures folded { map to_ascii_lowercase result.now ≡ labels_bytes (fold_of self.now) }
+    {
+        &self.wire
     }
 
     /// Whether the names are equal but for the case of ASCII letters (RFC 1035 2.3.3).

@@ -48,27 +48,25 @@ sizes r n x y none within xe ye =
     (omega (arith, length-take x r.answers, xe), omega (arith, length-take y r.authority, ye, within, length-append r.answers (r.authority ++ r.additional), length-append r.authority r.additional, ap (λ (rs : List Record). length rs) none))
 
 -- header, counts, question, answers, authority and OPT, all said of the reply
-parts_put : {T E : Type 0} (res : Result T E) (out a b c d e new : List ℕ) (r : Reply) (q : Question) (n x y o : ℕ) → r.question ≡ Some q → r.additional ≡ [] → n ≤ length (all_of r)
+parts_put : {T E : Type 0} (res : Result T E) (out b c d e new : List ℕ) (r : Reply) (q : Question) (n x y o : ℕ) → r.question ≡ Some q → r.additional ≡ [] → n ≤ length (all_of r)
     → x ≡ min n (length r.answers) → y ≡ n - length r.answers → o ≡ length (opt_records r.edns)
-    → a ≡ out ++ (to_be_bytes w16 r.id ++ flag_bytes (reply_header r n))
-    → b ≡ a ++ (to_be_bytes w16 1 ++ (to_be_bytes w16 x ++ (to_be_bytes w16 y ++ to_be_bytes w16 o)))
+    → b ≡ out ++ ((to_be_bytes w16 r.id ++ flag_bytes (reply_header r n)) ++ (to_be_bytes w16 1 ++ (to_be_bytes w16 x ++ (to_be_bytes w16 y ++ to_be_bytes w16 o))))
     → c ≡ b ++ question_bytes q → d ≡ c ++ records_bytes (take x r.answers) → e ≡ d ++ records_bytes (take y r.authority)
     → OnOk res (new ≡ e ++ records_bytes ([] ++ opt_records r.edns)) → OnOk res (new ≡ out ++ reply_bytes r n)
-parts_put res out a b c d e new r q n x y o asked none within xe ye oe ha hb hc hd he last =
+parts_put res out b c d e new r q n x y o asked none within xe ye oe hb hc hd he last =
     let s = sizes r n x y none within xe ye in
     rw (ap message_bytes (shortened_is r n x y q asked none xe ye), s.0, s.1, ← oe)
-    (message_put res out a b c d e new _ _ (question_bytes q ++ []) _ _ _ ha hb (hc ∙ ap (λ (z : List ℕ). b ++ z) (sym (append-nil (question_bytes q)))) hd he last)
+    (message_put res out b c d e new _ (question_bytes q ++ []) _ _ _ hb (hc ∙ ap (λ (z : List ℕ). b ++ z) (sym (append-nil (question_bytes q)))) hd he last)
 
 -- the same, where what is written is known to be what the reply has
-pub lent_put : {T E : Type 0} (res : Result T E) (out a b c d e new : List ℕ) (r : Reply) (header : Header) (q : Question) (answers authority : List Record) (edns : Option Edns) (n x y o : ℕ)
+pub lent_put : {T E : Type 0} (res : Result T E) (out b c d e new : List ℕ) (r : Reply) (header : Header) (q : Question) (answers authority : List Record) (edns : Option Edns) (n x y o : ℕ)
     → header ≡ reply_header r n → Some q ≡ r.question → answers ≡ r.answers → authority ≡ r.authority → [] ≡ r.additional → edns ≡ r.edns
     → n ≤ length (all_of r) → x ≡ min n (length r.answers) → y ≡ n - length r.answers → o ≡ length (opt_records edns)
-    → a ≡ out ++ (to_be_bytes w16 header.id ++ flag_bytes header)
-    → b ≡ a ++ (to_be_bytes w16 1 ++ (to_be_bytes w16 x ++ (to_be_bytes w16 y ++ to_be_bytes w16 o)))
+    → b ≡ out ++ ((to_be_bytes w16 header.id ++ flag_bytes header) ++ (to_be_bytes w16 1 ++ (to_be_bytes w16 x ++ (to_be_bytes w16 y ++ to_be_bytes w16 o))))
     → c ≡ b ++ question_bytes q → d ≡ c ++ records_bytes (take x answers) → e ≡ d ++ records_bytes (take y authority)
     → OnOk res (new ≡ e ++ records_bytes ([] ++ opt_records edns)) → OnOk res (new ≡ out ++ reply_bytes r n)
-lent_put res out a b c d e new r header q answers authority edns n x y o hh hq hx hy hz ho within xe ye oe ha hb hc hd he last =
-    parts_put res out a b c d e new r q n x y o (sym hq) (sym hz) within xe ye (oe ∙ ap (λ (one : Option Edns). length (opt_records one)) ho)
-    (ha ∙ ap (λ (h : Header). out ++ (to_be_bytes w16 h.id ++ flag_bytes h)) hh) hb hc
+lent_put res out b c d e new r header q answers authority edns n x y o hh hq hx hy hz ho within xe ye oe hb hc hd he last =
+    parts_put res out b c d e new r q n x y o (sym hq) (sym hz) within xe ye (oe ∙ ap (λ (one : Option Edns). length (opt_records one)) ho)
+    (hb ∙ ap (λ (h : Header). out ++ ((to_be_bytes w16 h.id ++ flag_bytes h) ++ (to_be_bytes w16 1 ++ (to_be_bytes w16 x ++ (to_be_bytes w16 y ++ to_be_bytes w16 o))))) hh) hc
     (hd ∙ ap (λ (rs : List Record). c ++ records_bytes (take x rs)) hx) (he ∙ ap (λ (rs : List Record). d ++ records_bytes (take y rs)) hy)
     (subst (λ (one : Option Edns). OnOk res (new ≡ e ++ records_bytes ([] ++ opt_records one))) ho last)

@@ -1,16 +1,16 @@
 //! Records that a reply gives, lent by whoever keeps them: they are written without copies.
 
-ghost use Rattle.std.specs.Prelude.{◌≡◌, ◌≤◌, ◌<◌, ◌+◌, ◌++◌, ◌==◌, [], length, map, take, nat_lt, false, Bool, IfOk, OnOk, option_map};
+ghost use Rattle.std.specs.Prelude.{◌≡◌, ◌≤◌, ◌<◌, ◌+◌, ◌++◌, ◌==◌, [], length, map, take, nat_lt, false, Bool, IfOk, IfSome, IfNone, OnOk, option_map};
 ghost use Rattle.std.specs.Int.{w16, w32, to_be_bytes};
-ghost use Rattle.dns_name.specs.Name.{fold_of, name_bytes};
+ghost use Rattle.dns_name.specs.Name.{fold_of, labels_bytes, name_bytes};
 ghost use Rattle.dns_wire.specs.Given.{given, negative, negative_ttl, given_as, in_parts, kinds};
 ghost use Rattle.dns_wire.specs.WireFormat.{record_bytes, records_bytes};
 ghost use Rattle.dns_wire.specs.Written.{Fits};
 
 use crate::rdata::Data;
 use crate::record::Record;
-use crate::writing::{name_len, put_middle};
-use crate::writing_data::{data_len, put_data};
+use crate::writing::{name_len, put_rest};
+use crate::writing_data::data_len;
 use dns_io::OutOfMemory;
 use dns_name::Name;
 use std::alloc::Global;
@@ -78,6 +78,17 @@ impl<'a> LentRecords<'a> {
         }
     }
 
+    /// The same records, lent once more.
+    pub fn again(&self) -> LentRecords<'a>
+        ensures { result ≡ self.now }
+    {
+        LentRecords {
+            records: self.records,
+            owner: self.owner,
+            is_negative: self.is_negative,
+        }
+    }
+
     /// The records as they are kept: their types and classes are those that the reply gives.
     pub fn as_kept(&self) -> &'a [Record]
         ensures { kinds result.now ≡ kinds self.now }
@@ -100,19 +111,31 @@ impl<'a> LentRecords<'a> {
     }
 
     /// How many of the records, from the first on, go into `room` bytes.
+    #[inline(always)]
     pub(crate) fn fitting(&self, room: usize) -> Fitting
         ensures fits { Fits room self.now result.count }
         ensures left { result.left + length (records_bytes (take result.count self.now)) ≡ room }
         ensures few { result.count + result.left ≤ room }
         ensures cut { result.is_cut ≡ nat_lt result.count (length self.now) }
     {
+        if self.records.is_empty() {
+            return Fitting {
+                count: 0,
+                left: room,
+                is_cut: false,
+            };
+        }
         fitting_given(self.records, self.owner, self.is_negative, room)
     }
 
     /// Writes the first `count` of the records.
+    #[inline(always)]
     pub(crate) fn put(&self, out: &mut Vec<u8>, count: usize) -> Result<(), OutOfMemory>
         ensures { OnOk result (out.new.items ≡ out.old.items ++ records_bytes (take count self.now)) }
     {
+        if count == 0 {
+            return Ok(());
+        }
         let (first, _) = self.records.split_at(count.min(self.records.len()));
         put_each(out, first, self.owner, self.is_negative)
     }
@@ -184,15 +207,14 @@ fn fitting_given(
     let mut count = 0;
     let mut left = room;
     for one in records {
-        let size = given_len(one, owner, is_negative);
-        if size > left as u128 {
+        let Some(rest) = left_after(one, owner, is_negative, left) else {
             return Fitting {
                 count,
                 left,
                 is_cut: true,
             };
-        }
-        left -= size as usize;
+        };
+        left = rest;
         count += 1;
     }
     Fitting {
@@ -202,12 +224,14 @@ fn fitting_given(
     }
 }
 
-/// How many bytes a record takes, as a reply gives it.
+/// How many bytes of a room are left behind a record, as a reply gives it, where it goes in.
 #[tactic(auto, using(crate::proofs::Lending::size_given))]
-fn given_len(one: &Record, owner: Option<&Name>, is_negative: bool) -> u128
-    ensures { result ≡ length (record_bytes (given_as (option_map (λ n. fold_of n.now) owner.entry) is_negative one.now)) }
+fn left_after(one: &Record, owner: Option<&Name>, is_negative: bool, room: usize) -> Option<usize>
+    ensures fits { IfSome result (λ left. left + length (record_bytes (given_as (option_map (λ n. fold_of n.now) owner.entry) is_negative one.now)) ≡ room) }
+    ensures over { IfNone result (room < length (record_bytes (given_as (option_map (λ n. fold_of n.now) owner.entry) is_negative one.now))) }
 {
-    owner_len(one, owner) as u128 + 10 + data_len(&one.rdata) as u128
+    let behind = room.checked_sub(data_len(&one.rdata))?;
+    behind.checked_sub(owner_len(one, owner))?.checked_sub(10)
 }
 
 /// How many bytes the owner takes that a reply gives a record.
@@ -245,14 +269,32 @@ fn put_given(
 ) -> Result<(), OutOfMemory>
     ensures { OnOk result (out.new.items ≡ out.old.items ++ record_bytes (given_as (option_map (λ n. fold_of n.now) owner.entry) is_negative one.now)) }
 {
-    match owner {
-        None => one.name.write(out)?,
-        Some(owner) => owner.write_folded(out)?,
-    }
+    put_owner(out, one, owner)?;
     let ttl = given_ttl(one, is_negative);
-    let len = data_len(&one.rdata) as u128;
-    put_middle(out, one.rtype, one.class, ttl, len)?;
-    put_data(out, &one.rdata)
+    put_rest(out, one.rtype, one.class, ttl, &one.rdata)
+}
+
+/// Writes the labels of the owner that a reply gives a record.
+#[inline(always)]
+fn put_owner(out: &mut Vec<u8>, one: &Record, owner: Option<&Name>) -> Result<(), OutOfMemory>
+    ensures { OnOk result (out.new.items ≡ out.old.items ++ labels_bytes (given (option_map (λ n. fold_of n.now) owner.entry) one.now).name) }
+{
+    match owner {
+        None => out.extend_from_slice(one.name.as_wire())?,
+        Some(owner) => put_folded(out, owner)?,
+    }
+    Ok(())
+}
+
+/// Writes the labels of a name, with ASCII capitals made small.
+#[inline(never)]
+fn put_folded(out: &mut Vec<u8>, name: &Name) -> Result<(), OutOfMemory>
+    ensures { OnOk result (out.new.items ≡ out.old.items ++ labels_bytes (fold_of name.now)) }
+{
+    let start = out.len();
+    out.extend_from_slice(name.as_wire())?;
+    out[start..].make_ascii_lowercase();
+    Ok(())
 }
 
 /// How many of the records that parts give, from the first on, go into `room` bytes.

@@ -14,8 +14,7 @@ use crate::lent_records::{LentRecords, fitting_in_parts, put_parts};
 use crate::question::Question;
 use crate::reply::{LENGTH_LEN, WrittenReply};
 use crate::writing::{
-    flag_word, opt_count, opt_len, put_count, put_counts, put_extra, put_flags, put_question,
-    question_len,
+    flag_word, opt_count, opt_len, put_count, put_extra, put_head, put_question, question_len,
 };
 use dns_io::{Octets, OutOfMemory};
 use std::alloc::Global;
@@ -173,6 +172,7 @@ fn put_len(out: &mut Vec<u8>, len: usize, is_framed: bool) -> Result<(), OutOfMe
 }
 
 /// The header, where some of the records are left out or none.
+#[inline(always)]
 fn header_of(reply: &LentReply<'_>, is_cut: bool) -> Header
     ensures { (count : _) → is_cut ≡ nat_lt count (length (all_of reply.now)) → result ≡ reply_header reply.now count }
 {
@@ -207,9 +207,9 @@ fn put_kept(
     requires within { kept.now.count ≤ length (all_of reply.now) }
     ensures { OnOk result (out.new.items ≡ out.old.items ++ reply_bytes reply.now kept.now.count) }
 {
-    put_flags(out, header)?;
-    put_counts(
+    put_head(
         out,
+        header,
         1,
         kept.answers as u128,
         kept.authority as u128,

@@ -1,6 +1,6 @@
 //! Writing the parts of messages, all names uncompressed (RFC 1035 4.1).
 
-ghost use Rattle.std.specs.Prelude.{◌≡◌, ◌++◌, ◌+◌, ◌*◌, ◌≤◌, ◌<◌, ◌^◌, length, OnOk, IfSome};
+ghost use Rattle.std.specs.Prelude.{◌≡◌, ◌++◌, ◌∷◌, ◌+◌, ◌*◌, ◌≤◌, ◌<◌, ◌^◌, length, OnOk, IfSome};
 ghost use Rattle.std.specs.Int.{w16, w32, to_be_bytes, from_be_bytes};
 ghost use Rattle.dns_name.specs.Name.{IsName, name_bytes};
 ghost use Rattle.dns_wire.specs.Header.{unit, flag_bytes, header_bytes};
@@ -39,9 +39,9 @@ pub(crate) fn put_message(
       edns = edns.now;
     })) }
 {
-    put_flags(out, header)?;
-    put_counts(
+    put_head(
         out,
+        header,
         questions.len() as u128,
         answers.len() as u128,
         authority.len() as u128,
@@ -53,17 +53,31 @@ pub(crate) fn put_message(
     put_extra(out, additional, edns)
 }
 
-/// Writes the id and the flags of a header, its opcode and code modulo 16.
-pub(crate) fn put_flags(out: &mut Vec<u8>, header: &Header) -> Result<(), OutOfMemory>
-    ensures { OnOk result (out.new.items ≡ out.old.items ++ (to_be_bytes w16 header.now.id ++ flag_bytes header.now)) }
+/// Writes the id and the flags of a header, its opcode and code modulo 16, and four counts.
+#[inline(always)]
+pub(crate) fn put_head(
+    out: &mut Vec<u8>,
+    header: &Header,
+    questions: u128,
+    answers: u128,
+    authority: u128,
+    additional: u128,
+) -> Result<(), OutOfMemory>
+    ensures { OnOk result (out.new.items ≡ out.old.items ++ ((to_be_bytes w16 header.now.id ++ flag_bytes header.now)
+        ++ (to_be_bytes w16 questions ++ (to_be_bytes w16 answers ++ (to_be_bytes w16 authority ++ to_be_bytes w16 additional))))) }
 {
     let [first, second] = header.id.to_be_bytes();
     let [high, low] = flag_bytes(header);
-    out.extend_from_slice(&[first, second, high, low])?;
+    let [a, b] = count_bytes(questions);
+    let [c, d] = count_bytes(answers);
+    let [e, f] = count_bytes(authority);
+    let [g, h] = count_bytes(additional);
+    out.extend_from_slice(&[first, second, high, low, a, b, c, d, e, f, g, h])?;
     Ok(())
 }
 
 /// The two bytes of the flags, the opcode and the code, the last two modulo 16 (RFC 1035 4.1.1).
+#[inline(always)]
 fn flag_bytes(header: &Header) -> [u8; 2]
     ensures { result ≡ flag_bytes header.now }
 {
@@ -80,29 +94,11 @@ fn flag_bytes(header: &Header) -> [u8; 2]
 }
 
 /// These two bytes as one number.
+#[inline(always)]
 pub(crate) fn flag_word(header: &Header) -> u16
     ensures { result ≡ from_be_bytes w16 (flag_bytes header.now) }
 {
     u16::from_be_bytes(flag_bytes(header))
-}
-
-/// Writes the four counts of a header.
-pub(crate) fn put_counts(
-    out: &mut Vec<u8>,
-    questions: u128,
-    answers: u128,
-    authority: u128,
-    additional: u128,
-) -> Result<(), OutOfMemory>
-    ensures { OnOk result (out.new.items ≡ out.old.items ++ (to_be_bytes w16 questions
-        ++ (to_be_bytes w16 answers ++ (to_be_bytes w16 authority ++ to_be_bytes w16 additional)))) }
-{
-    let [a, b] = count_bytes(questions);
-    let [c, d] = count_bytes(answers);
-    let [e, f] = count_bytes(authority);
-    let [g, h] = count_bytes(additional);
-    out.extend_from_slice(&[a, b, c, d, e, f, g, h])?;
-    Ok(())
 }
 
 /// The lowest sixteen bits of a count, in two bytes.
@@ -137,14 +133,15 @@ fn put_questions(out: &mut Vec<u8>, questions: &[Question]) -> Result<(), OutOfM
 pub(crate) fn put_question(out: &mut Vec<u8>, question: &Question) -> Result<(), OutOfMemory>
     ensures { OnOk result (out.new.items ≡ out.old.items ++ question_bytes question.now) }
 {
-    question.name.write(out)?;
+    out.extend_from_slice(question.name.as_wire())?;
     let [type_high, type_low] = question.qtype.to_be_bytes();
     let [class_high, class_low] = question.qclass.to_be_bytes();
-    out.extend_from_slice(&[type_high, type_low, class_high, class_low])?;
+    out.extend_from_slice(&[0, type_high, type_low, class_high, class_low])?;
     Ok(())
 }
 
 /// Writes the records of the additional section, then the OPT.
+#[inline(always)]
 pub(crate) fn put_extra(
     out: &mut Vec<u8>,
     records: &[Record],
@@ -173,34 +170,91 @@ fn put_records(out: &mut Vec<u8>, records: &[Record]) -> Result<(), OutOfMemory>
 pub(crate) fn put_record(out: &mut Vec<u8>, one: &Record) -> Result<(), OutOfMemory>
     ensures { OnOk result (out.new.items ≡ out.old.items ++ record_bytes one.now) }
 {
-    one.name.write(out)?;
-    let len = data_len(&one.rdata) as u128;
-    put_middle(out, one.rtype, one.class, one.ttl, len)?;
-    put_data(out, &one.rdata)
+    out.extend_from_slice(one.name.as_wire())?;
+    put_rest(out, one.rtype, one.class, one.ttl, &one.rdata)
 }
 
-/// Writes what stands between the owner of a record and its data: type, class, TTL and the lowest sixteen bits of the length of the data
-/// (RFC 1035 4.1.3).
-pub(crate) fn put_middle(
+/// Writes what stands behind the labels of a record's owner: the zero byte at their end, and all that comes after the owner (RFC 1035 4.1.3).
+/// An address and a name, which most records have, are written without a further look at what data it is.
+#[inline(always)]
+pub(crate) fn put_rest(
     out: &mut Vec<u8>,
     rtype: u16,
     class: u16,
     ttl: u32,
-    len: u128,
+    rdata: &Data,
 ) -> Result<(), OutOfMemory>
-    ensures { OnOk result (out.new.items ≡ out.old.items ++ (to_be_bytes w16 rtype ++ to_be_bytes w16 class ++ to_be_bytes w32 ttl ++ to_be_bytes w16 len)) }
+    ensures { OnOk result (out.new.items ≡ out.old.items ++ (0 ∷ (to_be_bytes w16 rtype ++ to_be_bytes w16 class ++ to_be_bytes w32 ttl
+        ++ to_be_bytes w16 (length (data_bytes rdata.now)) ++ data_bytes rdata.now))) }
+{
+    match rdata {
+        Data::A(address) => put_rest_of_a(out, rtype, class, ttl, *address),
+        Data::Ns(name) | Data::Cname(name) | Data::Ptr(name) => {
+            put_middle(out, rtype, class, ttl, name.len())?;
+            put_name(out, name)
+        }
+        _ => {
+            put_middle(out, rtype, class, ttl, data_len(rdata))?;
+            put_data(out, rdata)
+        }
+    }
+}
+
+/// Writes the zero byte at the end of an owner, type, class, TTL and the lowest sixteen bits of the length of the data (RFC 1035 4.1.3).
+#[inline(always)]
+fn put_middle(
+    out: &mut Vec<u8>,
+    rtype: u16,
+    class: u16,
+    ttl: u32,
+    len: usize,
+) -> Result<(), OutOfMemory>
+    ensures { OnOk result (out.new.items ≡ out.old.items ++ (0 ∷ (to_be_bytes w16 rtype ++ to_be_bytes w16 class ++ to_be_bytes w32 ttl ++ to_be_bytes w16 len))) }
 {
     let [type_high, type_low] = rtype.to_be_bytes();
     let [class_high, class_low] = class.to_be_bytes();
     let [a, b, c, d] = ttl.to_be_bytes();
-    let [len_high, len_low] = count_bytes(len);
+    let [len_high, len_low] = count_bytes(len as u128);
     out.extend_from_slice(&[
-        type_high, type_low, class_high, class_low, a, b, c, d, len_high, len_low,
+        0, type_high, type_low, class_high, class_low, a, b, c, d, len_high, len_low,
     ])?;
     Ok(())
 }
 
+/// The same with the data, where it is an IPv4 address.
+#[inline(always)]
+fn put_rest_of_a(
+    out: &mut Vec<u8>,
+    rtype: u16,
+    class: u16,
+    ttl: u32,
+    address: u32,
+) -> Result<(), OutOfMemory>
+    ensures { OnOk result (out.new.items ≡ out.old.items ++ (0 ∷ (to_be_bytes w16 rtype ++ to_be_bytes w16 class ++ to_be_bytes w32 ttl
+        ++ to_be_bytes w16 4 ++ to_be_bytes w32 address))) }
+{
+    let [type_high, type_low] = rtype.to_be_bytes();
+    let [class_high, class_low] = class.to_be_bytes();
+    let [a, b, c, d] = ttl.to_be_bytes();
+    let [e, f, g, h] = address.to_be_bytes();
+    out.extend_from_slice(&[
+        0, type_high, type_low, class_high, class_low, a, b, c, d, 0, 4, e, f, g, h,
+    ])?;
+    Ok(())
+}
+
+/// Writes a name.
+#[inline(always)]
+pub(crate) fn put_name(out: &mut Vec<u8>, name: &Name) -> Result<(), OutOfMemory>
+    ensures { OnOk result (out.new.items ≡ out.old.items ++ name_bytes name.now) }
+{
+    out.extend_from_slice(name.as_wire())?;
+    out.push(0)?;
+    Ok(())
+}
+
 /// Writes an OPT record (RFC 6891 6.1.2).
+#[inline(always)]
 fn put_opt(out: &mut Vec<u8>, edns: &Edns) -> Result<(), OutOfMemory>
     ensures { OnOk result (out.new.items ≡ out.old.items ++ record_bytes (opt_record edns.now)) }
 {

@@ -1,0 +1,9 @@
+use Rattle.std.specs.Prelude.{option_map}
+use Rattle.dns_name.specs.Name.{fold_of}
+use Rattle.dns_wire.proofs.Putting.{given_put}
+use Rattle.dns_wire.proofs.lent_records.put_given.Goals as goal
+
+pub returns : goal.returns
+returns c =
+    let owner = option_map (λ n. fold_of n.now) c.args.owner in
+    given_put owner c.args.is_negative c.args.one.now _ _ _ _ _ c.in_ok-put_owner.ensures (c.given_ttl-ttl.ensures owner) c.put_rest.ensures
