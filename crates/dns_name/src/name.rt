@@ -204,25 +204,6 @@ impl Name {
         out.push(0)?;
         Ok(())
     }
-
-    /// Writes the name at the end of a message, without pointers and with ASCII capitals made small (RFC 1035 2.3.3, 3.1).
-    pub fn write_folded(&self, out: &mut Vec<u8>) -> Result<(), OutOfMemory>
-        ensures { OnOk result (out.new.items ≡ out.old.items ++ name_bytes (fold_of self.now)) }
-    {
-        put_folded(out, &self.wire)?;
-        out.push(0)?;
-        Ok(())
-    }
-}
-
-/// Writes bytes at the end, with ASCII capitals made small.
-fn put_folded(out: &mut Vec<u8>, bytes: &[u8]) -> Result<(), OutOfMemory>
-    ensures { OnOk result (out.new.items ≡ out.old.items ++ map to_ascii_lowercase bytes.now) }
-{
-    let start = out.len();
-    out.extend_from_slice(bytes)?;
-    out[start..].make_ascii_lowercase();
-    Ok(())
 }
 
 impl Clone for Name {

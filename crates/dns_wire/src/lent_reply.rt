@@ -3,21 +3,19 @@
 ghost use Rattle.std.specs.Prelude.{◌≡◌, ◌+◌, ◌-◌, ◌≤◌, ◌++◌, ◌∷◌, [], length, take, min, nat_lt, if◌then◌else◌, IfOk, OnOk};
 ghost use Rattle.std.specs.Int.{w16, to_be_bytes};
 ghost use Rattle.dns_wire.specs.WireFormat.{records_bytes};
-ghost use Rattle.dns_wire.specs.Standing.{word_at};
 ghost use Rattle.dns_wire.specs.Given.{in_parts};
 ghost use Rattle.dns_wire.specs.MessageBytes.{message_bytes};
-ghost use Rattle.dns_wire.specs.Written.{all_of, reply_bytes, reply_header, Fits, Written, Appends};
+ghost use Rattle.dns_wire.specs.Written.{all_of, reply_bytes, reply_header, Fits, Appends};
 
 use crate::edns::Edns;
 use crate::header::Header;
 use crate::lent_records::{LentRecords, fitting_in_parts, put_parts};
 use crate::question::Question;
-use crate::reply::{LENGTH_LEN, WrittenReply};
+use crate::reply::LENGTH_LEN;
 use crate::writing::{
     flag_word, opt_count, opt_len, put_count, put_extra, put_head, put_question, question_len,
 };
-use dns_io::{Octets, OutOfMemory};
-use std::alloc::Global;
+use dns_io::OutOfMemory;
 use std::marker::Model;
 
 /// A reply to a question, as [`crate::Reply`] is one, whose question and records are lent.
@@ -112,22 +110,6 @@ impl<'a> LentReply<'a> {
             len,
             flags: flag_word(&header),
             answers: kept.answers,
-        })
-    }
-
-    /// The written form that [`crate::Reply::write`] gives.
-    pub fn write(&self, alloc: Global, limit: u16) -> Result<WrittenReply, OutOfMemory>
-        requires { 512 ≤ limit }
-        ensures bytes { IfOk result (λ written. Written self.now limit written.bytes) }
-        ensures flags { IfOk result (λ written. written.flags ≡ word_at written.bytes 2) }
-        ensures answers { IfOk result (λ written. written.answers ≡ word_at written.bytes 6) }
-    {
-        let mut out = Vec::new(alloc);
-        let appended = self.append(&mut out, limit, false)?;
-        Ok(WrittenReply {
-            bytes: Octets::from_vec(out),
-            flags: appended.flags,
-            answers: appended.answers,
         })
     }
 }

@@ -133,10 +133,10 @@ fn put_questions(out: &mut Vec<u8>, questions: &[Question]) -> Result<(), OutOfM
 pub(crate) fn put_question(out: &mut Vec<u8>, question: &Question) -> Result<(), OutOfMemory>
     ensures { OnOk result (out.new.items ≡ out.old.items ++ question_bytes question.now) }
 {
-    out.extend_from_slice(question.name.as_wire())?;
+    put_name(out, &question.name)?;
     let [type_high, type_low] = question.qtype.to_be_bytes();
     let [class_high, class_low] = question.qclass.to_be_bytes();
-    out.extend_from_slice(&[0, type_high, type_low, class_high, class_low])?;
+    out.extend_from_slice(&[type_high, type_low, class_high, class_low])?;
     Ok(())
 }
 
