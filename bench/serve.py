@@ -34,6 +34,7 @@ UPDATES = 2_000
 TURNS = 10  # in which what is compared takes turns
 UPDATE_TURNS = 3  # of which the fastest counts
 TICKS = os.sysconf("SC_CLK_TCK")
+os.environ["GLIBC_TUNABLES"] = "glibc.malloc.hugetlb=1"  # as the command dns at the top has it
 
 
 def processor(run):
