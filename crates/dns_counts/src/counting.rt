@@ -5,6 +5,9 @@ ghost use Rattle.dns_counts.specs.Counting.{raised, grown, seen_of, seen_or_unkn
 ghost use Rattle.dns_counts.specs.Labels.{unit};
 ghost use Rattle.std.specs.List.{position_from};
 
+use crate::labels::RESPONSE_CODES;
+use dns_wire::response_code::NOT_ZONE;
+
 /// A count raised by a number; it stops at the greatest value.
 pub(crate) fn raise(count: u64, more: u64) -> u64
     ensures { result ≡ raised count more }
@@ -100,6 +103,18 @@ fn count_known_sought(counts: &mut [u64], codes: &[u16], code: u16)
     match place_of(codes, code) {
         Some(place) => raise_at(counts, place, 1),
         None => {}
+    }
+}
+
+/// Counts a response code at its label, where it has one. Those up to NotZone stand each at the place of its number.
+pub(crate) fn count_response(counts: &mut [u64], code: u16)
+    requires { length RESPONSE_CODES ≤ length counts.old }
+    ensures { counts.new ≡ grown counts.old (seen_of RESPONSE_CODES (code ∷ [])) }
+{
+    if code <= NOT_ZONE {
+        raise_at(counts, usize::from(code), 1);
+    } else {
+        count_known_sought(counts, &RESPONSE_CODES, code);
     }
 }
 

@@ -3,15 +3,18 @@
 ghost use Rattle.std.specs.Prelude.{◌≡◌, is_some};
 ghost use Rattle.dns_counts.specs.Counters.{no_counts, recorded, changed, count_of, has_label};
 
-use crate::asked::{Asked, Replied};
-use crate::counting::{count_code, count_known, raise_each};
+use crate::asked::{Asked, LentReplied, Replied};
+use crate::counting::{count_code, count_known, count_response, raise_each};
 use crate::flags::{count_flags, count_flags_in, count_protocol};
 use crate::kinds::{count_class, count_classes, count_type, count_types};
 use crate::labels::{
     CLASSES, FLAGS, LOOKUP_CODES, LOOKUPS, MODIFICATIONS, NO_LABELS, OPERATION_CODES, OPERATIONS,
-    PROTOCOLS, RECORDS, RESPONSE_CODES, RESPONSES, TYPES, count_of_label,
+    PROTOCOLS, RECORDS, RESPONSES, TYPES, count_of_label,
 };
+use crate::lent::count_parts;
 use crate::names::*;
+use dns_io::Protocol;
+use dns_wire::Header;
 use std::marker::Model;
 
 /// The count of each label of each counter. Counts stop at the greatest `u64`, and no call takes memory.
@@ -80,7 +83,7 @@ impl Counts {
             u16::from(asked.header.opcode),
             1,
         );
-        count_known(&mut self.responses, &RESPONSE_CODES, replied.code);
+        count_response(&mut self.responses, replied.code);
         count_protocol(&mut self.protocols, asked.protocol);
         match asked.question {
             Some(question) => {
@@ -92,6 +95,38 @@ impl Counts {
             }
             None => {}
         }
+    }
+
+    /// Counts a query that the zone was looked up for and its reply, as [`Counts::record`] does, without a list of its answers. The
+    /// work grows with the number of parts, and with that of the records of a part.
+    pub fn record_lent(
+        &mut self,
+        protocol: Protocol,
+        header: &Header,
+        question: (u16, u16),
+        replied: &LentReplied<'_>,
+    )
+        ensures { self.new ≡ recorded (record { protocol = protocol; header = header.now; question = Some question }) replied.now self.old }
+    {
+        count_flags(&mut self.request_flags, header);
+        count_flags_in(&mut self.response_flags, replied.flags);
+        count_code(
+            &mut self.operations,
+            &OPERATION_CODES,
+            u16::from(header.opcode),
+            1,
+        );
+        count_response(&mut self.responses, replied.code);
+        count_protocol(&mut self.protocols, protocol);
+        count_known(&mut self.lookups, &LOOKUP_CODES, replied.code);
+        count_type(&mut self.request_types, question.0, 1);
+        count_class(&mut self.request_classes, question.1, 1);
+        count_parts(
+            &mut self.response_types,
+            &mut self.response_classes,
+            replied.parts,
+            replied.written,
+        );
     }
 
     /// Counts a batch that changed the zone: how many of its records were added, deleted and updated, and how many

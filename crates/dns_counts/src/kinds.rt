@@ -64,7 +64,7 @@ fn count_listed_classes(counts: &mut [u64], pairs: &[(u16, u16)])
 }
 
 /// Counts the class of a pair that stands so many times, where its type is not OPT.
-fn count_repeated_class(counts: &mut [u64], pair: (u16, u16), times: u64)
+pub(crate) fn count_repeated_class(counts: &mut [u64], pair: (u16, u16), times: u64)
     requires { length CLASS_CODES < length counts.old }
     ensures { counts.new ≡ grown counts.old (seen_or_unknown CLASS_CODES (classes_in (classed (replicate times pair)))) }
 {

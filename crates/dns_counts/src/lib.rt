@@ -10,10 +10,11 @@ mod flags;
 mod kinds;
 mod labels;
 pub mod laws;
+mod lent;
 mod names;
 mod pairs;
 
-pub use asked::{Asked, Replied};
+pub use asked::{Asked, LentReplied, Replied};
 pub use counts::Counts;
 pub use direction::Direction;
 pub use names::{

@@ -16,8 +16,8 @@ returns-in-Some c =
       c.count_protocol.ensures,
       c.count_code.ensures,
       c.from.ensures,
+      c.count_response.ensures,
       c.count_known.ensures,
-      c.count_known-in-Some.ensures,
       c.count_type.ensures,
       c.count_class.ensures,
       c.count_types.ensures,
@@ -42,5 +42,5 @@ returns-in-None c =
       c.count_protocol.ensures,
       c.count_code.ensures,
       c.from.ensures,
-      c.count_known.ensures,
+      c.count_response.ensures,
     )
