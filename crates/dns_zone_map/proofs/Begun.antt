@@ -1,8 +1,9 @@
 -- The keys that begin with a key stand in its tree.
 use Rattle.std.proofs.Common.{◌≡◌, ℕ, ◌+◌, ◌<◌, Bool, true, false, List, [], ◌∷◌, ◌++◌, length, take, reverse, refl, sym, ap, ◌∙◌, subst, arith, length-append, eqb, if◌then◌else◌}
-use Rattle.std.specs.Prelude.{◌||◌, ◌&&◌, ◌-◌, ◌%◌}
+use Rattle.std.specs.Prelude.{◌||◌, ◌&&◌, ◌-◌, ◌%◌, slice_get, Some}
 use Rattle.std.specs.List.{AllByRecursion, list_any, starts_with}
 use Rattle.std.proofs.lemmas.List.{take-append-le}
+use Rattle.std.proofs.lemmas.Option.{same_Some}
 use Rattle.dns_name.specs.Name.{labels_bytes, fold_of}
 use Rattle.std.specs.Map.{lookup}
 use Rattle.dns_zone_map.specs.Keys.{key_of, BeginsWith}
@@ -63,6 +64,12 @@ any_behind key (e ∷ front) es h = rw h.0 (any_behind key front es h.1)
 or_false : (b : Bool) → (b || false) ≡ b
 or_false true = refl
 or_false false = refl
+
+-- where one entry stands alone, it is asked alone
+pub only_begun : (key : List ℕ) (es : Entries) (e : Entry) → length es ≡ 1 → slice_get es 0 ≡ Some e → begins key e ≡ is_begun es key
+only_begun key [] e one is = absurd (omega (arith, one))
+only_begun key (x ∷ []) e one is = sym (ap (begins key) (same_Some x e is)) ∙ sym (or_false (begins key x))
+only_begun key (x ∷ y ∷ es) e one is = absurd (omega (arith, one))
 
 any_before : (key : List ℕ) (es back : Entries) → AllByRecursion (λ e. starts_with eqb e.0.items key ≡ false) back → list_any (begins key) (es ++ back) ≡ list_any (begins key) es
 any_before key [] back h = none_any key back h

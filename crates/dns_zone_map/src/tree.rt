@@ -62,12 +62,26 @@ pub(crate) fn is_begun(alloc: Global, names: &Tree, key: &[u8]) -> Result<bool, 
     if count == 0 {
         return Ok(false);
     }
+    if count == 1 {
+        return Ok(is_only_begun(names, key));
+    }
     if count <= FEW_NAMES {
         return Ok(is_begun_among(names, key));
     }
     let mut start = Vec::with_capacity(alloc, key.len())?;
     start.extend_from_slice(key)?;
     Ok(is_begun_from(names, &start))
+}
+
+/// The same, where there is one name.
+fn is_only_begun(names: &Tree, key: &[u8]) -> bool
+    requires { length names.now.entries ≡ 1 }
+    ensures { result ≡ is_begun names.now.entries key.now }
+{
+    match names.first_key_value() {
+        None => false,
+        Some((only, sets)) => begins(only, key) && sets.is_some(),
+    }
 }
 
 /// The same, of one name after another.
