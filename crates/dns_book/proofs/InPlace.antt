@@ -2,6 +2,7 @@
 use Rattle.std.proofs.Common.{◌≡◌, ℕ, List, Bool, true, false, not, is_err, Option, Some, None, refl, subst}
 use Rattle.std.specs.Prelude.{◌||◌, IfSome}
 use Rattle.dns_name.specs.Name.{is_at_or_below}
+use Rattle.dns_io.specs.declared.peer.Protocol.{Protocol}
 use Rattle.dns_wire.specs.declared.header.Header.{Header}
 use Rattle.dns_wire.specs.declared.question.Question.{Question}
 use Rattle.dns_wire.specs.Header.{header_of}
@@ -13,12 +14,13 @@ use Rattle.dns_book.specs.declared.ask.Ask.{Ask}
 use Rattle.dns_book.specs.declared.decision.Request.{Request}
 use Rattle.dns_book.specs.declared.decision.Case.{Case}
 use Rattle.dns_book.specs.declared.decision.Case.TheVariants.{Query}
+use Rattle.dns_book.specs.declared.decision.Decision.{Decision}
 use Rattle.dns_book.specs.declared.outcome.Outcome.{Outcome}
-use Rattle.dns_book.specs.declared.in_place.Counted.{Counted}
-use Rattle.dns_book.specs.Outcome.{IsMade, IsAnswered, IsAnsweredBy, ComesTo}
+use Rattle.dns_book.specs.Outcome.{IsOutcome, IsMade, IsAsked, IsAnswered, IsAnsweredBy, ComesTo, idle_outcome}
 use Rattle.dns_book.specs.Access.{Access, lets_in}
 use Rattle.dns_book.specs.Sources.{sanitized}
 use Rattle.dns_book.specs.Cases.{is_newer, is_foreign, message_case, request_of, Decides, read}
+use Rattle.dns_book.specs.Counted.{asked_of}
 
 -- the question of a query
 abbrev pub question_in : Looked → Question
@@ -76,17 +78,24 @@ pub silent_at : (zone : Contents) (allow_update : Bool) (access : Access) (ask :
 silent_at zone allow_update access ask found comes is = subst (ComesTo zone allow_update access ask) is comes
 
 -- a query in place was answered
-pub answered_in_place : (zone : Contents) (allow_update : Bool) (access : Access) (ask : Ask) (request : Request) (question : Question) (framed : Bool) (before after : List ℕ) (counted : Counted)
-    → Decides zone access ask (Some (record { request = request; case = Query question }))
-    → IsAnsweredBy zone allow_update ask.protocol (record { request = request; case = Query question }) framed before after counted → IsAnswered zone allow_update access ask framed before after counted
-answered_in_place zone allow_update access ask request question framed before after counted decided a = record {
-  bytes = a.bytes;
-  made = record { decision = record { request = request; case = Query question }; decided = decided; is = a.is; passing = tt };
-  short = a.short;
-  sent = a.sent;
-}
-
--- so it was, where something was counted
-pub answered_at : (zone : Contents) (allow_update : Bool) (access : Access) (ask : Ask) (framed : Bool) (before after : List ℕ) (found : Option Counted) (counted : Counted)
-    → IfSome found (IsAnswered zone allow_update access ask framed before after) → found ≡ Some counted → IsAnswered zone allow_update access ask framed before after counted
-answered_at zone allow_update access ask framed before after found counted all is = subst (λ (f : Option Counted). IfSome f (IsAnswered zone allow_update access ask framed before after)) is all
+pub answered_in_place : (zone : Contents) (allow_update : Bool) (access : Access) (ask : Ask) (found : Option Request) (request : Request) (question : Question) (framed : Bool) (before after : List ℕ)
+    → (counts counted : List (List ℕ)) → IfSome found (IsAsked zone access ask question) → found ≡ Some request
+    → IsAnsweredBy zone allow_update request.protocol (record { request = request; case = Query question }) framed before after counts counted
+    → IsAnswered zone allow_update access ask framed before after counts counted
+answered_in_place zone allow_update access ask found request question framed before after counts counted all is a =
+    let asks : IsAsked zone access ask question request = subst (λ (f : Option Request). IfSome f (IsAsked zone access ask question)) is all in
+    let d : Decision = record { request = request; case = Query question } in
+    record {
+      bytes = a.bytes;
+      asked = asked_of d;
+      replied = a.replied;
+      made = record {
+        decision = d;
+        decided = asks.decided;
+        is = subst (λ (p : Protocol). IsOutcome zone allow_update p d (idle_outcome (asked_of d) a.replied a.bytes)) asks.protocol a.is;
+        passing = tt;
+      };
+      short = a.short;
+      sent = a.sent;
+      counted = a.counted;
+    }

@@ -8,7 +8,6 @@ use Rattle.dns_counts.specs.Counters.{recorded}
 use Rattle.dns_book.specs.declared.ask.Ask.{Ask}
 use Rattle.dns_book.specs.declared.ask.Settled.{Settled}
 use Rattle.dns_book.specs.declared.ask.SettledInto.{SettledInto}
-use Rattle.dns_book.specs.declared.in_place.Counted.{Counted}
 use Rattle.dns_book.specs.declared.outcome.Outcome.{Outcome}
 use Rattle.dns_book.specs.Access.{Access}
 use Rattle.dns_book.specs.Cases.{Decides}
@@ -80,11 +79,12 @@ is_replied P framed before after into i owed = some_reply i.settled.reply (sym (
 
 module _ {K : Type 0} (rows : K → Option (List Row)) (faults : K → ℕ) (left : K → List Row → Type 0) (access : Access) (before : SeenOf K) (ask : Ask) (framed : Bool) (had has : List ℕ) (into : SettledInto) where
   -- a query that was answered in a buffer, and counted
-  pub into_in_place : (counted : Counted) (after : SeenOf K) → IsKept rows before → IsKept rows after → IsAnswered before.zone before.allow_update access ask framed had has counted
-      → after ≡ record before { counts = recorded counted.asked counted.replied before.counts } → into ≡ record { is_owed = true; length = before.row_count; receipt = None }
+  pub into_in_place : (counted : List (List ℕ)) (after : SeenOf K) → IsKept rows before → IsKept rows after → IsAnswered before.zone before.allow_update access ask framed had has before.counts counted
+      → after ≡ record before { counts = counted } → into ≡ record { is_owed = true; length = before.row_count; receipt = None }
       → SettlesInto (λ s. SettlesLeaving rows faults left access before ask s after) framed had has into
-  into_in_place counted after stood kept a counts told =
-      let outcome : Outcome = idle_outcome counted a.bytes in
+  into_in_place counted after stood kept a same told =
+      let outcome : Outcome = idle_outcome a.asked a.replied a.bytes in
+      let counts : after ≡ record before { counts = recorded a.asked a.replied before.counts } = same ∙ ap (λ (cs : List (List ℕ)). record before { counts = cs }) a.counted in
       let settled : Settled = record { reply = Some a.bytes; length = before.row_count; receipt = None } in
       let done : CarriesOut rows faults before ask outcome settled after = CarriesOut-none rows faults before ask outcome settled after refl counts refl in
       let leaves : LeavesBy rows left before ask (batch_in before.zone (updates_in outcome.change)) settled.receipt after =

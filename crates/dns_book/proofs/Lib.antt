@@ -10,7 +10,6 @@ pub mod Deciding
 pub mod Replying
 pub mod FirstBits
 pub mod Fronts
-pub mod KindsTaken
 pub mod InPlace
 pub mod IntoBuffer
 pub mod ReadRows

@@ -3,8 +3,10 @@ use Rattle.std.specs.Prelude.{◌≡◌, ℕ, ◌≤◌, List, [], ◌++◌, len
 use Rattle.std.specs.List.{AllByRecursion}
 use Rattle.dns_io.specs.declared.peer.Protocol.{Protocol}
 use Rattle.dns_wire.specs.declared.record.Record.{Record}
+use Rattle.dns_wire.specs.declared.question.Question.{Question}
 use Rattle.dns_wire.specs.declared.reply.Reply.{Reply}
 use Rattle.dns_wire.specs.Written.{Written, sent_as}
+use Rattle.dns_name.specs.Name.{is_at_or_below}
 use Rattle.dns_keeper.specs.declared.row.Row.{Row}
 use Rattle.dns_keeper.specs.declared.keeper.KeepFault.{KeepFault}
 use Rattle.dns_keeper.specs.declared.keeper.KeepFault.TheVariants as keep
@@ -13,6 +15,7 @@ use Rattle.dns_wire.specs.ReadBack.{ReadsBack}
 use Rattle.dns_update.specs.declared.verdict.Verdict.TheVariants.{Passes}
 use Rattle.dns_update.specs.Verdict.{prescan}
 use Rattle.dns_update.specs.Change.{batch_of}
+use Rattle.dns_counts.specs.declared.asked.Asked.{Asked}
 use Rattle.dns_counts.specs.declared.asked.Replied.{Replied}
 use Rattle.dns_counts.specs.Counters.{recorded}
 use Rattle.dns_book.specs.declared.ask.Ask.{Ask}
@@ -22,7 +25,8 @@ use Rattle.dns_book.specs.declared.decision.Decision.{Decision}
 use Rattle.dns_book.specs.declared.outcome.ReadyReply.{ReadyReply}
 use Rattle.dns_book.specs.declared.outcome.Change.{Change}
 use Rattle.dns_book.specs.declared.outcome.Outcome.{Outcome}
-use Rattle.dns_book.specs.declared.in_place.Counted.{Counted}
+use Rattle.dns_book.specs.declared.decision.Request.{Request}
+use Rattle.dns_book.specs.declared.decision.Case.TheVariants.{Query}
 use Rattle.dns_book.specs.Access.{Access}
 use Rattle.dns_book.specs.Cases.{Decides}
 use Rattle.dns_book.specs.Owed.{limit_of, reply_of, case_batch}
@@ -84,29 +88,42 @@ ComesTo zone allow_update access ask None = Decides zone access ask None
 ComesTo zone allow_update access ask (Some outcome) = IsMade zone allow_update access ask outcome
 
 -- what a message comes to that changes nothing, of which these bytes are the reply
-abbrev pub idle_outcome : Counted → List ℕ → Outcome
-idle_outcome counted bytes = record { asked = counted.asked; reply = record { replied = counted.replied; bytes = bytes }; change = None }
+abbrev pub idle_outcome : Asked → Replied → List ℕ → Outcome
+idle_outcome asked replied bytes = record { asked = asked; reply = record { replied = replied; bytes = bytes }; change = None }
 
--- a reply was added to what a buffer had, and this is told of it
-pub record IsPut (protocol : Protocol) (reply : Reply) (framed : Bool) (before after : List ℕ) (replied : Replied) : Type 0 where
+-- a message is a query for a name of this zone, from a source that is let in
+pub record IsAsked (zone : Contents) (access : Access) (ask : Ask) (question : Question) (request : Request) : Type 0 where
+  pub decided : Decides zone access ask (Some (record { request = request; case = Query question }))
+  pub protocol : request.protocol ≡ ask.protocol
+  pub own : is_at_or_below question.name zone.origin ≡ true
+
+-- a reply was added to what a buffer had, and counted with what was told of its message
+pub record IsPut (protocol : Protocol) (asked : Asked) (reply : Reply) (framed : Bool) (before after : List ℕ) (old new : List (List ℕ)) : Type 0 where
   pub bytes : List ℕ
+  pub replied : Replied
   pub ready : IsReady protocol reply (record { replied = replied; bytes = bytes })
   pub short : length bytes ≤ 65535
   pub sent : after ≡ before ++ sent_as framed bytes
+  pub counted : new ≡ recorded asked replied old
 
--- a message of which this was decided was answered at the end of a buffer
-pub record IsAnsweredBy (zone : Contents) (allow_update : Bool) (protocol : Protocol) (d : Decision) (framed : Bool) (before after : List ℕ) (counted : Counted) : Type 0 where
+-- a message of which this was decided was answered at the end of a buffer, and counted
+pub record IsAnsweredBy (zone : Contents) (allow_update : Bool) (protocol : Protocol) (d : Decision) (framed : Bool) (before after : List ℕ) (old new : List (List ℕ)) : Type 0 where
   pub bytes : List ℕ
-  pub is : IsOutcome zone allow_update protocol d (idle_outcome counted bytes)
+  pub replied : Replied
+  pub is : IsOutcome zone allow_update protocol d (idle_outcome (asked_of d) replied bytes)
   pub short : length bytes ≤ 65535
   pub sent : after ≡ before ++ sent_as framed bytes
+  pub counted : new ≡ recorded (asked_of d) replied old
 
--- a message was answered at the end of a buffer, and changes nothing
-pub record IsAnswered (zone : Contents) (allow_update : Bool) (access : Access) (ask : Ask) (framed : Bool) (before after : List ℕ) (counted : Counted) : Type 0 where
+-- a message was answered at the end of a buffer, and counted, and changes nothing else
+pub record IsAnswered (zone : Contents) (allow_update : Bool) (access : Access) (ask : Ask) (framed : Bool) (before after : List ℕ) (old new : List (List ℕ)) : Type 0 where
   pub bytes : List ℕ
-  pub made : IsMade zone allow_update access ask (idle_outcome counted bytes)
+  pub asked : Asked
+  pub replied : Replied
+  pub made : IsMade zone allow_update access ask (idle_outcome asked replied bytes)
   pub short : length bytes ≤ 65535
   pub sent : after ≡ before ++ sent_as framed bytes
+  pub counted : new ≡ recorded asked replied old
 
 -- the reply that is given, where the journal failed or not
 abbrev pub given_of : Outcome → Option Change → Bool → ReadyReply

@@ -8,7 +8,7 @@ ghost use Rattle.dns_book.specs.Crash.{SettlesLeaving, LeavesUnsettled, LeavesOn
 
 use crate::access::AccessControl;
 use crate::ask::{Ask, Settled, SettledInto};
-use crate::in_place::answer_query;
+use crate::in_place::{answer_query, query_in_place};
 use crate::outcome::{outcome_for, reply_room};
 use dns_counts::Counts;
 use dns_io::OutOfMemory;
@@ -81,10 +81,12 @@ impl<K: Keeper> Book<K> {
         ensures left_on { LeavesOn K.rows K.may_leave self.old → LeavesOn K.rows K.may_leave self.new }
     {
         let (alloc, zone, question) = (self.alloc, &self.zone, &mut self.question);
-        match answer_query(alloc, zone, access, ask, question, out, is_framed)? {
-            Some(counted) => Ok(self.count(&counted)),
-            None => self.settle_whole(access, ask, out, is_framed),
-        }
+        let Some(request) = query_in_place(zone, access, ask, question)? else {
+            return self.settle_whole(access, ask, out, is_framed);
+        };
+        let counts = &mut self.counts;
+        answer_query(alloc, zone, &request, question, counts, out, is_framed)?;
+        Ok(self.told(true))
     }
 
     /// Settles a message that is read whole. Once there is room for its reply, nothing but the keeper can fail.
@@ -103,7 +105,7 @@ impl<K: Keeper> Book<K> {
         ensures left_on { LeavesOn K.rows K.may_leave self.old → LeavesOn K.rows K.may_leave self.new }
     {
         match outcome_for(self.alloc, &self.zone, self.allow_update, access, ask)? {
-            None => Ok(self.unanswered()),
+            None => Ok(self.told(false)),
             Some(outcome) => {
                 out.reserve(reply_room(&outcome))?;
                 let settled = self.carry_out(ask, outcome)?;

@@ -1,13 +1,13 @@
 //! What the counters are told of a message and its reply.
 
 ghost use Rattle.std.specs.Prelude.{◌≡◌, ◌++◌, length, replicate, IsTrue, IfOk, OnOk};
-ghost use Rattle.dns_wire.specs.Given.{in_parts, kinds};
+ghost use Rattle.dns_wire.specs.Given.{kinds};
 ghost use Rattle.dns_book.specs.Counted.{counted_question, asked_of, kinds_of, counts_of_zone};
 
 use crate::decision::{Case, Decision};
 use dns_counts::{Asked, Counts, Pairs, Replied};
 use dns_io::OutOfMemory;
-use dns_wire::{Appended, LentRecords, LentReply, Record, Reply, WrittenReply};
+use dns_wire::{Record, Reply, WrittenReply};
 use dns_zone::Zone;
 use std::alloc::Global;
 
@@ -50,41 +50,6 @@ pub(crate) fn replied_of(
         flags: written.flags,
         answers: kinds_of(alloc, reply.answers.as_slice(), written.answers)?,
     })
-}
-
-/// What is told of a reply that was written from what the zone lends.
-pub(crate) fn replied_of_lent(
-    alloc: Global,
-    reply: &LentReply<'_>,
-    appended: &Appended,
-) -> Result<Replied, OutOfMemory>
-    ensures { IfOk result (λ told. told ≡ record {
-      code = reply.now.code;
-      flags = appended.now.flags;
-      answers = kinds_of appended.now.answers reply.now.answers;
-    }) }
-{
-    Ok(Replied {
-        code: reply.code,
-        flags: appended.flags,
-        answers: kinds_in(alloc, reply.answers, appended.answers)?,
-    })
-}
-
-/// The type and class of each of the first `count` records of parts.
-fn kinds_in(alloc: Global, parts: &[LentRecords<'_>], count: usize) -> Result<Pairs, OutOfMemory>
-    ensures { IfOk result (λ pairs. pairs ≡ kinds_of count (in_parts parts.now)) }
-{
-    if let [part] = parts {
-        return kinds_of(alloc, part.as_kept(), count);
-    }
-    let mut pairs = Vec::new(alloc);
-    let mut left = count;
-    for part in parts {
-        add_kinds(part.as_kept(), left, &mut pairs)?;
-        left = left.saturating_sub(part.len());
-    }
-    Ok(Pairs::from_vec(pairs))
 }
 
 /// The type and class of each of the first `count` records. Where all have the same, as in a set, that takes no memory.

@@ -1,18 +1,18 @@
 //! The short way of a query: it is looked at and not built, and its reply is written from what the zone lends (RFC 1034 4.3.2).
 
-ghost use Rattle.std.specs.Prelude.{◌≡◌, Bool, true, IfOk, IfSome, IfNone, ◌≤◌};
+ghost use Rattle.std.specs.Prelude.{◌≡◌, Bool, true, IfOk, IfSome, OnOk, OnErr, ◌≤◌};
 ghost use Rattle.dns_name.specs.Name.{is_at_or_below};
 ghost use Rattle.dns_book.specs.declared.decision.Case.TheVariants.{Query as Asks};
+ghost use Rattle.dns_book.specs.Counted.{asked_of};
 ghost use Rattle.dns_book.specs.Owed.{HasRoom, looked_reply};
-ghost use Rattle.dns_book.specs.Outcome.{IsAnswered, IsAnsweredBy, IsPut};
+ghost use Rattle.dns_book.specs.Outcome.{IsAsked, IsAnsweredBy, IsPut};
 
 use crate::access::AccessControl;
 use crate::ask::{Ask, sanitize_src_address};
-use crate::counted::replied_of_lent;
 use crate::decision::{Request, is_foreign, is_newer};
 use crate::owed::{edns_for, id_for, limit_of};
-use dns_counts::{Asked, Replied};
-use dns_io::{OutOfMemory, Protocol};
+use dns_counts::{Counts, LentReplied};
+use dns_io::OutOfMemory;
 use dns_name::Name;
 use dns_query::read_query;
 use dns_wire::{LentReply, Question};
@@ -28,27 +28,15 @@ pub(crate) fn no_question(alloc: Global) -> Question {
     }
 }
 
-/// What the counters are told of a query that was answered.
-#[derive(Drop)]
-pub(crate) struct Counted {
-    pub(crate) asked: Asked,
-    pub(crate) replied: Replied,
-}
-
-/// Answers a query of plain form which the zone is looked up for, from a source that is let in, at the end of a buffer: no memory is
-/// taken but for the reply. None says nothing, and leaves the buffer: the message has to be read whole. Where memory runs out, part of
-/// the reply may be written.
-pub(crate) fn answer_query(
-    alloc: Global,
+/// Looks at a query of plain form which the zone is looked up for, from a source that is let in, and makes a question the query's. None
+/// says nothing: the message has to be read whole.
+pub(crate) fn query_in_place(
     zone: &Zone,
     access: &AccessControl,
     ask: &Ask,
     question: &mut Question,
-    out: &mut Vec<u8>,
-    is_framed: bool,
-) -> Result<Option<Counted>, OutOfMemory>
-    ensures some { (allow_update : Bool) → IfOk result (λ counted. IfSome counted (IsAnswered zone.now allow_update access.now ask.now is_framed out.old.items out.new.items)) }
-    ensures none { IfOk result (λ counted. IfNone counted (out.new.items ≡ out.old.items)) }
+) -> Result<Option<Request>, OutOfMemory>
+    ensures { IfOk result (λ found. IfSome found (IsAsked zone.now access.now ask.now question.new)) }
 {
     if sanitize_src_address(&ask.source).is_err() {
         return Ok(None);
@@ -66,84 +54,83 @@ pub(crate) fn answer_query(
     if is_foreign(zone, question) {
         return Ok(None);
     }
-    let request = Request {
+    Ok(Some(Request {
         protocol: ask.protocol,
         header: query.header,
         edns: query.edns,
-    };
-    let counted = answered(alloc, zone, &request, question, out, is_framed)?;
-    Ok(Some(counted))
+    }))
 }
 
-/// Answers a query that the zone is looked up for.
-fn answered(
+/// Answers a query that the zone is looked up for at the end of a buffer, and counts it: no memory is taken but for the reply. Where
+/// memory runs out, part of the reply may be written, and nothing is counted.
+pub(crate) fn answer_query(
     alloc: Global,
     zone: &Zone,
     request: &Request,
     question: &Question,
+    counts: &mut Counts,
     out: &mut Vec<u8>,
     is_framed: bool,
-) -> Result<Counted, OutOfMemory>
+) -> Result<(), OutOfMemory>
     requires { is_at_or_below question.now.name zone.now.origin ≡ true }
-    ensures { (allow_update : Bool) → IfOk result (IsAnsweredBy zone.now allow_update request.now.protocol (record { request = request.now; case = Asks question.now }) is_framed out.old.items out.new.items) }
+    ensures ok { (allow_update : Bool) → OnOk result (IsAnsweredBy zone.now allow_update request.now.protocol (record { request = request.now; case = Asks question.now }) is_framed out.old.items out.new.items counts.old counts.new) }
+    ensures err { OnErr result (counts.new ≡ counts.old) }
 {
     let answer = zone.answer(alloc, question)?;
-    let replied = put_answer(alloc, request, question, answer, out, is_framed)?;
-    Ok(Counted {
-        asked: Asked {
-            protocol: request.protocol,
-            header: request.header,
-            question: Some((question.qtype, question.qclass)),
-        },
-        replied,
-    })
+    put_answer(request, question, answer, counts, out, is_framed)
 }
 
-/// Writes the reply of what the zone was looked up for.
+/// Writes the reply of what the zone was looked up for, and counts it.
 fn put_answer(
-    alloc: Global,
     request: &Request,
     question: &Question,
     answer: Answer<'_>,
+    counts: &mut Counts,
     out: &mut Vec<u8>,
     is_framed: bool,
-) -> Result<Replied, OutOfMemory>
+) -> Result<(), OutOfMemory>
     requires { answer.code ≤ 3 }
-    ensures { IfOk result (IsPut request.now.protocol (looked_reply request.now question.now
-        (record { code = answer.entry.code; aa = answer.entry.aa; answers = answer.entry.answers; authority = answer.entry.authority })) is_framed out.old.items out.new.items) }
+    ensures ok { OnOk result (IsPut request.now.protocol (asked_of (record { request = request.now; case = Asks question.now })) (looked_reply request.now question.now
+        (record { code = answer.entry.code; aa = answer.entry.aa; answers = answer.entry.answers; authority = answer.entry.authority })) is_framed out.old.items out.new.items counts.old counts.new) }
+    ensures err { OnErr result (counts.new ≡ counts.old) }
 {
-    let Answer {
-        code,
-        aa,
-        answers,
-        authority,
-    } = answer;
+    let (code, authority) = (answer.code, answer.authority);
     let reply = LentReply {
         id: id_for(request.protocol, request.header.id),
         opcode: request.header.opcode,
-        aa,
+        aa: answer.aa,
         rd: request.header.rd,
         cd: request.header.cd,
         code,
         question,
-        answers: answers.as_slice(),
+        answers: answer.answers.as_slice(),
         authority,
         edns: edns_for(code, request.edns),
     };
-    put_lent(alloc, request.protocol, &reply, out, is_framed)
+    put_lent(request, question, &reply, counts, out, is_framed)
 }
 
-/// Writes a reply from what the zone lends.
+/// Writes a reply from what the zone lends, and counts it.
 fn put_lent(
-    alloc: Global,
-    protocol: Protocol,
+    request: &Request,
+    question: &Question,
     reply: &LentReply<'_>,
+    counts: &mut Counts,
     out: &mut Vec<u8>,
     is_framed: bool,
-) -> Result<Replied, OutOfMemory>
+) -> Result<(), OutOfMemory>
     requires { HasRoom reply.now }
-    ensures { IfOk result (IsPut protocol reply.now is_framed out.old.items out.new.items) }
+    ensures ok { OnOk result (IsPut request.now.protocol (asked_of (record { request = request.now; case = Asks question.now })) reply.now is_framed out.old.items out.new.items counts.old counts.new) }
+    ensures err { OnErr result (counts.new ≡ counts.old) }
 {
-    let appended = reply.append(out, limit_of(protocol, reply.edns), is_framed)?;
-    replied_of_lent(alloc, reply, &appended)
+    let appended = reply.append(out, limit_of(request.protocol, reply.edns), is_framed)?;
+    let replied = LentReplied {
+        code: reply.code,
+        flags: appended.flags,
+        parts: reply.answers,
+        written: appended.answers,
+    };
+    let asked = (question.qtype, question.qclass);
+    counts.record_lent(request.protocol, &request.header, asked, &replied);
+    Ok(())
 }

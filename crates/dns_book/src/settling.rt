@@ -9,7 +9,6 @@ ghost use Rattle.dns_update.specs.Change.{batch_of};
 
 use crate::ask::{Ask, Receipt, Settled, SettledInto};
 use crate::book::Book;
-use crate::in_place::Counted;
 use crate::outcome::{Change, Outcome, ReadyReply};
 use dns_counts::{Asked, Counts};
 use dns_io::OutOfMemory;
@@ -100,26 +99,12 @@ impl<K: Keeper> Book<K> {
         }
     }
 
-    /// Counts a query and its reply, which stands in a buffer.
-    pub(crate) fn count(&mut self, counted: &Counted) -> SettledInto
-        ensures book { self.new ≡ record self.old { counts = recorded counted.now.asked counted.now.replied self.old.counts } }
-        ensures kept { IsKept K.rows self.new }
-        ensures told { result ≡ record { is_owed = true; length = self.old.row_count; receipt = None } }
-    {
-        self.counts.record(&counted.asked, &counted.replied);
-        SettledInto {
-            is_owed: true,
-            length: self.row_count,
-            receipt: None,
-        }
-    }
-
-    /// What settling a message gives that is owed no reply.
-    pub(crate) fn unanswered(&self) -> SettledInto
-        ensures { result ≡ record { is_owed = false; length = self.now.row_count; receipt = None } }
+    /// What settling a message gives that changed nothing of the journal.
+    pub(crate) fn told(&self, is_owed: bool) -> SettledInto
+        ensures { result ≡ record { is_owed = is_owed; length = self.now.row_count; receipt = None } }
     {
         SettledInto {
-            is_owed: false,
+            is_owed,
             length: self.row_count,
             receipt: None,
         }

@@ -19,8 +19,8 @@ returns-in_err-settled-in-Some-clause-left_unsettled g c =
 pub returns-in-None-clause-left : goal.returns-in-None-clause-left
 returns-in-None-clause-left g c =
     let decided = subst (λ (b : SeenOf g.row.K.Denot). Decides b.zone c.args.access.now c.args.ask.now None) c.self.view_is (silent_at _ _ _ _ _ c.in_ok-outcome_for.ensures c.in-None.is) in
-    into_silent g.K.Keeper.rows g.K.Keeper.faults g.K.Keeper.may_leave c.args.access.now c.args.self.now c.args.ask.now c.args.is_framed c.args.out.now.items c.args.out.now.items c.unanswered.result
-    (subst (IsKept g.K.Keeper.rows) c.self.view_is c.self.invariant) decided refl c.unanswered.ensures
+    into_silent g.K.Keeper.rows g.K.Keeper.faults g.K.Keeper.may_leave c.args.access.now c.args.self.now c.args.ask.now c.args.is_framed c.args.out.now.items c.args.out.now.items c.told.result
+    (subst (IsKept g.K.Keeper.rows) c.self.view_is c.self.invariant) decided refl c.told.ensures
 
 pub returns-in_ok-settled-in-Some-clause-left : goal.returns-in_ok-settled-in-Some-clause-left
 returns-in_ok-settled-in-Some-clause-left g c =
