@@ -2,9 +2,11 @@
 use Rattle.std.specs.Prelude.{List, [], ◌∷◌}
 use Rattle.dns_wire.specs.declared.record.Record.{Record}
 use Rattle.dns_zone.specs.declared.answer.Held.{Held}
-use Rattle.dns_zone.specs.declared.answer.Held.TheVariants.{One, Several}
+use Rattle.dns_zone.specs.declared.answer.Held.TheVariants.{None, One, Two, Several}
 
--- one part alone, or several
+-- none, one alone, two, or however many
 abbrev pub parts_of : Held → List (List Record)
+parts_of None = []
 parts_of (One part) = part ∷ []
+parts_of (Two two) = two.values
 parts_of (Several parts) = parts.items

@@ -23,53 +23,42 @@ pub struct Answer<'a> {
 }
 
 impl<'a> Answer<'a> {
-    /// What was found, with no authority.
-    pub(crate) fn found(answers: Parts<'a>) -> Answer<'a>
+    /// NoError and no records. Takes no memory.
+    pub fn none() -> Answer<'a>
         ensures code { result.code ≡ 0 }
         ensures aa { result.aa ≡ true }
-        ensures answers { result.answers ≡ answers.entry }
+        ensures answers { result.answers ≡ [] }
         ensures authority { result.authority ≡ [] }
     {
         Answer {
             code: NO_ERROR,
             aa: true,
-            answers,
+            answers: Parts::none(),
             authority: LentRecords::none(),
         }
     }
 
-    /// The NS records of a cut, behind aliases if there are any.
-    pub(crate) fn referral(aa: bool, answers: Parts<'a>, ns: LentRecords<'a>) -> Answer<'a>
-        ensures code { result.code ≡ 0 }
-        ensures aa { result.aa ≡ aa }
-        ensures answers { result.answers ≡ answers.entry }
-        ensures authority { result.authority ≡ ns.entry }
+    /// Gives each field its value.
+    pub(crate) fn set(
+        &mut self,
+        code: u16,
+        aa: bool,
+        answers: Parts<'a>,
+        authority: LentRecords<'a>,
+    )
+        ensures code { self.new.code ≡ code }
+        ensures aa { self.new.aa ≡ aa }
+        ensures answers { self.new.answers ≡ answers.entry }
+        ensures authority { self.new.authority ≡ authority.entry }
     {
-        Answer {
-            code: NO_ERROR,
-            aa,
-            answers,
-            authority: ns,
-        }
-    }
-
-    /// The SOA where something is not there, behind aliases if there are any.
-    pub(crate) fn negative(code: u16, answers: Parts<'a>, soa: LentRecords<'a>) -> Answer<'a>
-        ensures code { result.code ≡ code }
-        ensures aa { result.aa ≡ true }
-        ensures answers { result.answers ≡ answers.entry }
-        ensures authority { result.authority ≡ soa.entry }
-    {
-        Answer {
-            code,
-            aa: true,
-            answers,
-            authority: soa,
-        }
+        self.code = code;
+        self.aa = aa;
+        self.answers = answers;
+        self.authority = authority;
     }
 }
 
-/// Lent records of several names or types, in order. One part takes no memory.
+/// Lent records of several names or types, in order. Up to two parts take no memory.
 #[derive(Drop)]
 pub struct Parts<'a> {
     held: Held<'a>,
@@ -78,10 +67,34 @@ pub struct Parts<'a> {
 /// How parts are held.
 #[derive(Drop)]
 enum Held<'a> {
+    /// No part.
+    None,
     /// One part alone.
     One(LentRecords<'a>),
-    /// Parts, where there is not one alone.
+    /// Two parts.
+    Two(Row<LentRecords<'a>, 2>),
+    /// However many parts.
     Several(Vec<LentRecords<'a>>),
+}
+
+/// So many values in a row, in a struct of their own.
+#[derive(Drop)]
+struct Row<T, const N: usize> {
+    values: [T; N],
+}
+
+impl<T, const N: usize> Row<T, N> {
+    fn new(values: [T; N]) -> Row<T, N>
+        ensures { result.values ≡ values }
+    {
+        Row { values }
+    }
+
+    fn as_slice(&self) -> &[T]
+        ensures { result.now ≡ self.now.values }
+    {
+        &self.values
+    }
 }
 
 impl<'a> Model for Parts<'a> {
@@ -97,12 +110,10 @@ impl<'a> Model for Parts<'a> {
 
 impl<'a> Parts<'a> {
     /// No part. Takes no memory.
-    pub(crate) fn none(alloc: Global) -> Parts<'a>
+    pub(crate) fn none() -> Parts<'a>
         ensures { result ≡ [] }
     {
-        Parts {
-            held: Held::Several(Vec::new(alloc)),
-        }
+        Parts { held: Held::None }
     }
 
     /// One part alone. Takes no memory.
@@ -111,6 +122,15 @@ impl<'a> Parts<'a> {
     {
         Parts {
             held: Held::One(part),
+        }
+    }
+
+    /// Two parts. Takes no memory.
+    pub(crate) fn two(first: LentRecords<'a>, second: LentRecords<'a>) -> Parts<'a>
+        ensures { result ≡ first.entry ++ second.entry }
+    {
+        Parts {
+            held: Held::Two(Row::new([first, second])),
         }
     }
 
@@ -128,7 +148,9 @@ impl<'a> Parts<'a> {
         ensures { in_parts result.now ≡ self.now }
     {
         match &self.held {
+            Held::None => &[],
             Held::One(part) => std::slice::from_ref(part),
+            Held::Two(row) => row.as_slice(),
             Held::Several(parts) => parts.as_slice(),
         }
     }

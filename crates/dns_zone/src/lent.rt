@@ -108,21 +108,27 @@ impl<'a> LentSets<'a> {
         ensures { IfSome result (λ part. part ≡ self.now) }
     {
         match self.sets {
-            [set] => Some(LentRecords::new(set.records().as_slice(), self.asked)),
+            [set] => Some(lent_set(set, self.asked)),
             _ => None,
         }
     }
 
-    /// The records, as parts. One set takes no memory.
+    /// The records, as parts. Up to two sets take no memory.
     pub(crate) fn parts(&self, alloc: Global) -> Result<Parts<'a>, OutOfMemory>
         ensures { IfOk result (λ parts. parts ≡ self.now) }
     {
-        if let Some(part) = self.only() {
-            return Ok(Parts::one(part));
+        match self.sets {
+            [set] => Ok(Parts::one(lent_set(set, self.asked))),
+            [first, second] => {
+                let first = lent_set(first, self.asked);
+                Ok(Parts::two(first, lent_set(second, self.asked)))
+            }
+            _ => {
+                let mut parts = Vec::with_capacity(alloc, self.sets.len())?;
+                self.add_to(&mut parts)?;
+                Ok(Parts::from_vec(parts))
+            }
         }
-        let mut parts = Vec::with_capacity(alloc, self.sets.len())?;
-        self.add_to(&mut parts)?;
-        Ok(Parts::from_vec(parts))
     }
 
     /// Adds the records of each set at the end, as a part.
@@ -131,6 +137,13 @@ impl<'a> LentSets<'a> {
     {
         add_sets(self.sets, self.asked, parts)
     }
+}
+
+/// The records of a set, with their own owner or the name that was asked.
+fn lent_set<'a>(set: &'a RecordSet, asked: Option<&'a Name>) -> LentRecords<'a>
+    ensures { result ≡ map (given (option_map (λ n. fold_of n.now) asked.entry)) set.now.records }
+{
+    LentRecords::new(set.records().as_slice(), asked)
 }
 
 /// Whether sets hold no record.
@@ -154,7 +167,7 @@ fn add_sets<'a>(
     ensures { OnOk result (in_parts parts.new.items ≡ in_parts parts.old.items ++ map (given (option_map (λ n. fold_of n.now) asked.entry)) (in_all sets.now)) }
 {
     for set in sets {
-        parts.push(LentRecords::new(set.records().as_slice(), asked))?;
+        parts.push(lent_set(set, asked))?;
     }
     Ok(())
 }

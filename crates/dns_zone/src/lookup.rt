@@ -9,14 +9,14 @@ ghost use Rattle.dns_zone.specs.Lookup.{negative_soa, target_of, targets, asked_
 
 use crate::answer::{Answer, Parts};
 use crate::lent::{LentRecord, LentSets};
-use crate::look::{Look, look_by, look_of};
+use crate::look::{Look, look_of};
 use crate::zone::Zone;
 use dns_io::OutOfMemory;
 use dns_name::Name;
 use dns_wire::record_type::SOA;
 use dns_wire::response_code::{NO_ERROR, NX_DOMAIN};
 use dns_wire::{LentRecords, Question, Records};
-use dns_zone_map::{ZoneKey, ZoneMap};
+use dns_zone_map::ZoneMap;
 use std::alloc::Global;
 
 /// How many names may be asked along aliases, behind the first.
@@ -51,26 +51,38 @@ impl Zone {
             ≡ lookup_of self.now question.now.name question.now.qtype) }
         ensures code { IfOk result (λ answer. answer.code ≤ 3) }
     {
+        let mut answer = Answer::none();
+        self.answer_into(alloc, question, &mut answer)?;
+        Ok(answer)
+    }
+
+    /// The same into an answer that the caller keeps, whatever it holds. `OutOfMemory` leaves the zone as it is.
+    pub fn answer_into<'a>(
+        &'a self,
+        alloc: Global,
+        question: &'a Question,
+        answer: &mut Answer<'a>,
+    ) -> Result<(), OutOfMemory>
+        requires { is_at_or_below question.now.name self.now.origin ≡ true }
+        ensures is { OnOk result (record { code = answer.new.code; aa = answer.new.aa; answers = answer.new.answers; authority = answer.new.authority }
+            ≡ lookup_of self.now question.now.name question.now.qtype) }
+        ensures code { OnOk result (answer.new.code ≤ 3) }
+    {
         let map = self.map();
-        let name = &question.name;
-        let mut room = [0u8; 255];
-        let key = ZoneKey::new(map.origin(), name, &mut room);
-        match look_by(map, &key, name, question.qtype)? {
-            Look::Found(found) => Ok(Answer::found(found.parts(alloc)?)),
-            Look::Referral(ns) => Ok(Answer::referral(false, Parts::none(alloc), ns)),
-            Look::NoName => {
-                let soa = negative_soa(map);
-                Ok(Answer::negative(NX_DOMAIN, Parts::none(alloc), soa))
+        match look_of(self, &question.name, question.qtype)? {
+            Look::Found(found) => {
+                let parts = found.parts(alloc)?;
+                answer.set(NO_ERROR, true, parts, LentRecords::none());
             }
-            Look::NoData => {
-                let soa = negative_soa(map);
-                Ok(Answer::negative(NO_ERROR, Parts::none(alloc), soa))
-            }
+            Look::Referral(ns) => answer.set(NO_ERROR, false, Parts::none(), ns),
+            Look::NoName => answer.set(NX_DOMAIN, true, Parts::none(), negative_soa(map)),
+            Look::NoData => answer.set(NO_ERROR, true, Parts::none(), negative_soa(map)),
             Look::Alias(one) => {
                 let aliases = Vec::new(alloc);
-                Ok(follow(alloc, MORE_NAMES, self, question, one, aliases)?)
+                follow(alloc, MORE_NAMES, self, question, one, aliases, answer)?
             }
         }
+        Ok(())
     }
 
     /// The answer that `answer` lends, with records of its own.
@@ -97,34 +109,41 @@ fn follow<'a>(
     question: &'a Question,
     last: LentRecord<'a>,
     mut aliases: Vec<LentRecord<'a>>,
-) -> Result<Answer<'a>, OutOfMemory>
-    ensures is { IfOk result (λ answer. record { code = answer.code; answers = answer.answers; authority = answer.authority }
+    answer: &mut Answer<'a>,
+) -> Result<(), OutOfMemory>
+    ensures is { OnOk result (record { code = answer.new.code; answers = answer.new.answers; authority = answer.new.authority }
         ≡ ahead aliases.entry.items (followed more zone.now question.now.qtype (asked_along question.now.name aliases.entry.items) last.entry)) }
-    ensures own { IfOk result (λ answer. answer.aa ≡ true) }
-    ensures code { IfOk result (λ answer. answer.code ≤ 3) }
+    ensures own { OnOk result (answer.new.aa ≡ true) }
+    ensures code { OnOk result (answer.new.code ≤ 3) }
 {
     let first = &question.name;
     match next_look(more, zone, first, question.qtype, &aliases, &last)? {
-        None => Ok(Answer::found(alias_parts(alloc, &aliases, &last)?)),
+        None => {
+            let parts = alias_parts(alloc, &aliases, &last)?;
+            answer.set(NO_ERROR, true, parts, LentRecords::none());
+        }
         Some(Look::Found(found)) => {
-            Ok(Answer::found(parts_before(alloc, &aliases, &last, &found)?))
+            let parts = parts_before(alloc, &aliases, &last, &found)?;
+            answer.set(NO_ERROR, true, parts, LentRecords::none());
         }
         Some(Look::Referral(ns)) => {
-            Ok(Answer::referral(true, alias_parts(alloc, &aliases, &last)?, ns))
+            let parts = alias_parts(alloc, &aliases, &last)?;
+            answer.set(NO_ERROR, true, parts, ns);
         }
         Some(Look::NoName) => {
             let parts = alias_parts(alloc, &aliases, &last)?;
-            Ok(Answer::negative(NX_DOMAIN, parts, negative_soa(zone.map())))
+            answer.set(NX_DOMAIN, true, parts, negative_soa(zone.map()));
         }
         Some(Look::NoData) => {
             let parts = alias_parts(alloc, &aliases, &last)?;
-            Ok(Answer::negative(NO_ERROR, parts, negative_soa(zone.map())))
+            answer.set(NO_ERROR, true, parts, negative_soa(zone.map()));
         }
         Some(Look::Alias(next)) => {
             aliases.push(last)?;
-            Ok(follow(alloc, more - 1, zone, question, next, aliases)?)
+            follow(alloc, more - 1, zone, question, next, aliases, answer)?;
         }
     }
+    Ok(())
 }
 
 /// Aliases, each as a part. One alone takes no memory.
@@ -150,6 +169,11 @@ fn parts_before<'a>(
 ) -> Result<Parts<'a>, OutOfMemory>
     ensures { IfOk result (λ parts. parts ≡ (aliases.now ++ last.now ∷ []) ++ found.now) }
 {
+    if aliases.is_empty() {
+        if let Some(part) = found.only() {
+            return Ok(Parts::two(last.alone(), part));
+        }
+    }
     let mut parts = each_alias(alloc, aliases, last)?;
     found.add_to(&mut parts)?;
     Ok(Parts::from_vec(parts))
