@@ -70,10 +70,7 @@ impl Zone {
     {
         let map = self.map();
         match look_of(self, &question.name, question.qtype)? {
-            Look::Found(found) => {
-                let parts = found.parts(alloc)?;
-                answer.set(NO_ERROR, true, parts, LentRecords::none());
-            }
+            Look::Found(found) => put_found(alloc, &found, answer)?,
             Look::Referral(ns) => answer.set(NO_ERROR, false, Parts::none(), ns),
             Look::NoName => answer.set(NX_DOMAIN, true, Parts::none(), negative_soa(map)),
             Look::NoData => answer.set(NO_ERROR, true, Parts::none(), negative_soa(map)),
@@ -101,6 +98,43 @@ impl Zone {
     }
 }
 
+/// The answer where records are found. Those of one set take no memory.
+fn put_found<'a>(
+    alloc: Global,
+    found: &LentSets<'a>,
+    answer: &mut Answer<'a>,
+) -> Result<(), OutOfMemory>
+    ensures code { OnOk result (answer.new.code ≡ 0) }
+    ensures aa { OnOk result (answer.new.aa ≡ true) }
+    ensures answers { OnOk result (answer.new.answers ≡ found.now) }
+    ensures authority { OnOk result (answer.new.authority ≡ []) }
+{
+    match found.only() {
+        Some(part) => {
+            answer.set(NO_ERROR, true, Parts::one(part), LentRecords::none());
+            Ok(())
+        }
+        None => put_sets(alloc, found, answer),
+    }
+}
+
+/// The same, however many sets there are.
+#[inline(never)]
+fn put_sets<'a>(
+    alloc: Global,
+    found: &LentSets<'a>,
+    answer: &mut Answer<'a>,
+) -> Result<(), OutOfMemory>
+    ensures code { OnOk result (answer.new.code ≡ 0) }
+    ensures aa { OnOk result (answer.new.aa ≡ true) }
+    ensures answers { OnOk result (answer.new.answers ≡ found.now) }
+    ensures authority { OnOk result (answer.new.authority ≡ []) }
+{
+    let parts = found.parts(alloc)?;
+    answer.set(NO_ERROR, true, parts, LentRecords::none());
+    Ok(())
+}
+
 /// The answer behind aliases, of which the last may be followed to `more` further names. One alias takes no memory of its own.
 fn follow<'a>(
     alloc: Global,
@@ -118,31 +152,92 @@ fn follow<'a>(
 {
     let first = &question.name;
     match next_look(more, zone, first, question.qtype, &aliases, &last)? {
-        None => {
-            let parts = alias_parts(alloc, &aliases, &last)?;
-            answer.set(NO_ERROR, true, parts, LentRecords::none());
-        }
-        Some(Look::Found(found)) => {
-            let parts = parts_before(alloc, &aliases, &last, &found)?;
-            answer.set(NO_ERROR, true, parts, LentRecords::none());
-        }
-        Some(Look::Referral(ns)) => {
-            let parts = alias_parts(alloc, &aliases, &last)?;
-            answer.set(NO_ERROR, true, parts, ns);
-        }
+        None => put_end(
+            alloc,
+            &aliases,
+            &last,
+            NO_ERROR,
+            LentRecords::none(),
+            answer,
+        ),
+        Some(Look::Found(found)) => put_found_behind(alloc, &aliases, &last, &found, answer),
+        Some(Look::Referral(ns)) => put_end(alloc, &aliases, &last, NO_ERROR, ns, answer),
         Some(Look::NoName) => {
-            let parts = alias_parts(alloc, &aliases, &last)?;
-            answer.set(NX_DOMAIN, true, parts, negative_soa(zone.map()));
+            let soa = negative_soa(zone.map());
+            put_end(alloc, &aliases, &last, NX_DOMAIN, soa, answer)
         }
         Some(Look::NoData) => {
-            let parts = alias_parts(alloc, &aliases, &last)?;
-            answer.set(NO_ERROR, true, parts, negative_soa(zone.map()));
+            let soa = negative_soa(zone.map());
+            put_end(alloc, &aliases, &last, NO_ERROR, soa, answer)
         }
         Some(Look::Alias(next)) => {
             aliases.push(last)?;
             follow(alloc, more - 1, zone, question, next, aliases, answer)?;
+            Ok(())
         }
     }
+}
+
+/// The answer where nothing is found behind aliases.
+#[inline(never)]
+fn put_end<'a>(
+    alloc: Global,
+    aliases: &[LentRecord<'a>],
+    last: &LentRecord<'a>,
+    code: u16,
+    authority: LentRecords<'a>,
+    answer: &mut Answer<'a>,
+) -> Result<(), OutOfMemory>
+    ensures code { OnOk result (answer.new.code ≡ code) }
+    ensures aa { OnOk result (answer.new.aa ≡ true) }
+    ensures answers { OnOk result (answer.new.answers ≡ aliases.now ++ last.now ∷ []) }
+    ensures authority { OnOk result (answer.new.authority ≡ authority.entry) }
+{
+    let parts = alias_parts(alloc, aliases, last)?;
+    answer.set(code, true, parts, authority);
+    Ok(())
+}
+
+/// The answer where records are found behind aliases. Those of one set behind one alias take no memory.
+fn put_found_behind<'a>(
+    alloc: Global,
+    aliases: &[LentRecord<'a>],
+    last: &LentRecord<'a>,
+    found: &LentSets<'a>,
+    answer: &mut Answer<'a>,
+) -> Result<(), OutOfMemory>
+    ensures code { OnOk result (answer.new.code ≡ 0) }
+    ensures aa { OnOk result (answer.new.aa ≡ true) }
+    ensures answers { OnOk result (answer.new.answers ≡ (aliases.now ++ last.now ∷ []) ++ found.now) }
+    ensures authority { OnOk result (answer.new.authority ≡ []) }
+{
+    if aliases.is_empty() {
+        if let Some(part) = found.only() {
+            let parts = Parts::two(last.alone(), part);
+            answer.set(NO_ERROR, true, parts, LentRecords::none());
+            return Ok(());
+        }
+    }
+    put_many_behind(alloc, aliases, last, found, answer)
+}
+
+/// The same, however many aliases and sets there are.
+#[inline(never)]
+fn put_many_behind<'a>(
+    alloc: Global,
+    aliases: &[LentRecord<'a>],
+    last: &LentRecord<'a>,
+    found: &LentSets<'a>,
+    answer: &mut Answer<'a>,
+) -> Result<(), OutOfMemory>
+    ensures code { OnOk result (answer.new.code ≡ 0) }
+    ensures aa { OnOk result (answer.new.aa ≡ true) }
+    ensures answers { OnOk result (answer.new.answers ≡ (aliases.now ++ last.now ∷ []) ++ found.now) }
+    ensures authority { OnOk result (answer.new.authority ≡ []) }
+{
+    let mut parts = each_alias(alloc, aliases, last)?;
+    found.add_to(&mut parts)?;
+    answer.set(NO_ERROR, true, Parts::from_vec(parts), LentRecords::none());
     Ok(())
 }
 
@@ -158,25 +253,6 @@ fn alias_parts<'a>(
         return Ok(Parts::one(last.alone()));
     }
     Ok(Parts::from_vec(each_alias(alloc, aliases, last)?))
-}
-
-/// Aliases, each as a part, before the records that were found.
-fn parts_before<'a>(
-    alloc: Global,
-    aliases: &[LentRecord<'a>],
-    last: &LentRecord<'a>,
-    found: &LentSets<'a>,
-) -> Result<Parts<'a>, OutOfMemory>
-    ensures { IfOk result (λ parts. parts ≡ (aliases.now ++ last.now ∷ []) ++ found.now) }
-{
-    if aliases.is_empty() {
-        if let Some(part) = found.only() {
-            return Ok(Parts::two(last.alone(), part));
-        }
-    }
-    let mut parts = each_alias(alloc, aliases, last)?;
-    found.add_to(&mut parts)?;
-    Ok(Parts::from_vec(parts))
 }
 
 /// Aliases, each as a part, with room for one part more.

@@ -4,21 +4,21 @@ use Rattle.dns_zone.specs.Lookup.{negative_soa}
 use Rattle.dns_zone.proofs.Aliases.{answer_is}
 use Rattle.dns_zone.proofs.zone.Zone.answer_into.Goals as goal
 
-pub returns-in_ok-parts-in-Found-clause-is : goal.returns-in_ok-parts-in-Found-clause-is
-returns-in_ok-parts-in-Found-clause-is c =
-    let r = c.set.new.self in
-    let is = c.set.ensures in
+pub returns-in_ok-put_found-in-Found-clause-is : goal.returns-in_ok-put_found-in-Found-clause-is
+returns-in_ok-put_found-in-Found-clause-is c =
+    let r = c.put_found.new.answer in
+    let is = c.in_ok-put_found-in-Found.ensures in
     answer_is c.args.self.now c.args.question.now.name c.args.question.now.qtype (Found c.in-Found.found) r.code r.aa r.answers r.authority
     (sym c.in-Found.is ∙ c.in_ok-found.ensures)
-    is.aa (rw (is.code, is.answers, c.in_ok-parts-in-Found.ensures, is.authority, c.none.ensures) refl)
+    is.aa (rw (is.code, is.answers, is.authority) refl)
 
 pub returns-in-Referral-clause-is : goal.returns-in-Referral-clause-is
 returns-in-Referral-clause-is c =
-    let r = c.set-in-Referral.new.self in
-    let is = c.set-in-Referral.ensures in
+    let r = c.set.new.self in
+    let is = c.set.ensures in
     answer_is c.args.self.now c.args.question.now.name c.args.question.now.qtype (Referral c.in-Referral.ns) r.code r.aa r.answers r.authority
     (sym c.in-Referral.is ∙ c.in_ok-found.ensures)
-    is.aa (rw (is.code, is.answers, c.none-in-Referral.ensures, is.authority) refl)
+    is.aa (rw (is.code, is.answers, c.none.ensures, is.authority) refl)
 
 pub returns-in-NoName-clause-is : goal.returns-in-NoName-clause-is
 returns-in-NoName-clause-is c =
