@@ -76,25 +76,26 @@ pub(crate) fn answer_query(
     ensures ok { (allow_update : Bool) → OnOk result (IsAnsweredBy zone.now allow_update request.now.protocol (record { request = request.now; case = Asks question.now }) is_framed out.old.items out.new.items counts.old counts.new) }
     ensures err { OnErr result (counts.new ≡ counts.old) }
 {
-    let answer = zone.answer(alloc, question)?;
-    put_answer(request, question, answer, counts, out, is_framed)
+    let mut answer = Answer::none();
+    zone.answer_into(alloc, question, &mut answer)?;
+    put_answer(request, question, &answer, counts, out, is_framed)
 }
 
 /// Writes the reply of what the zone was looked up for, and counts it.
 fn put_answer(
     request: &Request,
     question: &Question,
-    answer: Answer<'_>,
+    answer: &Answer<'_>,
     counts: &mut Counts,
     out: &mut Vec<u8>,
     is_framed: bool,
 ) -> Result<(), OutOfMemory>
-    requires { answer.code ≤ 3 }
+    requires { answer.now.code ≤ 3 }
     ensures ok { OnOk result (IsPut request.now.protocol (asked_of (record { request = request.now; case = Asks question.now })) (looked_reply request.now question.now
-        (record { code = answer.entry.code; aa = answer.entry.aa; answers = answer.entry.answers; authority = answer.entry.authority })) is_framed out.old.items out.new.items counts.old counts.new) }
+        (record { code = answer.now.code; aa = answer.now.aa; answers = answer.now.answers; authority = answer.now.authority })) is_framed out.old.items out.new.items counts.old counts.new) }
     ensures err { OnErr result (counts.new ≡ counts.old) }
 {
-    let (code, authority) = (answer.code, answer.authority);
+    let code = answer.code;
     let reply = LentReply {
         id: id_for(request.protocol, request.header.id),
         opcode: request.header.opcode,
@@ -104,7 +105,7 @@ fn put_answer(
         code,
         question,
         answers: answer.answers.as_slice(),
-        authority,
+        authority: answer.authority.again(),
         edns: edns_for(code, request.edns),
     };
     put_lent(request, question, &reply, counts, out, is_framed)

@@ -27,8 +27,11 @@ use std::marker::Model;
 /// For about how many names a table of many has one tree.
 const NAMES_A_TREE: usize = 8;
 
-/// Of how many names at most a table has a tree for each.
-const FEW_TREES: usize = 64;
+/// How many names at most are few, for which a table has several trees each: most are then alone in theirs.
+const FEW: usize = 64;
+
+/// How many trees a table of few names has for each.
+const TREES_A_NAME: usize = 8;
 
 /// How many trees a table has at most.
 const MOST_TREES: usize = 1 << 20;
@@ -227,7 +230,7 @@ impl Names {
 fn trees_for(names: usize) -> usize
     ensures { 0 < result }
 {
-    let few = names.min(FEW_TREES);
+    let few = TREES_A_NAME * names.min(FEW);
     let many = names / NAMES_A_TREE;
     (few.max(many) + 1).min(MOST_TREES)
 }
