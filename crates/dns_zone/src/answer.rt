@@ -58,7 +58,7 @@ impl<'a> Answer<'a> {
     }
 }
 
-/// Lent records of several names or types, in order. Up to two parts take no memory.
+/// Lent records of several names or types, in order. Up to three parts take no memory.
 #[derive(Drop)]
 pub struct Parts<'a> {
     held: Held<'a>,
@@ -73,6 +73,8 @@ enum Held<'a> {
     One(LentRecords<'a>),
     /// Two parts.
     Two(Row<LentRecords<'a>, 2>),
+    /// Three parts.
+    Three(Row<LentRecords<'a>, 3>),
     /// However many parts.
     Several(Vec<LentRecords<'a>>),
 }
@@ -134,6 +136,19 @@ impl<'a> Parts<'a> {
         }
     }
 
+    /// Three parts. Takes no memory.
+    pub(crate) fn three(
+        first: LentRecords<'a>,
+        second: LentRecords<'a>,
+        third: LentRecords<'a>,
+    ) -> Parts<'a>
+        ensures { result ≡ first.entry ++ second.entry ++ third.entry }
+    {
+        Parts {
+            held: Held::Three(Row::new([first, second, third])),
+        }
+    }
+
     /// The parts of a vector.
     pub(crate) fn from_vec(parts: Vec<LentRecords<'a>>) -> Parts<'a>
         ensures { result ≡ in_parts parts.entry.items }
@@ -151,6 +166,7 @@ impl<'a> Parts<'a> {
             Held::None => &[],
             Held::One(part) => std::slice::from_ref(part),
             Held::Two(row) => row.as_slice(),
+            Held::Three(row) => row.as_slice(),
             Held::Several(parts) => parts.as_slice(),
         }
     }

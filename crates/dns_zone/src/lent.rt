@@ -113,7 +113,7 @@ impl<'a> LentSets<'a> {
         }
     }
 
-    /// The records, as parts. Up to two sets take no memory.
+    /// The records, as parts. Up to three sets take no memory.
     pub(crate) fn parts(&self, alloc: Global) -> Result<Parts<'a>, OutOfMemory>
         ensures { IfOk result (λ parts. parts ≡ self.now) }
     {
@@ -122,6 +122,11 @@ impl<'a> LentSets<'a> {
             [first, second] => {
                 let first = lent_set(first, self.asked);
                 Ok(Parts::two(first, lent_set(second, self.asked)))
+            }
+            [first, second, third] => {
+                let first = lent_set(first, self.asked);
+                let second = lent_set(second, self.asked);
+                Ok(Parts::three(first, second, lent_set(third, self.asked)))
             }
             _ => {
                 let mut parts = Vec::with_capacity(alloc, self.sets.len())?;
