@@ -175,7 +175,7 @@ pub(crate) fn put_record(out: &mut Vec<u8>, one: &Record) -> Result<(), OutOfMem
 }
 
 /// Writes what stands behind the labels of a record's owner: the zero byte at their end, and all that comes after the owner (RFC 1035 4.1.3).
-/// An address and a name, which most records have, are written without a further look at what data it is.
+/// An IPv4 address is one write with what stands before it.
 #[inline(always)]
 pub(crate) fn put_rest(
     out: &mut Vec<u8>,
@@ -243,7 +243,7 @@ fn put_rest_of_a(
     Ok(())
 }
 
-/// Writes a name.
+/// Writes a name, as [`Name::write`] does, but in place, and where room was made for all that is written.
 #[inline(always)]
 pub(crate) fn put_name(out: &mut Vec<u8>, name: &Name) -> Result<(), OutOfMemory>
     ensures { OnOk result (out.new.items ≡ out.old.items ++ name_bytes name.now) }
