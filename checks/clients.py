@@ -403,23 +403,33 @@ def crowd(server, count):
     idle = set(range(count - 100, count, 2))
     selector = selectors.DefaultSelector()
     streams, answered, ended = [], 0, 0
+
+    def send(wait):
+        """Sends to each connection that was made meanwhile what it is to get; gives the others that there is something of."""
+        others = []
+        for key, events in selector.select(wait):
+            if not events & selectors.EVENT_WRITE:
+                others.append(key)
+                continue
+            if key.data not in idle:
+                key.fileobj.send(message)
+            elif key.data % 4 == 0:
+                key.fileobj.send(message[:1])
+            selector.modify(key.fileobj, selectors.EVENT_READ, key.data)
+        return others
+
     for place in range(count):
         stream = socket.socket()
         stream.setblocking(False)
         stream.connect_ex(("127.0.0.1", server.port))
         streams.append(stream)
         selector.register(stream, selectors.EVENT_WRITE, place)
+        if place % 16 == 15:
+            send(0)  # at once, since the server waits for no more than its limit
     end = time.monotonic() + 4 * BOUND
     while answered + ended < count and time.monotonic() < end:
-        for key, events in selector.select(0.5):
+        for key in send(0.5):
             stream, place = key.fileobj, key.data
-            if events & selectors.EVENT_WRITE:
-                if place not in idle:
-                    stream.send(message)
-                elif place % 4 == 0:
-                    stream.send(message[:1])
-                selector.modify(stream, selectors.EVENT_READ, place)
-                continue
             try:
                 piece = stream.recv(4096)
             except OSError:
