@@ -1,14 +1,14 @@
 -- A query that is looked at and not built: what is decided of it.
-use Rattle.std.proofs.Common.{◌≡◌, ℕ, List, Bool, true, false, not, is_err, Option, Some, None, refl, subst}
-use Rattle.std.specs.Prelude.{◌||◌, IfSome}
+use Rattle.std.proofs.Common.{◌≡◌, ℕ, List, Bool, true, false, not, is_err, Option, Some, None, refl, sym, ap, subst}
+use Rattle.std.specs.Prelude.{◌||◌}
 use Rattle.dns_name.specs.Name.{is_at_or_below}
 use Rattle.dns_io.specs.declared.peer.Protocol.{Protocol}
 use Rattle.dns_wire.specs.declared.header.Header.{Header}
 use Rattle.dns_wire.specs.declared.question.Question.{Question}
+use Rattle.dns_wire.specs.declared.reply.Reply.{Reply}
 use Rattle.dns_wire.specs.Header.{header_of}
-use Rattle.dns_wire.specs.Messages.{MessageAt}
 use Rattle.dns_query.specs.declared.query.Query.{Query as Looked}
-use Rattle.dns_query.specs.Query.{IsPlainQuery, message_of}
+use Rattle.dns_query.specs.Query.{message_of}
 use Rattle.dns_zone_map.specs.Zone.{Contents}
 use Rattle.dns_book.specs.declared.ask.Ask.{Ask}
 use Rattle.dns_book.specs.declared.decision.Request.{Request}
@@ -16,19 +16,12 @@ use Rattle.dns_book.specs.declared.decision.Case.{Case}
 use Rattle.dns_book.specs.declared.decision.Case.TheVariants.{Query}
 use Rattle.dns_book.specs.declared.decision.Decision.{Decision}
 use Rattle.dns_book.specs.declared.outcome.Outcome.{Outcome}
-use Rattle.dns_book.specs.Outcome.{IsOutcome, IsMade, IsAsked, IsAnswered, IsAnsweredBy, ComesTo, idle_outcome}
-use Rattle.dns_book.specs.Access.{Access, lets_in}
+use Rattle.dns_book.specs.Outcome.{IsReady, IsOutcome, IsMade, IsPut, IsAnswered, IsAnsweredBy, ComesTo, idle_outcome}
+use Rattle.dns_book.specs.ReplyCache.{question_in, request_in, looked_for, IsHeard, IsOwn}
+use Rattle.dns_book.specs.Access.{Access}
 use Rattle.dns_book.specs.Sources.{sanitized}
 use Rattle.dns_book.specs.Cases.{is_newer, is_foreign, message_case, request_of, Decides, read}
 use Rattle.dns_book.specs.Counted.{asked_of}
-
--- the question of a query
-abbrev pub question_in : Looked → Question
-question_in q = record { name = q.name; qtype = q.qtype; qclass = q.qclass }
-
--- the request of a query
-abbrev pub request_in_place : Ask → Looked → Request
-request_in_place ask q = record { protocol = ask.protocol; header = q.header; edns = q.edns }
 
 request_found : (ask : Ask) (h : Header) → is_err (sanitized ask.source) ≡ false → header_of ask.bytes ≡ Some h → h.qr ≡ false → request_of ask ≡ Some h
 unfolding request_of
@@ -39,17 +32,13 @@ case_found : (zone : Contents) (q : Looked) → is_newer q.edns ≡ false → q.
 unfolding message_case
 case_found zone q old asks own = rw (old, asks, own) refl
 
--- a query of plain form that the zone is looked up for is decided to be one
-pub decided_in_place : (zone : Contents) (access : Access) (ask : Ask) (m : List ℕ) (found : Option Looked) (q : Looked) → is_err (sanitized ask.source) ≡ false
-    → lets_in access ask.source.ip ≡ true → m ≡ ask.bytes → IfSome found (λ one. MessageAt m (message_of one)) → IfSome found (IsPlainQuery m) → found ≡ Some q
-    → is_newer q.edns ≡ false → is_foreign zone (question_in q) ≡ false
-    → Decides zone access ask (Some (record { request = request_in_place ask q; case = Query (question_in q) }))
-decided_in_place zone access ask m found q safe let_in same at plain is old own =
-    let here : MessageAt ask.bytes (message_of q) = subst (λ (b : List ℕ). MessageAt b (message_of q)) same (subst (λ (f : Option Looked). IfSome f (λ one. MessageAt m (message_of one))) is at) in
-    let form : IsPlainQuery ask.bytes q = subst (λ (b : List ℕ). IsPlainQuery b q) same (subst (λ (f : Option Looked). IfSome f (IsPlainQuery m)) is plain) in
-    subst (λ (c : Case). Decides zone access ask (Some (record { request = request_in_place ask q; case = c })))
-    (case_found zone q old form.form.query own)
-    (read q.header (request_found ask q.header safe form.header form.form.request) let_in (message_of q) here)
+-- a query that was heard, and that the zone is looked up for, is decided to be one
+pub decided_in_place : (zone : Contents) (access : Access) (ask : Ask) (q : Looked) → IsHeard access ask q → is_foreign zone (question_in q) ≡ false
+    → Decides zone access ask (Some (record { request = request_in ask.protocol q; case = Query (question_in q) }))
+decided_in_place zone access ask q heard own =
+    subst (λ (c : Case). Decides zone access ask (Some (record { request = request_in ask.protocol q; case = c })))
+    (case_found zone q heard.known heard.plain.form.query own)
+    (read q.header (request_found ask q.header heard.safe heard.plain.header heard.plain.form.request) heard.let_in (message_of q) heard.here)
 
 or_false : (a b : Bool) → (a || b) ≡ false → (a ≡ false) × (b ≡ false)
 or_false true b e = absurd cc
@@ -77,25 +66,47 @@ pub silent_at : (zone : Contents) (allow_update : Bool) (access : Access) (ask :
     → Decides zone access ask None
 silent_at zone allow_update access ask found comes is = subst (ComesTo zone allow_update access ask) is comes
 
--- a query in place was answered
-pub answered_in_place : (zone : Contents) (allow_update : Bool) (access : Access) (ask : Ask) (found : Option Request) (request : Request) (question : Question) (framed : Bool) (before after : List ℕ)
-    → (counts counted : List (List ℕ)) → IfSome found (IsAsked zone access ask question) → found ≡ Some request
+-- a query that was looked up was answered
+pub answered_in_place : (zone : Contents) (allow_update : Bool) (access : Access) (ask : Ask) (q : Looked) (question : Question) (request : Request) (framed : Bool) (before after : List ℕ)
+    → (counts counted : List (List ℕ)) → IsHeard access ask q → IsOwn zone ask.protocol q question request
     → IsAnsweredBy zone allow_update request.protocol (record { request = request; case = Query question }) framed before after counts counted
     → IsAnswered zone allow_update access ask framed before after counts counted
-answered_in_place zone allow_update access ask found request question framed before after counts counted all is a =
-    let asks : IsAsked zone access ask question request = subst (λ (f : Option Request). IfSome f (IsAsked zone access ask question)) is all in
+answered_in_place zone allow_update access ask q question request framed before after counts counted heard own a =
     let d : Decision = record { request = request; case = Query question } in
+    let foreign : is_foreign zone (question_in q) ≡ false = subst (λ (one : Question). is_foreign zone one ≡ false) own.question own.own in
+    let decided : Decides zone access ask (Some d) =
+    subst (λ (r : Request). Decides zone access ask (Some (record { request = r; case = Query question }))) (sym own.request)
+    (subst (λ (one : Question). Decides zone access ask (Some (record { request = request_in ask.protocol q; case = Query one }))) (sym own.question) (decided_in_place zone access ask q heard foreign))
+    in
     record {
       bytes = a.bytes;
       asked = asked_of d;
       replied = a.replied;
       made = record {
         decision = d;
-        decided = asks.decided;
-        is = subst (λ (p : Protocol). IsOutcome zone allow_update p d (idle_outcome (asked_of d) a.replied a.bytes)) asks.protocol a.is;
+        decided = decided;
+        is = subst (λ (p : Protocol). IsOutcome zone allow_update p d (idle_outcome (asked_of d) a.replied a.bytes)) (ap (λ (r : Request). r.protocol) own.request) a.is;
         passing = tt;
       };
       short = a.short;
       sent = a.sent;
       counted = a.counted;
     }
+
+-- what the zone was looked up for was written at the end of a buffer, and counted
+pub answered_by : (zone : Contents) (allow_update : Bool) (request : Request) (question : Question) (reply : Reply) (framed : Bool) (before after : List ℕ) (counts counted : List (List ℕ)) → reply ≡ looked_for zone request question
+    → IsPut request.protocol (asked_of (record { request = request; case = Query question })) reply framed before after counts counted
+    → IsAnsweredBy zone allow_update request.protocol (record { request = request; case = Query question }) framed before after counts counted
+answered_by zone allow_update request question reply framed before after counts counted is put = record {
+  bytes = put.bytes;
+  replied = put.replied;
+  is = record {
+    asked = refl;
+    batch = refl;
+    reply = subst (λ (r : Reply). IsReady request.protocol r (record { replied = put.replied; bytes = put.bytes })) is put.ready;
+    failed = tt;
+  };
+  short = put.short;
+  sent = put.sent;
+  counted = put.counted;
+}

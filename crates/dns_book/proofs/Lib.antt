@@ -11,5 +11,6 @@ pub mod Replying
 pub mod FirstBits
 pub mod Fronts
 pub mod InPlace
+pub mod Repeating
 pub mod IntoBuffer
 pub mod ReadRows

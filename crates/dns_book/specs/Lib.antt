@@ -9,5 +9,6 @@ pub mod Crash
 pub mod Framed
 pub mod Into
 pub mod Outcome
+pub mod ReplyCache
 pub mod Opening
 pub mod Recovering

@@ -3,10 +3,8 @@ use Rattle.std.specs.Prelude.{◌≡◌, ℕ, ◌≤◌, List, [], ◌++◌, len
 use Rattle.std.specs.List.{AllByRecursion}
 use Rattle.dns_io.specs.declared.peer.Protocol.{Protocol}
 use Rattle.dns_wire.specs.declared.record.Record.{Record}
-use Rattle.dns_wire.specs.declared.question.Question.{Question}
 use Rattle.dns_wire.specs.declared.reply.Reply.{Reply}
 use Rattle.dns_wire.specs.Written.{Written, sent_as}
-use Rattle.dns_name.specs.Name.{is_at_or_below}
 use Rattle.dns_keeper.specs.declared.row.Row.{Row}
 use Rattle.dns_keeper.specs.declared.keeper.KeepFault.{KeepFault}
 use Rattle.dns_keeper.specs.declared.keeper.KeepFault.TheVariants as keep
@@ -25,8 +23,6 @@ use Rattle.dns_book.specs.declared.decision.Decision.{Decision}
 use Rattle.dns_book.specs.declared.outcome.ReadyReply.{ReadyReply}
 use Rattle.dns_book.specs.declared.outcome.Change.{Change}
 use Rattle.dns_book.specs.declared.outcome.Outcome.{Outcome}
-use Rattle.dns_book.specs.declared.decision.Request.{Request}
-use Rattle.dns_book.specs.declared.decision.Case.TheVariants.{Query}
 use Rattle.dns_book.specs.Access.{Access}
 use Rattle.dns_book.specs.Cases.{Decides}
 use Rattle.dns_book.specs.Owed.{limit_of, reply_of, case_batch}
@@ -90,12 +86,6 @@ ComesTo zone allow_update access ask (Some outcome) = IsMade zone allow_update a
 -- what a message comes to that changes nothing, of which these bytes are the reply
 abbrev pub idle_outcome : Asked → Replied → List ℕ → Outcome
 idle_outcome asked replied bytes = record { asked = asked; reply = record { replied = replied; bytes = bytes }; change = None }
-
--- a message is a query for a name of this zone, from a source that is let in
-pub record IsAsked (zone : Contents) (access : Access) (ask : Ask) (question : Question) (request : Request) : Type 0 where
-  pub decided : Decides zone access ask (Some (record { request = request; case = Query question }))
-  pub protocol : request.protocol ≡ ask.protocol
-  pub own : is_at_or_below question.name zone.origin ≡ true
 
 -- a reply was added to what a buffer had, and counted with what was told of its message
 pub record IsPut (protocol : Protocol) (asked : Asked) (reply : Reply) (framed : Bool) (before after : List ℕ) (old new : List (List ℕ)) : Type 0 where

@@ -8,12 +8,11 @@ ghost use Rattle.dns_book.specs.Crash.{SettlesLeaving, LeavesUnsettled, LeavesOn
 
 use crate::access::AccessControl;
 use crate::ask::{Ask, Settled, SettledInto};
-use crate::in_place::{answer_query, query_in_place};
+use crate::in_place::InPlace;
 use crate::outcome::{outcome_for, reply_room};
 use dns_counts::Counts;
 use dns_io::OutOfMemory;
 use dns_keeper::Keeper;
-use dns_wire::Question;
 use dns_zone::Zone;
 use std::alloc::Global;
 use std::marker::Model;
@@ -26,19 +25,20 @@ pub struct Book<K: Keeper> {
     pub(crate) allow_update: bool,
     pub(crate) row_count: u64,
     pub(crate) counts: Counts,
-    /// The question that is looked up: the room of its name is used for one after the other.
-    pub(crate) question: Question,
+    pub(crate) in_place: InPlace,
     pub(crate) alloc: Global,
 }
 
 impl<K: Keeper> Model for Book<K> {
     ghost use Rattle.dns_book.specs.Book.{SeenOf, IsKept};
+    ghost use Rattle.dns_book.specs.ReplyCache.{AreOf};
 
     ghost Value = { SeenOf K };
 
     ghost view = { λ b. record { keeper = b.keeper; zone = b.zone; allow_update = b.allow_update; row_count = b.row_count; counts = b.counts } };
 
-    ghost invariant = { λ b. IsKept K.rows (record { keeper = b.keeper; zone = b.zone; allow_update = b.allow_update; row_count = b.row_count; counts = b.counts }) };
+    ghost invariant = { λ b. IsKept K.rows (record { keeper = b.keeper; zone = b.zone; allow_update = b.allow_update; row_count = b.row_count; counts = b.counts })
+        × AreOf b.zone b.in_place.replies };
 }
 
 impl<K: Keeper> Book<K> {
@@ -80,13 +80,11 @@ impl<K: Keeper> Book<K> {
         ensures left_unsettled { OnErr result (LeavesUnsettled K.rows K.may_leave access.now self.old ask.now self.new) }
         ensures left_on { LeavesOn K.rows K.may_leave self.old → LeavesOn K.rows K.may_leave self.new }
     {
-        let (alloc, zone, question) = (self.alloc, &self.zone, &mut self.question);
-        let Some(request) = query_in_place(zone, access, ask, question)? else {
-            return self.settle_whole(access, ask, out, is_framed);
-        };
-        let counts = &mut self.counts;
-        answer_query(alloc, zone, &request, question, counts, out, is_framed)?;
-        Ok(self.told(true))
+        let (in_place, counts) = (&mut self.in_place, &mut self.counts);
+        if in_place.answer(&self.zone, access, ask, counts, out, is_framed)? {
+            return Ok(self.told(true));
+        }
+        self.settle_whole(access, ask, out, is_framed)
     }
 
     /// Settles a message that is read whole. Once there is room for its reply, nothing but the keeper can fail.
@@ -155,7 +153,7 @@ impl<K: Keeper> Book<K> {
             allow_update: _,
             row_count: _,
             counts: _,
-            question: _,
+            in_place: _,
             alloc: _,
         } = self;
         keeper

@@ -1,102 +1,174 @@
 //! The short way of a query: it is looked at and not built, and its reply is written from what the zone lends (RFC 1034 4.3.2).
 
-ghost use Rattle.std.specs.Prelude.{◌≡◌, Bool, true, IfOk, IfSome, OnOk, OnErr, ◌≤◌};
-ghost use Rattle.dns_name.specs.Name.{is_at_or_below};
+ghost use Rattle.std.specs.Prelude.{◌≡◌, ◌≤◌, Bool, true, false, IfOk, IfSome, IsTrue, OnOk, OnErr};
+ghost use Rattle.dns_wire.specs.Written.{Appends};
+ghost use Rattle.dns_zone_map.specs.Zone.{Contents};
 ghost use Rattle.dns_book.specs.declared.decision.Case.TheVariants.{Query as Asks};
+ghost use Rattle.dns_book.specs.Cases.{is_foreign};
 ghost use Rattle.dns_book.specs.Counted.{asked_of};
-ghost use Rattle.dns_book.specs.Owed.{HasRoom, looked_reply};
-ghost use Rattle.dns_book.specs.Outcome.{IsAsked, IsAnsweredBy, IsPut};
+ghost use Rattle.dns_book.specs.Owed.{HasRoom, limit_of, looked_reply};
+ghost use Rattle.dns_book.specs.Outcome.{IsAnswered, IsAnsweredBy, IsPut};
+ghost use Rattle.dns_book.specs.ReplyCache.{AreOf, IsHeard, IsOwn};
 
 use crate::access::AccessControl;
 use crate::ask::{Ask, sanitize_src_address};
 use crate::decision::{Request, is_foreign, is_newer};
 use crate::owed::{edns_for, id_for, limit_of};
+use crate::reply_cache::{ReplyCache, hash_of};
 use dns_counts::{Counts, LentReplied};
-use dns_io::OutOfMemory;
+use dns_io::{OutOfMemory, Protocol};
 use dns_name::Name;
-use dns_query::read_query;
-use dns_wire::{LentReply, Question};
+use dns_query::{Query, read_query};
+use dns_wire::{Appended, LentReply, Question};
 use dns_zone::{Answer, Zone};
 use std::alloc::Global;
 
-/// A question to be filled, which takes no memory yet.
-pub(crate) fn no_question(alloc: Global) -> Question {
-    Question {
-        name: Name::root(alloc),
-        qtype: 0,
-        qclass: 0,
+/// What queries are answered in place with.
+#[derive(Drop)]
+pub(crate) struct InPlace {
+    /// The question that is looked up: the room of its name is used for one after the other.
+    question: Question,
+    /// The replies to queries that may come again.
+    pub(crate) replies: ReplyCache,
+    alloc: Global,
+}
+
+impl InPlace {
+    /// With no reply that is kept. Takes no memory.
+    pub(crate) fn new(alloc: Global) -> InPlace
+        ensures { (zone : Contents) → AreOf zone result.replies }
+    {
+        InPlace {
+            question: Question {
+                name: Name::root(alloc),
+                qtype: 0,
+                qclass: 0,
+            },
+            replies: ReplyCache::new(alloc),
+            alloc,
+        }
+    }
+
+    /// Forgets the replies that are kept, as the zone may change.
+    pub(crate) fn forget(&mut self)
+        ensures { (zone : Contents) (other : Contents) → AreOf zone self.old.replies → AreOf other self.new.replies }
+    {
+        self.replies.forget();
+    }
+
+    /// Answers a query of plain form which the zone is looked up for, from a source that is let in, at the end of a buffer, and counts it:
+    /// by a reply that is kept, where it came before, and else by a look. `false` says nothing of the message, and nothing was done: it
+    /// has to be read whole. Where memory runs out, part of the reply may be written, and nothing is counted.
+    pub(crate) fn answer(
+        &mut self,
+        zone: &Zone,
+        access: &AccessControl,
+        ask: &Ask,
+        counts: &mut Counts,
+        out: &mut Vec<u8>,
+        is_framed: bool,
+    ) -> Result<bool, OutOfMemory>
+        requires { AreOf zone.now self.old.replies }
+        ensures ok { (allow_update : Bool) → IfOk result (λ is_done. IsTrue is_done → IsAnswered zone.now allow_update access.now ask.now is_framed out.old.items out.new.items counts.old counts.new) }
+        ensures left { IfOk result (λ is_done. is_done ≡ false → (out.new.items ≡ out.old.items) × (counts.new ≡ counts.old)) }
+        ensures err { OnErr result (counts.new ≡ counts.old) }
+        ensures kept { AreOf zone.now self.new.replies }
+    {
+        let Some(query) = plain_query(access, ask) else {
+            return Ok(false);
+        };
+        let hash = hash_of(ask.protocol, &query);
+        self.replies.touch(hash);
+        if let Some(kept) = self.replies.find(hash, ask.protocol, &query) {
+            kept.put(&query.header, counts, out, is_framed)?;
+            return Ok(true);
+        }
+        let Some(request) = own_query(zone, ask.protocol, &query, &mut self.question)? else {
+            return Ok(false);
+        };
+        self.look_up(zone, hash, &request, counts, out, is_framed)?;
+        Ok(true)
+    }
+
+    /// Answers the question, for which the zone is looked up, at the end of a buffer, and counts it; the reply may be kept. Where memory runs
+    /// out, part of the reply may be written, and nothing is counted.
+    fn look_up(
+        &mut self,
+        zone: &Zone,
+        hash: u32,
+        request: &Request,
+        counts: &mut Counts,
+        out: &mut Vec<u8>,
+        is_framed: bool,
+    ) -> Result<(), OutOfMemory>
+        requires own { is_foreign zone.now self.old.question ≡ false }
+        requires kept { AreOf zone.now self.old.replies }
+        ensures ok { (allow_update : Bool) → OnOk result (IsAnsweredBy zone.now allow_update request.now.protocol (record { request = request.now; case = Asks self.old.question }) is_framed out.old.items out.new.items counts.old counts.new) }
+        ensures err { OnErr result (counts.new ≡ counts.old) }
+        ensures kept { AreOf zone.now self.new.replies }
+    {
+        let (alloc, question) = (self.alloc, &self.question);
+        let mut answer = Answer::none();
+        zone.answer_into(alloc, question, &mut answer)?;
+        let reply = lent_reply(request, question, &answer);
+        let appended = put_lent(request, question, &reply, counts, out, is_framed)?;
+        self.replies
+            .learn(hash, zone.len(), request, &reply, &appended, out);
+        Ok(())
     }
 }
 
-/// Looks at a query of plain form which the zone is looked up for, from a source that is let in, and makes a question the query's. None
-/// says nothing: the message has to be read whole.
-pub(crate) fn query_in_place(
-    zone: &Zone,
-    access: &AccessControl,
-    ask: &Ask,
-    question: &mut Question,
-) -> Result<Option<Request>, OutOfMemory>
-    ensures { IfOk result (λ found. IfSome found (IsAsked zone.now access.now ask.now question.new)) }
+/// Looks at a query of plain form, from a source that is let in. None says nothing: the message has to be read whole.
+fn plain_query<'a>(access: &AccessControl, ask: &'a Ask) -> Option<Query<'a>>
+    ensures { IfSome result (IsHeard access.now ask.now) }
 {
     if sanitize_src_address(&ask.source).is_err() {
-        return Ok(None);
+        return None;
     }
     if !access.allow(&ask.source.ip) {
-        return Ok(None);
+        return None;
     }
-    let Some(query) = read_query(ask.bytes.as_slice()) else {
-        return Ok(None);
-    };
+    let query = read_query(ask.bytes.as_slice())?;
     if is_newer(query.edns) {
-        return Ok(None);
+        return None;
     }
+    Some(query)
+}
+
+/// Makes a question that of a query which came so, where the zone is looked up for it. None says that it is not.
+fn own_query(
+    zone: &Zone,
+    protocol: Protocol,
+    query: &Query<'_>,
+    question: &mut Question,
+) -> Result<Option<Request>, OutOfMemory>
+    ensures { IfOk result (λ found. IfSome found (IsOwn zone.now protocol query.now question.new)) }
+{
     query.fill(question)?;
     if is_foreign(zone, question) {
         return Ok(None);
     }
     Ok(Some(Request {
-        protocol: ask.protocol,
+        protocol,
         header: query.header,
         edns: query.edns,
     }))
 }
 
-/// Answers a query that the zone is looked up for at the end of a buffer, and counts it: no memory is taken but for the reply. Where
-/// memory runs out, part of the reply may be written, and nothing is counted.
-pub(crate) fn answer_query(
-    alloc: Global,
-    zone: &Zone,
+/// The reply of what the zone was looked up for, with what that lends.
+#[inline(always)]
+fn lent_reply<'a>(
     request: &Request,
-    question: &Question,
-    counts: &mut Counts,
-    out: &mut Vec<u8>,
-    is_framed: bool,
-) -> Result<(), OutOfMemory>
-    requires { is_at_or_below question.now.name zone.now.origin ≡ true }
-    ensures ok { (allow_update : Bool) → OnOk result (IsAnsweredBy zone.now allow_update request.now.protocol (record { request = request.now; case = Asks question.now }) is_framed out.old.items out.new.items counts.old counts.new) }
-    ensures err { OnErr result (counts.new ≡ counts.old) }
-{
-    let mut answer = Answer::none();
-    zone.answer_into(alloc, question, &mut answer)?;
-    put_answer(request, question, &answer, counts, out, is_framed)
-}
-
-/// Writes the reply of what the zone was looked up for, and counts it.
-fn put_answer(
-    request: &Request,
-    question: &Question,
-    answer: &Answer<'_>,
-    counts: &mut Counts,
-    out: &mut Vec<u8>,
-    is_framed: bool,
-) -> Result<(), OutOfMemory>
+    question: &'a Question,
+    answer: &'a Answer<'_>,
+) -> LentReply<'a>
     requires { answer.now.code ≤ 3 }
-    ensures ok { OnOk result (IsPut request.now.protocol (asked_of (record { request = request.now; case = Asks question.now })) (looked_reply request.now question.now
-        (record { code = answer.now.code; aa = answer.now.aa; answers = answer.now.answers; authority = answer.now.authority })) is_framed out.old.items out.new.items counts.old counts.new) }
-    ensures err { OnErr result (counts.new ≡ counts.old) }
+    ensures is { result ≡ looked_reply request.now question.now
+        (record { code = answer.now.code; aa = answer.now.aa; answers = answer.now.answers; authority = answer.now.authority }) }
+    ensures room { HasRoom result }
 {
     let code = answer.code;
-    let reply = LentReply {
+    LentReply {
         id: id_for(request.protocol, request.header.id),
         opcode: request.header.opcode,
         aa: answer.aa,
@@ -107,8 +179,7 @@ fn put_answer(
         answers: answer.answers.as_slice(),
         authority: answer.authority.again(),
         edns: edns_for(code, request.edns),
-    };
-    put_lent(request, question, &reply, counts, out, is_framed)
+    }
 }
 
 /// Writes a reply from what the zone lends, and counts it.
@@ -119,8 +190,9 @@ fn put_lent(
     counts: &mut Counts,
     out: &mut Vec<u8>,
     is_framed: bool,
-) -> Result<(), OutOfMemory>
+) -> Result<Appended, OutOfMemory>
     requires { HasRoom reply.now }
+    ensures appends { IfOk result (Appends reply.now (limit_of request.now.protocol reply.now.edns) is_framed out.old.items out.new.items) }
     ensures ok { OnOk result (IsPut request.now.protocol (asked_of (record { request = request.now; case = Asks question.now })) reply.now is_framed out.old.items out.new.items counts.old counts.new) }
     ensures err { OnErr result (counts.new ≡ counts.old) }
 {
@@ -133,5 +205,5 @@ fn put_lent(
     };
     let asked = (question.qtype, question.qclass);
     counts.record_lent(request.protocol, &request.header, asked, &replied);
-    Ok(())
+    Ok(appended)
 }

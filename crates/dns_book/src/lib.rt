@@ -4,6 +4,7 @@
 mod access;
 mod ask;
 mod book;
+mod cached_reply;
 mod counted;
 mod decision;
 mod in_place;
@@ -15,6 +16,7 @@ mod outcome;
 mod owed;
 mod recovering;
 mod reply_bytes;
+mod reply_cache;
 mod settling;
 
 pub use access::{AccessControl, IpNet};

@@ -9,7 +9,7 @@ ghost use Rattle.dns_book.specs.Opening.{HadNoRow, Begins, BeginsNot, BeginsNotW
 
 use crate::book::Book;
 use crate::counted::counts_of_zone;
-use crate::in_place::no_question;
+use crate::in_place::InPlace;
 use crate::opening_records::opening_of;
 use crate::recovering::{Recovered, keeper_kind, read_back};
 use dns_keeper::{KeepFault, Keeper};
@@ -115,7 +115,7 @@ impl<K: Keeper> Book<K> {
                 counts: counts_of_zone(&zone),
                 zone,
                 allow_update,
-                question: no_question(alloc),
+                in_place: InPlace::new(alloc),
                 alloc,
             }),
             Err(fault) => Err(BeginFault { fault, keeper }),
@@ -145,7 +145,7 @@ impl<K: Keeper> Book<K> {
                 counts: counts_of_zone(&zone),
                 zone,
                 allow_update,
-                question: no_question(alloc),
+                in_place: InPlace::new(alloc),
                 alloc,
             }),
             Err(kind) => refuse(kind, keeper),

@@ -62,6 +62,7 @@ impl<K: Keeper> Book<K> {
         if u64::MAX - self.row_count < most {
             return Err(KeepFault::OutOfMemory);
         }
+        self.in_place.forget();
         let (alloc, keeper) = (self.alloc, &mut self.keeper);
         let batch = match self
             .zone

@@ -4,10 +4,12 @@ use Rattle.dns_book.proofs.Opened.{IsKept-begun, begins}
 use Rattle.dns_book.proofs.book.Book.begin.Goals as goal
 
 pub invariant_of-result : goal.invariant_of-result
-invariant_of-result g c =
-    IsKept-begun g.K.Keeper.rows (g.K.Keeper.rows c.args.keeper)
-    (record { keeper = c.append.new.self; zone = c.args.zone; allow_update = c.args.allow_update; row_count = c.len.result; counts = c.counts_of_zone.result })
-    0 c.serial.result c.args.moment c.in-Ok.records c.requires.empty c.in-Ok-append.ensures.ok c.len.ensures c.serial.ensures c.in-Ok.ensures.replay
+invariant_of-result g c = (
+  IsKept-begun g.K.Keeper.rows (g.K.Keeper.rows c.args.keeper)
+      (record { keeper = c.append.new.self; zone = c.args.zone; allow_update = c.args.allow_update; row_count = c.len.result; counts = c.counts_of_zone.result })
+      0 c.serial.result c.args.moment c.in-Ok.records c.requires.empty c.in-Ok-append.ensures.ok c.len.ensures c.serial.ensures c.in-Ok.ensures.replay,
+  c.new.ensures c.args.zone,
+)
 
 pub returns-in-Ok-append-clause-ok : goal.returns-in-Ok-append-clause-ok
 returns-in-Ok-append-clause-ok g c =
