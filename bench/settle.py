@@ -4,7 +4,8 @@ of many names, instructions for a line of zone text, and memory for a name.
 
 The program is run with two numbers of turns over a list of messages of one kind, and the difference is divided by the messages
 between them, so that reading the zone is not in it. Most queries come again then, and are answered by the replies that are kept; those
-of the kinds whose titles say "for the first time" come once each, told apart by the sizes that their OPTs give. Instructions are counted by `perf stat`, or by `valgrind --tool=cachegrind`
+of the kinds whose titles say "for the first time" come once each, told apart by the sizes that their OPTs give, in two lists of which one
+is twice as long, so that what is done once is not in the difference. Instructions are counted by `perf stat`, or by `valgrind --tool=cachegrind`
 where there is no such counter; where there is neither, that is said and nothing is counted. Memory is the greatest resident
 memory that the operating system tells of a run.
 
@@ -27,7 +28,7 @@ CRATE = os.path.join(TOP, "crates", "dns_bench")
 PROGRAM = os.path.join(CRATE, "out", "dns_bench")
 SIZES = (7, 50_000, 500_000)  # names
 ASKED = 100  # names that are asked in one turn, all over the zone
-ASKED_ONCE = 20_000  # queries that come once
+ASKED_ONCE = 40_000  # queries that come once, half of them in a shorter list
 TURNS = (20, 120)
 FIRST_TURN = (0, 1)
 UPDATE_TURNS = (5, 25)
@@ -164,6 +165,13 @@ def instructions_each(count, zone, messages, turns, folder):
     return (many - few) / ((turns[1] - turns[0]) * len(messages))
 
 
+def instructions_first(count, zone, messages, folder):
+    """Instructions for one of these messages, each of which comes for the first time."""
+    half = len(messages) // 2
+    whole, front = (instructions_each(count, zone, some, FIRST_TURN, folder) * len(some) for some in (messages, messages[:half]))
+    return (whole - front) / (len(messages) - half)
+
+
 def resident(command):
     """The greatest resident memory of a run, in bytes."""
     child = subprocess.Popen(command, stdin=subprocess.DEVNULL, stdout=subprocess.DEVNULL)
@@ -181,7 +189,7 @@ def report_kinds(pool, count, zones, folder):
             turns = UPDATE_TURNS if title == "update" else TURNS
             rows.append((title, pool.submit(instructions_each, count, zone, messages, turns, folder)))
         for title, messages in kinds_once(names):
-            rows.append((f"{title} for the first time, with OPT", pool.submit(instructions_each, count, zone, messages, FIRST_TURN, folder)))
+            rows.append((f"{title} for the first time, with OPT", pool.submit(instructions_first, count, zone, messages, folder)))
         for title, used in rows:
             print(f"{names:,} names, {title}: {used.result():,.0f} instructions a message", flush=True)
 
