@@ -1,7 +1,7 @@
 #!/usr/bin/env python3
 """Asks the built program, as it serves on loopback, and compares each reply with the one that it gives over a list of events.
 
-By UDP and by TCP: queries of each kind with and without EDNS, frames behind one another and cut anywhere, updates with queries behind
+By UDP and by TCP: queries of each kind with and without EDNS, frames behind one another and cut anywhere, updates with queries around
 them, malformed messages and random bytes. Then connections that stay silent, or send single bytes, are closed at their limit; many
 connections come at once; a restart on the same journal shows what was acknowledged; the end of standard input stops the program, which
 writes its two closing lines; and a port that is taken is told by a status of its own.
@@ -296,6 +296,19 @@ def updates():
         yield "the end after a restart", server.stop()[:2], (0, "".join(line + "\n" for line in closing))
 
 
+def updates_between_queries(seed):
+    """Updates with many queries before and behind them, over one connection, all at once and in whatever pieces."""
+    other = [wire.query("www.example.com", "A")]
+    messages = [*other * 70, NEW, ADD_NEW, NEW, *other * 3, ADD_NEW, ADD_NEW_IF_NOT, ADD_MORE, MORE, OUTSIDE, *other * 100, DELETE_NEW, *[NEW] * 130, ADD_NEW, NEW]
+    stream = b"".join(map(framed, messages))
+    due = due_on(stream, ["--update"])
+    closing = told(["--update"], [f"A 0 1 {IP} 5300 0", f"B 0 1 {stream.hex()}", "E 0 1"])[-3:-1]
+    for place, pieces in enumerate([[stream], *cut_anywhere(stream, f"{seed} updates", 4)]):
+        with serving("--update") as server:
+            yield f"updates between queries {place}", server.exchanged(pieces), due
+            yield f"the end behind updates between queries {place}", server.stop()[:2], (0, "".join(line + "\n" for line in closing))
+
+
 def shut_out():
     message = wire.query("www.example.com", "A")
     option = "--deny=7f000000/8"
@@ -431,6 +444,7 @@ def tried(count, seed):
     yield from datagrams("random bytes", list(random_messages(seed)), "--update")
     yield from connections(seed)
     yield from updates()
+    yield from updates_between_queries(seed)
     yield from shut_out()
     yield from limits()
     yield from at_once(count)
