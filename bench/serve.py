@@ -1,8 +1,8 @@
 #!/usr/bin/env python3
 """Times the built program as it serves on loopback, beside a bare echo in C on the same machine (load.c): replies a second and processor
 time a reply, over UDP and over one connection with many queries under way, on zones of few and of many names; how long it takes from the
-start to the first answer; what a second worker adds; and updates a second on a journal in a file, beside SQLite alone doing the same
-inserts.
+start to the first answer; what a second worker adds, and what many connections at once get; and updates a second on a journal in a file,
+beside SQLite alone doing the same inserts.
 
 What such a machine gives differs from minute to minute, so what is compared is measured in turns: the program for a moment, then the echo
 (or one worker, then two), and again, and the sums of these are told.
@@ -30,6 +30,7 @@ import wire
 ZONES = (7, 50_000, 500_000)  # names
 WINDOW = {"udp": 64, "tcp": 64}
 WINDOWS = (1, 8, 64)  # queries under way on each of two connections
+CROWDS = (1, 4, 8, 16)  # connections at once, each with a worker of its own
 UPDATES = 2_000
 TURNS = 10  # in which what is compared takes turns
 UPDATE_TURNS = 3  # of which the fastest counts
@@ -129,6 +130,16 @@ def second_worker(load, seconds, folder):
                   f"first's {one / TURNS:,.0f}", flush=True)
 
 
+def crowds(load, seconds, folder):
+    """Replies a second over many connections at once, each with a worker of its own."""
+    zone, names = zone_of(ZONES[0], folder)
+    with clients.Serving(zone=zone, workers=max(CROWDS)) as server:
+        for window in WINDOWS:
+            sums = in_turns([lambda turns, count=count: replies_of(load, server.port, seconds / turns, names, count, window) for count in CROWDS])
+            rates = ", ".join(f"{rate / TURNS:,.0f} over {count}" for count, (rate,) in zip(CROWDS, sums))
+            print(f"{ZONES[0]} names, tcp, {window} under way on each connection: {rates}", flush=True)
+
+
 def updated(folder, turn):
     """Updates a second over one connection, each acknowledged before the next."""
     zone, _ = zone_of(ZONES[0], folder)
@@ -170,6 +181,7 @@ def main():
         subprocess.run([compiler, "-O2", "-o", load, TOP / "bench" / "load.c"], check=True)
         serving(load, seconds, folder)
         second_worker(load, seconds, folder)
+        crowds(load, seconds, folder)
         ours, bare = map(max, zip(*((updated(folder, turn), inserted(folder, turn)) for turn in range(UPDATE_TURNS))))
         print(f"updates on a journal in a file: {ours:,.0f} a second, {100 * ours / bare:.0f} % of SQLite's own {bare:,.0f}")
 
