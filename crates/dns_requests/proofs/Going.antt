@@ -11,10 +11,11 @@ use Rattle.dns_server_core.specs.Connections.{is_within, left_by}
 use Rattle.dns_server_core.specs.Steps.{base_by, fed_by}
 use Rattle.dns_requests.specs.declared.serve_fault.ServeFault.{ServeFault}
 use Rattle.dns_requests.specs.declared.serve_fault.ServeFault.TheVariants.{Read, Write, Turns, TimedOut, OutOfMemory}
-use Rattle.dns_requests.specs.Runs.{Adds, Answers, AnswersPartly, BreaksOff, Halts, Run}
+use Rattle.dns_server_core.specs.FrameRuns.{Adds, Halts, Run}
+use Rattle.dns_requests.specs.Runs.{Answers, AnswersPartly, BreaksOff}
 use Rattle.dns_requests.specs.Arrivals.{Hears, IsPiece, Receives, ask_at, heard, opened}
 use Rattle.dns_requests.specs.Ends.{Ends, IsAtEnd, IsReadFault, IsWriteFault, Parts, Terms}
-use Rattle.dns_requests.proofs.LongerRuns.{Run-append}
+use Rattle.dns_server_core.proofs.LongerRuns.{Run-append}
 use Rattle.dns_requests.proofs.MoreArrivals.{Hears-more, Hears-none, Hears-same, asks_of-none, asks_of-push, base_none, left_by-push, unread_none, one_longer}
 
 -- a source that gave nothing is at its end

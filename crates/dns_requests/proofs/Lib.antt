@@ -1,4 +1,3 @@
 pub mod Replies
-pub mod LongerRuns
 pub mod MoreArrivals
 pub mod Going

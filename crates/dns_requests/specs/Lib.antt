@@ -1,5 +1,4 @@
 pub mod Polls
-pub mod Replies
 pub mod Responses
 pub mod Runs
 pub mod Arrivals

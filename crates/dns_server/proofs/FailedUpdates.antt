@@ -15,7 +15,8 @@ use Rattle.dns_ports.specs.declared.port.Accepted.{Accepted}
 use Rattle.dns_requests.specs.declared.serve_fault.ServeFault.{ServeFault}
 use Rattle.dns_requests.specs.declared.serve_fault.ServeFault.TheVariants.{Read, Write, Turns, TimedOut, OutOfMemory}
 use Rattle.dns_requests.specs.Ends.{Ends, Parts, Terms as ServeTerms}
-use Rattle.dns_requests.specs.Runs.{Run as MessageRun, BreaksOff}
+use Rattle.dns_server_core.specs.FrameRuns.{Run as MessageRun}
+use Rattle.dns_requests.specs.Runs.{BreaksOff}
 use Rattle.dns_ticket_lock.specs.declared.view.Terms.{Terms}
 use Rattle.dns_ticket_lock.specs.Lists.{total}
 use Rattle.dns_ticket_lock.specs.Shares.{last}

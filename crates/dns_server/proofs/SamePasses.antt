@@ -7,7 +7,8 @@ use Rattle.dns_ports.specs.declared.port.Accepted.{Accepted}
 use Rattle.dns_requests.specs.declared.serve_fault.ServeFault.{ServeFault}
 use Rattle.dns_requests.specs.declared.serve_fault.ServeFault.TheVariants.{Read, Write, Turns, TimedOut, OutOfMemory}
 use Rattle.dns_requests.specs.Ends.{Ends, Parts, Terms}
-use Rattle.dns_requests.specs.Runs.{Run as ReplyRun, BreaksOff}
+use Rattle.dns_server_core.specs.FrameRuns.{Run as ReplyRun}
+use Rattle.dns_requests.specs.Runs.{BreaksOff}
 use Rattle.dns_ticket_lock.specs.Passes.{PassSeen, IsSame, SettledBy, LeftBy}
 use Rattle.dns_server.specs.Sockets.{Answered, Refused, Skipped, Fate, Handled, Run as DatagramRun, Steps, ask_for}
 use Rattle.dns_server.specs.Listeners.{HandedBack, TreatsBy, Run as ConnectionRun}

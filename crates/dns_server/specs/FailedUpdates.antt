@@ -10,7 +10,7 @@ use Rattle.dns_ports.specs.declared.port.Accepted.{Accepted}
 use Rattle.dns_requests.specs.declared.serve_fault.ServeFault.{ServeFault}
 use Rattle.dns_requests.specs.declared.serve_fault.ServeFault.TheVariants.{Read, Write, Turns, TimedOut, OutOfMemory}
 use Rattle.dns_requests.specs.Ends.{Ends, Parts, Terms}
-use Rattle.dns_requests.specs.Runs.{Run as MessageRun}
+use Rattle.dns_server_core.specs.FrameRuns.{Run as MessageRun}
 use Rattle.dns_ticket_lock.specs.Passes.{PassSeen, SettledBy, LeftBy}
 use Rattle.dns_server.specs.declared.worker.Worker.{Worker}
 use Rattle.dns_server.specs.Sockets.{Fate, Answered, Refused, Skipped, Handled, Steps, Run as DatagramRun, ask_for}

@@ -11,3 +11,4 @@ pub mod ListsHanded
 pub mod ValidTests
 pub mod PieceCut
 pub mod Failing
+pub mod LongerRuns

@@ -1,4 +1,5 @@
 pub mod Runs
+pub mod FrameRuns
 pub mod Events
 pub mod Connections
 pub mod Valid

@@ -1,11 +1,23 @@
 //! What settles the messages of connections and datagrams.
 
-ghost use Rattle.std.specs.Prelude.{◌<◌, ◌≤◌, ◌^◌, length, IfOk, OnErr};
+ghost use Rattle.std.specs.Prelude.{◌≡◌, ◌+◌, ◌*◌, ◌<◌, ◌≤◌, ◌^◌, length, map, IfOk, OnOk, OnErr};
 ghost use Rattle.dns_book.specs.Into.{SettlesInto};
+ghost use Rattle.dns_frames.specs.Frames.{frames};
+ghost use Rattle.dns_server_core.specs.FrameRuns.{Adds, Halts};
 
 use dns_book::{AccessControl, Ask, Book, Settled, SettledInto};
-use dns_io::OutOfMemory;
+use dns_frames::first_frame;
+use dns_io::{Octets, OutOfMemory};
 use dns_keeper::Keeper;
+use std::alloc::Global;
+use std::mem;
+
+/// How many messages were settled, and how many bytes stand behind them.
+#[derive(Clone, Copy)]
+pub struct Answered {
+    pub messages: u64,
+    pub rest: usize,
+}
 
 /// What settles messages: a book, or what stands for one.
 pub trait RequestHandler {
@@ -40,6 +52,50 @@ pub trait RequestHandler {
         requires bytes { length ask.now.bytes ≤ 65535 }
         ensures ok { IfOk result (SettlesInto (λ settled. serves access.now self.old ask.now settled self.new) is_framed out.old.items out.new.items) }
         ensures err { OnErr result (skips self.old self.new) };
+
+    /// Settles, in order, the whole messages at the front of what came over a connection, each behind its length (RFC 1035 4.2.2), and adds
+    /// the replies that they are owed to what a buffer has, each behind its length. Each is handed over as `ask`, whose buffer is used for
+    /// one after the other. Where memory runs out, the first of them were settled, and part of the replies may have been added.
+    fn handle_frames(
+        &mut self,
+        alloc: Global,
+        access: &AccessControl,
+        ask: &mut Ask,
+        bytes: &[u8],
+        replies: &mut Vec<u8>,
+    ) -> Result<Answered, OutOfMemory>
+        requires { ask.old.at < 2 ^ 47 }
+        ensures ok { OnOk result (Adds (serves access.now) self.old (map (λ m. record ask.old { bytes = m }) (frames bytes.now).messages) self.new replies.old.items replies.new.items) }
+        ensures count { IfOk result (λ a. a.messages ≡ length (frames bytes.now).messages) }
+        ensures rest { IfOk result (λ a. a.rest ≡ length (frames bytes.now).rest) }
+        ensures shorter { IfOk result (λ a. 2 * a.messages + a.rest ≤ length bytes.now) }
+        ensures err { OnErr result (Halts (serves access.now) skips self.old (map (λ m. record ask.old { bytes = m }) (frames bytes.now).messages) self.new) }
+        ensures ask { ask.new ≡ record ask.old { bytes = ask.new.bytes } }
+    {
+        let mut left = bytes;
+        let mut messages = 0;
+        while let Some((message, after)) = first_frame(left) {
+            refill(alloc, &mut ask.bytes, message)?;
+            let _settled = self.handle_into(access, &*ask, replies, true)?;
+            left = after;
+            messages += 1;
+        }
+        Ok(Answered {
+            messages,
+            rest: left.len(),
+        })
+    }
+}
+
+/// Puts these bytes in place of others, into the same buffer. Where memory runs out, the buffer has nothing of use.
+pub fn refill(alloc: Global, bytes: &mut Octets, message: &[u8]) -> Result<(), OutOfMemory>
+    ensures { OnOk result (bytes.new ≡ message.now) }
+{
+    let mut buffer = mem::replace(bytes, Octets::new(alloc)).into_vec();
+    buffer.clear();
+    buffer.extend_from_slice(message)?;
+    *bytes = Octets::from_vec(buffer);
+    Ok(())
 }
 
 /// A book settles each message by `Book::settle`, on the zone that its rows stand for (RFC 2136 3). Where it finds no memory,

@@ -17,5 +17,5 @@ pub use dns_book::{
 };
 pub use event::{Event, Out, Receiver};
 pub use fault::RunFault;
-pub use handler::RequestHandler;
+pub use handler::{Answered, RequestHandler, refill};
 pub use server::Server;

@@ -38,12 +38,12 @@ batch_of (Some old) (Some now) client serial moment records grown = record {
   theirs = rows_of_bear (last_id old +ℤ pos 1) client serial grown.stamp records;
 }
 
-no_batch : (before after : Option (List Row)) (number : ℕ) → Keeps before after → Told (IsBatch number 0) before after
+pub no_batch : (before after : Option (List Row)) (number : ℕ) → Keeps before after → Told (IsBatch number 0) before after
 no_batch before None number kept = tt
 no_batch None (Some now) number kept = absurd kept
 no_batch (Some old) (Some now) number kept = record { batch = []; grown = kept ∙ sym (append-nil old); many = refl; theirs = refl }
 
-keeps_itself : (rows : Option (List Row)) → Keeps rows rows
+pub keeps_itself : (rows : Option (List Row)) → Keeps rows rows
 keeps_itself None = tt
 keeps_itself (Some rows) = refl
 

@@ -8,3 +8,5 @@ pub mod Advancing
 pub mod Turning
 pub mod Order
 pub mod Removed
+pub mod Fronts
+pub mod Passing

@@ -102,13 +102,12 @@ module _ {K : Type 0} (krows : K → Option (List Row)) (kfaults : K → ℕ) wh
       subst (λ (n : ℕ). (s2 : Settles krows kfaults access book (asked_by n ask) answer later) × (s2.failed ≡ true → s.failed ≡ true)) client (s, λ e. e)
 
   -- where the book answered, the account has settled
-  pub settles : (t : Terms) (access : Access) (number : ℕ) (accounts : List Account) (low : ℕ) (members : List Member) (ask : Ask) (answer : Settled) (rows : List Row) (book later : SeenOf K) (told : Told)
-      → 0 < length accounts → FindsOwn accounts low rows members → HasTerms t book → NamesRows krows book rows → ask.client ≡ number → Settles krows kfaults access book ask answer later
+  pub settles_one : (t : Terms) (access : Access) (number : ℕ) (a : Account) (ask : Ask) (answer : Settled) (rows : List Row) (book later : SeenOf K) (told : Told)
+      → StartsWith rows a.seen → HasTerms t book → NamesRows krows book rows → ask.client ≡ number → Settles krows kfaults access book ask answer later
       → IsTurn number rows book later told → told.receipt ≡ answer.receipt → kfaults book.keeper + told.rise ≡ kfaults later.keeper
       → (Rose (kfaults book.keeper) (kfaults later.keeper) → (0 < told.rise) ⊎ (told.mark ≡ true))
-      → SettledAs krows kfaults t access number (own accounts) ask answer (own (with_head (settled rows (done_by krows number rows later told)) accounts))
-  settles t access number [] low members ask answer rows book later told some_own found terms named client s turn receipt rise rose = absurd (omega arith)
-  settles t access number (a ∷ more) low members ask answer rows book later told some_own found terms named client s turn receipt rise rose =
+      → SettledAs krows kfaults t access number a ask answer (settled rows (done_by krows number rows later told) a)
+  settles_one t access number a ask answer rows book later told began terms named client s turn receipt rise rose =
       let same = asked access book number ask answer later client s in
       record {
         book = book;
@@ -116,7 +115,7 @@ module _ {K : Type 0} (krows : K → Option (List Row)) (kfaults : K → ℕ) wh
         later = later;
         terms = terms;
         named = named;
-        began = found.0;
+        began = began;
         settles = same.0;
         grew = ((done_by krows number rows later told).batch, refl);
         seen = turn.named;
@@ -127,12 +126,20 @@ module _ {K : Type 0} (krows : K → Option (List Row)) (kfaults : K → ℕ) wh
         mark = or_first a.marked told.mark;
       }
 
+  settles : (t : Terms) (access : Access) (number : ℕ) (accounts : List Account) (low : ℕ) (members : List Member) (ask : Ask) (answer : Settled) (rows : List Row) (book later : SeenOf K) (told : Told)
+      → 0 < length accounts → FindsOwn accounts low rows members → HasTerms t book → NamesRows krows book rows → ask.client ≡ number → Settles krows kfaults access book ask answer later
+      → IsTurn number rows book later told → told.receipt ≡ answer.receipt → kfaults book.keeper + told.rise ≡ kfaults later.keeper
+      → (Rose (kfaults book.keeper) (kfaults later.keeper) → (0 < told.rise) ⊎ (told.mark ≡ true))
+      → SettledAs krows kfaults t access number (own accounts) ask answer (own (with_head (settled rows (done_by krows number rows later told)) accounts))
+  settles t access number [] low members ask answer rows book later told some_own found terms named client s turn receipt rise rose = absurd (omega arith)
+  settles t access number (a ∷ more) low members ask answer rows book later told some_own found terms named client s turn receipt rise rose =
+      settles_one t access number a ask answer rows book later told found.0 terms named client s turn receipt rise rose
+
   -- where it found no memory, it has seen no less
-  pub leaves : (number : ℕ) (accounts : List Account) (low : ℕ) (members : List Member) (rows : List Row) (book later : SeenOf K) (told : Told) → 0 < length accounts → FindsOwn accounts low rows members
-      → told.receipt ≡ None → told.rise ≡ 0 → LeftAs (own accounts) (own (with_head (settled rows (done_by krows number rows later told)) accounts))
-  leaves number [] low members rows book later told some_own found receipt rise = absurd (omega arith)
-  leaves number (a ∷ more) low members rows book later told some_own found receipt rise = record {
-    seen = begins_further rows a.seen (done_by krows number rows later told).batch found.0;
+  pub leaves_one : (number : ℕ) (a : Account) (rows : List Row) (book later : SeenOf K) (told : Told) → StartsWith rows a.seen → told.receipt ≡ None → told.rise ≡ 0
+      → LeftAs a (settled rows (done_by krows number rows later told) a)
+  leaves_one number a rows book later told began receipt rise = record {
+    seen = begins_further rows a.seen (done_by krows number rows later told).batch began;
     receipts = ap (λ (r : Option Receipt). a.receipts ++ listed r) receipt ∙ append-nil a.receipts;
     faults = omega arith;
     mark = or_first a.marked told.mark;
@@ -140,6 +147,11 @@ module _ {K : Type 0} (krows : K → Option (List Row)) (kfaults : K → ℕ) wh
     where
       begins_further : (rows seen batch : List Row) → StartsWith rows seen → StartsWith (rows ++ batch) seen
       begins_further rows seen batch begins = Rattle.dns_ticket_lock.proofs.Seats.begins_more rows seen (rows ++ batch) (batch, refl) begins
+
+  leaves : (number : ℕ) (accounts : List Account) (low : ℕ) (members : List Member) (rows : List Row) (book later : SeenOf K) (told : Told) → 0 < length accounts → FindsOwn accounts low rows members
+      → told.receipt ≡ None → told.rise ≡ 0 → LeftAs (own accounts) (own (with_head (settled rows (done_by krows number rows later told)) accounts))
+  leaves number [] low members rows book later told some_own found receipt rise = absurd (omega arith)
+  leaves number (a ∷ more) low members rows book later told some_own found receipt rise = leaves_one number a rows book later told found.0 receipt rise
 
   pub answered : (t : Terms) (access : Access) (number : ℕ) (accounts : List Account) (low : ℕ) (members : List Member) (ask : Ask) (framed : Bool) (had has : List ℕ) (answer : Result SettledInto OutOfMemory) (rows : List Row)
       (book later : SeenOf K) (told : Told)

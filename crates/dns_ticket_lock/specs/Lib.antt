@@ -5,3 +5,4 @@ pub mod Naming
 pub mod Rule
 pub mod Settling
 pub mod Passes
+pub mod Fronts

@@ -133,7 +133,7 @@ fn receipt_of(answer: &Result<SettledInto, OutOfMemory>) -> Option<Receipt>
 }
 
 /// The member after a settle.
-fn member_after(member: Member, rise: u64, mark: bool) -> Member
+pub(crate) fn member_after(member: Member, rise: u64, mark: bool) -> Member
     requires { member.share + rise < 2 ^ 64 }
     ensures { result ≡ record { share = member.share + rise; mark = member.mark || mark } }
 {
@@ -144,7 +144,7 @@ fn member_after(member: Member, rise: u64, mark: bool) -> Member
 }
 
 /// Settles one message by the book, which adds its reply to a buffer, and tells what that did.
-fn settle_book<K: Keeper>(
+pub(crate) fn settle_book<K: Keeper>(
     book: &mut Book<K>,
     access: &AccessControl,
     ask: &Ask,

@@ -4,6 +4,7 @@
 mod closing;
 mod counting;
 mod deed;
+mod front;
 mod held;
 mod pass;
 mod seated;

@@ -7,7 +7,8 @@ use crate::pass::{Pass, TicketBook};
 use dns_book::{AccessControl, Ask, Settled, SettledInto};
 use dns_io::OutOfMemory;
 use dns_keeper::Keeper;
-use dns_server_core::RequestHandler;
+use dns_server_core::{Answered, RequestHandler};
+use std::alloc::Global;
 use std::marker::Model;
 use std::sync::Wait;
 
@@ -77,5 +78,16 @@ impl<'a, K: Keeper, R: Wait> RequestHandler for Seated<'a, K, R> {
     ) -> Result<SettledInto, OutOfMemory> {
         self.book
             .settle_into(self.rt, &mut self.pass, access, ask, out, is_framed)
+    }
+
+    fn handle_frames(
+        &mut self,
+        alloc: Global,
+        access: &AccessControl,
+        ask: &mut Ask,
+        bytes: &[u8],
+        replies: &mut Vec<u8>,
+    ) -> Result<Answered, OutOfMemory> {
+        self.book.settle_frames(self.rt, &mut self.pass, alloc, access, ask, bytes, replies)
     }
 }

@@ -91,7 +91,7 @@ const ROWS: usize = 2;
 // sleeps before each look: another seat may have its journal written to the disk meanwhile, which takes milliseconds.
 const SPINS: u32 = 64;
 
-const YIELDS: u32 = 16;
+const YIELDS: u32 = 1000;
 
 const NAP_MICROS: u64 = 50;
 

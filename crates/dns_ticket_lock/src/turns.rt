@@ -20,7 +20,11 @@ use std::mem;
 use std::sync::Wait;
 
 /// Draws a ticket, waits for its turn and takes the book out.
-fn begin_turn<T: Carried, R: Wait>(rt: &R, board: &Board<T>, seat: &mut Seat<Option<T>, View>) -> T
+pub(crate) fn begin_turn<T: Carried, R: Wait>(
+    rt: &R,
+    board: &Board<T>,
+    seat: &mut Seat<Option<T>, View>,
+) -> T
     requires board { (board.now.table_id.words ≡ 3) × (board.now.table_id.slots ≡ 1) × (seat.old.table_id ≡ board.now.table_id) }
     requires idle { (seat.old.me.1 ≡ []) × (seat.old.me.0.phase ≡ 0) × (0 < length seat.old.me.0.accounts) }
     ensures same { seat.new.table_id ≡ seat.old.table_id }
@@ -32,7 +36,7 @@ fn begin_turn<T: Carried, R: Wait>(rt: &R, board: &Board<T>, seat: &mut Seat<Opt
 }
 
 /// Counts what was done, puts the book back and gives the turn to the next.
-fn end_turn<K: Keeper>(
+pub(crate) fn end_turn<K: Keeper>(
     board: &Board<Box<Held<K>>>,
     seat: &mut Seat<Option<Box<Held<K>>>, View>,
     held: Box<Held<K>>,

@@ -8,7 +8,7 @@ use Rattle.dns_frames.specs.Frames.{frames}
 use Rattle.dns_requests.specs.declared.serve_fault.ServeFault.{ServeFault}
 use Rattle.dns_requests.specs.Arrivals.{Ticks}
 use Rattle.dns_requests.specs.Ends.{Parts, Terms}
-use Rattle.dns_requests.specs.Runs.{Adds, Halts}
+use Rattle.dns_server_core.specs.FrameRuns.{Adds, Halts}
 use Rattle.dns_requests.proofs.MoreArrivals.{ask_stays}
 use Rattle.dns_requests.proofs.Going.{Going, Going-begun, Heard-more, Heard-answered, base_when, ends_answering, ends_cut_off, ends_late, ends_reading, ends_served, ends_writing}
 use Rattle.dns_requests.proofs.connection.serve_connection.Goals as goal

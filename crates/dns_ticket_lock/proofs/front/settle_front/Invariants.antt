@@ -1,15 +1,14 @@
--- The first messages were settled, and those of the bytes that are left are to come.
-use Rattle.std.proofs.Common.{◌≡◌, ◌+◌, ◌*◌, ◌≤◌, length, map}
+-- So far nothing came, and the messages of the bytes that are left are to come.
+use Rattle.std.proofs.Common.{◌≡◌, ◌+◌, ◌*◌, ◌≤◌, length}
 use Rattle.dns_frames.specs.Frames.{frames}
-use Rattle.dns_requests.proofs.LongerRuns.{Goes}
-use Rattle.dns_requests.proofs.answering.answer_frames.Given as goal
+use Rattle.dns_ticket_lock.proofs.Fronts.{Quiet}
+use Rattle.dns_ticket_lock.proofs.front.settle_front.Given as goal
 
 abbrev pub invariant-loop-message : goal.invariant-loop-message
 invariant-loop-message g l =
     record {
       ask : l.ask ≡ record l.fn.ask { bytes = l.ask.bytes };
-      goes : Goes (g.T.RequestHandler.serves l.access) l.fn.handler (map (λ m. record l.fn.ask { bytes = m }) (frames l.bytes).messages) l.handler
-          (map (λ m. record l.fn.ask { bytes = m }) (frames l.left).messages) l.fn.replies.items l.replies.items;
+      quiet : Quiet g.K.Keeper.rows g.K.Keeper.faults l.access l.fn.ask l.fn.book l.book l.bytes l.left l.fn.replies.items l.replies.items l.messages;
       rest : (frames l.left).rest ≡ (frames l.bytes).rest;
       count : l.messages + length (frames l.left).messages ≡ length (frames l.bytes).messages;
       shorter : 2 * l.messages + length l.left ≤ length l.bytes;

@@ -1,0 +1,42 @@
+-- Runs of a handler over the messages of a connection, and the bytes of their replies.
+use Rattle.std.specs.Prelude.{◌≡◌, ◌⊎◌, ℕ, List, [], ◌∷◌, ◌++◌, length, Option, Some, None}
+use Rattle.std.specs.Int.{w16, to_be_bytes}
+use Rattle.dns_book.specs.declared.ask.Ask.{Ask}
+use Rattle.dns_book.specs.declared.ask.Settled.{Settled}
+
+-- a message behind its length (RFC 1035 4.2.2)
+abbrev pub frame_of : List ℕ → List ℕ
+frame_of bytes = to_be_bytes w16 (length bytes) ++ bytes
+
+-- what is sent on a stream for a reply, where one is owed
+abbrev pub frame_for : Option (List ℕ) → List ℕ
+frame_for None = []
+frame_for (Some bytes) = frame_of bytes
+
+-- messages are settled in order, one step each, and these are the bytes of their replies, each behind its length
+abbrev pub Run : {H : Type 0} → (H → Ask → Settled → H → Type 0) → H → List Ask → List ℕ → H → Type 0
+Run serves before [] bytes after = (after ≡ before) × (bytes ≡ [])
+Run {H} serves before (ask ∷ asks) bytes after = (settled : Settled) × (between : H) × (others : List ℕ)
+    × serves before ask settled between × (bytes ≡ frame_for settled.reply ++ others) × Run serves between asks others after
+
+-- all of them were settled, and the bytes of their replies added to those that there were
+pub record Adds {H : Type 0} (serves : H → Ask → Settled → H → Type 0) (before : H) (asks : List Ask) (after : H) (old new : List ℕ) : Type 0 where
+  pub bytes : List ℕ
+  pub run : Run serves before asks bytes after
+  pub added : new ≡ old ++ bytes
+
+-- the first of them were settled, and behind these came at most one call that found no memory
+pub record Halts {H : Type 0} (serves : H → Ask → Settled → H → Type 0) (skips : H → H → Type 0) (before : H) (asks : List Ask) (after : H) : Type 0 where
+  pub first : List Ask
+  pub others : List Ask
+  pub parts : asks ≡ first ++ others
+  pub last : H
+  pub bytes : List ℕ
+  pub run : Run serves before first bytes last
+  pub end : (after ≡ last) ⊎ skips last after
+
+-- the first of all messages were settled, and these are left
+pub record AddsFront {H : Type 0} (serves : H → Ask → Settled → H → Type 0) (before : H) (all : List Ask) (after : H) (left : List Ask) (old new : List ℕ) : Type 0 where
+  pub first : List Ask
+  pub parts : all ≡ first ++ left
+  pub adds : Adds serves before first after old new

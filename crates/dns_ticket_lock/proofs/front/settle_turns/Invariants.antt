@@ -1,0 +1,25 @@
+-- The first messages were settled, and those of the bytes that are left are to come.
+use Rattle.std.proofs.Common.{◌≡◌, ◌+◌, ◌*◌, ◌≤◌, [], length}
+use Rattle.dns_frames.specs.Frames.{frames}
+use Rattle.dns_server_core.specs.FrameRuns.{AddsFront}
+use Rattle.dns_ticket_lock.specs.Fronts.{asks_in}
+use Rattle.dns_ticket_lock.specs.Rule.{own}
+use Rattle.dns_ticket_lock.specs.Settling.{SettledAs}
+use Rattle.dns_ticket_lock.proofs.front.settle_turns.Given as goal
+
+abbrev pub invariant-loop-message : goal.invariant-loop-message
+invariant-loop-message g l =
+    record {
+      table : l.seat.table_id ≡ l.fn.seat.table_id;
+      idle : (l.seat.me.1 ≡ []) × (l.seat.me.0.phase ≡ 0) × (length l.seat.me.0.accounts ≡ 1);
+      low : (l.seat.me.0.low ≡ l.fn.seat.me.0.low) × (l.seat.me.0.terms ≡ l.fn.seat.me.0.terms);
+      seen : length (own l.seat.me.0.accounts).seen ≡ l.seen;
+      ask : l.ask ≡ record l.fn.ask { bytes = l.ask.bytes };
+      front : AddsFront (SettledAs g.K.Keeper.rows g.K.Keeper.faults l.fn.seat.me.0.terms l.access l.fn.ask.client) (own l.fn.seat.me.0.accounts) (asks_in l.fn.ask l.bytes) (own l.seat.me.0.accounts) (asks_in l.fn.ask l.left) l.fn.replies.items l.replies.items;
+      rest : (frames l.left).rest ≡ (frames l.bytes).rest;
+      count : l.messages + length (frames l.left).messages ≡ length (frames l.bytes).messages;
+      shorter : 2 * l.messages + length l.left ≤ length l.bytes;
+    }
+
+abbrev pub decreases-loop-message : goal.decreases-loop-message
+decreases-loop-message g l = length l.left

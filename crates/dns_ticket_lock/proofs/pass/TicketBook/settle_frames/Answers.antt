@@ -1,0 +1,89 @@
+-- What the turns of a seat come to for its pass.
+use Rattle.std.proofs.Common.{◌≡◌, ℕ, List, map, sym, ap, subst, subst₂, ◌∙◌}
+use Rattle.dns_frames.specs.Frames.{frames}
+use Rattle.dns_book.specs.declared.ask.Ask.{Ask}
+use Rattle.dns_server_core.specs.FrameRuns.{Adds, Halts}
+use Rattle.dns_ticket_lock.specs.declared.view.Account.{Account}
+use Rattle.dns_ticket_lock.specs.declared.view.Terms.{Terms}
+use Rattle.dns_ticket_lock.specs.declared.view.View.{View}
+use Rattle.dns_ticket_lock.specs.Fronts.{asks_in}
+use Rattle.dns_ticket_lock.specs.Rule.{own, view_of}
+use Rattle.dns_ticket_lock.specs.Settling.{SettledAs, LeftAs, asked_by}
+use Rattle.dns_ticket_lock.specs.Passes.{PassSeen, SettledBy, LeftBy}
+use Rattle.dns_ticket_lock.proofs.Fronts.{on_ok_map, on_err_map}
+use Rattle.dns_ticket_lock.proofs.Passing.{pass_of, same_pass, passes-adds, passes-halts}
+use Rattle.dns_ticket_lock.proofs.pass.TicketBook.settle_frames.Goals as goal
+
+pub returns-clause-book : goal.returns-clause-book
+returns-clause-book g c =
+    let inside = c.pass.inside in
+    let taken : c.replace-badge.result ≡ inside.badge = c.replace-badge.ensures.value in
+    c.into_badge.ensures.0 ∙ (c.settle_turns-answer.ensures.same ∙ (c.into_seat-seat.ensures.0 ∙ (ap (λ (x : _). x.table_id) taken ∙ ap (λ (x : PassSeen). x.book) c.pass.view_is)))
+
+pub returns-clause-ok : goal.returns-clause-ok
+returns-clause-ok g c =
+    let p : PassSeen = c.args.pass.now in
+    let inside = c.pass.inside in
+    let views : List View = c.into_badge.result.views in
+    let old : View = c.into_seat-seat.result.me.0 in
+    let new : View = c.settle_turns-answer.new.seat.me.0 in
+    let e = c.settle_turns-answer.ensures in
+    let i = c.into_seat-seat.ensures in
+    let b = c.into_badge.ensures in
+    let is : p ≡ record { book = inside.badge.table_id; terms = (view_of inside.badge.views).terms; number = inside.number; account = own (view_of inside.badge.views).accounts } = sym c.pass.view_is in
+    let taken : c.replace-badge.result ≡ inside.badge = c.replace-badge.ensures.value in
+    let view : view_of inside.badge.views ≡ old = ap (λ (x : _). view_of x.views) (sym taken) ∙ ap view_of i.2 in
+    let view2 : view_of views ≡ new = ap view_of b.2 in
+    let terms : p.terms ≡ old.terms = ap (λ (x : PassSeen). x.terms) is ∙ ap (λ (x : View). x.terms) view in
+    let client : c.replace-client.new.dest ≡ p.number = c.replace-client.ensures.after ∙ sym (ap (λ (x : PassSeen). x.number) is) in
+    let before : record p { account = own old.accounts } ≡ p = ap (λ (a : Account). record p { account = a }) (sym (ap (λ (x : PassSeen). x.account) is ∙ ap (λ (x : View). own x.accounts) view)) in
+    let after : pass_of c.into_badge.result.table_id (view_of views).terms inside.number (own (view_of views).accounts) ≡ record p { account = own new.accounts } =
+    same_pass p.book c.into_badge.result.table_id p.terms (view_of views).terms p.number inside.number (own new.accounts) (own (view_of views).accounts)
+    (b.0 ∙ (e.same ∙ (i.0 ∙ (ap (λ (x : _). x.table_id) taken ∙ sym (ap (λ (x : PassSeen). x.book) is)))))
+    (ap (λ (x : View). x.terms) view2 ∙ (e.low.1 ∙ sym terms))
+    (sym (ap (λ (x : PassSeen). x.number) is))
+    (ap (λ (x : View). own x.accounts) view2) in
+    let by : Terms → ℕ → _ = λ t n. SettledAs g.K.Keeper.rows g.K.Keeper.faults t c.args.access.now n in
+    let by_pass = SettledBy g.K.Keeper.rows g.K.Keeper.faults c.args.access.now in
+    let asks : List Ask = map (λ m. record c.args.ask.now { bytes = m }) (frames c.args.bytes.now).messages in
+    let had = c.args.replies.now.items in
+    let now = c.settle_turns-answer.new.replies.items in
+    on_ok_map c.settle_turns-answer.result _ _
+    (λ x.
+    let numbered = subst (λ (n : ℕ). Adds (by old.terms n) (own old.accounts) (asks_in (asked_by n c.args.ask.now) c.args.bytes.now) (own new.accounts) had now) client x in
+    let mine = subst (λ (t : Terms). Adds (by t p.number) (own old.accounts) (asks_in (asked_by p.number c.args.ask.now) c.args.bytes.now) (own new.accounts) had now) (sym terms) numbered in
+    subst₂ (λ (one other : PassSeen). Adds by_pass one asks other had now) before (sym after)
+    (passes-adds g.K.Keeper.rows g.K.Keeper.faults c.args.access.now p c.args.ask.now c.args.bytes.now (own old.accounts) (own new.accounts) had now mine)) e.ok
+
+pub returns-clause-err : goal.returns-clause-err
+returns-clause-err g c =
+    let p : PassSeen = c.args.pass.now in
+    let inside = c.pass.inside in
+    let views : List View = c.into_badge.result.views in
+    let old : View = c.into_seat-seat.result.me.0 in
+    let new : View = c.settle_turns-answer.new.seat.me.0 in
+    let e = c.settle_turns-answer.ensures in
+    let i = c.into_seat-seat.ensures in
+    let b = c.into_badge.ensures in
+    let is : p ≡ record { book = inside.badge.table_id; terms = (view_of inside.badge.views).terms; number = inside.number; account = own (view_of inside.badge.views).accounts } = sym c.pass.view_is in
+    let taken : c.replace-badge.result ≡ inside.badge = c.replace-badge.ensures.value in
+    let view : view_of inside.badge.views ≡ old = ap (λ (x : _). view_of x.views) (sym taken) ∙ ap view_of i.2 in
+    let view2 : view_of views ≡ new = ap view_of b.2 in
+    let terms : p.terms ≡ old.terms = ap (λ (x : PassSeen). x.terms) is ∙ ap (λ (x : View). x.terms) view in
+    let client : c.replace-client.new.dest ≡ p.number = c.replace-client.ensures.after ∙ sym (ap (λ (x : PassSeen). x.number) is) in
+    let before : record p { account = own old.accounts } ≡ p = ap (λ (a : Account). record p { account = a }) (sym (ap (λ (x : PassSeen). x.account) is ∙ ap (λ (x : View). own x.accounts) view)) in
+    let after : pass_of c.into_badge.result.table_id (view_of views).terms inside.number (own (view_of views).accounts) ≡ record p { account = own new.accounts } =
+    same_pass p.book c.into_badge.result.table_id p.terms (view_of views).terms p.number inside.number (own new.accounts) (own (view_of views).accounts)
+    (b.0 ∙ (e.same ∙ (i.0 ∙ (ap (λ (x : _). x.table_id) taken ∙ sym (ap (λ (x : PassSeen). x.book) is)))))
+    (ap (λ (x : View). x.terms) view2 ∙ (e.low.1 ∙ sym terms))
+    (sym (ap (λ (x : PassSeen). x.number) is))
+    (ap (λ (x : View). own x.accounts) view2) in
+    let by : Terms → ℕ → _ = λ t n. SettledAs g.K.Keeper.rows g.K.Keeper.faults t c.args.access.now n in
+    let by_pass = SettledBy g.K.Keeper.rows g.K.Keeper.faults c.args.access.now in
+    let asks : List Ask = map (λ m. record c.args.ask.now { bytes = m }) (frames c.args.bytes.now).messages in
+    on_err_map c.settle_turns-answer.result _ _
+    (λ x.
+    let numbered = subst (λ (n : ℕ). Halts (by old.terms n) LeftAs (own old.accounts) (asks_in (asked_by n c.args.ask.now) c.args.bytes.now) (own new.accounts)) client x in
+    let mine = subst (λ (t : Terms). Halts (by t p.number) LeftAs (own old.accounts) (asks_in (asked_by p.number c.args.ask.now) c.args.bytes.now) (own new.accounts)) (sym terms) numbered in
+    subst₂ (λ (one other : PassSeen). Halts by_pass LeftBy one asks other) before (sym after)
+    (passes-halts g.K.Keeper.rows g.K.Keeper.faults c.args.access.now p c.args.ask.now c.args.bytes.now (own old.accounts) (own new.accounts) mine)) e.err

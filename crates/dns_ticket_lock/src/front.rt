@@ -1,0 +1,294 @@
+//! Messages of a connection that are settled in one turn, so that threads which have many to settle do not hand the book to and fro for
+//! each.
+
+ghost use Rattle.std.specs.Prelude.{◌≡◌, ℕ, ◌+◌, ◌*◌, ◌<◌, ◌≤◌, ◌^◌, ◌⊎◌, ◌||◌, true, false, None, [], List, length, map, slice_set, IfOk, IfSome, OnOk, OnErr};
+ghost use mathlib.Core.Option.{some};
+ghost use lib.ListN.{get_elem?};
+ghost use Rattle.dns_io.specs.Edge.{Rose};
+ghost use Rattle.dns_keeper.specs.declared.row.Row.{Row};
+ghost use Rattle.dns_book.specs.Into.{SettlesInto};
+ghost use Rattle.dns_book.specs.Book.{Settles, IsLeft};
+ghost use Rattle.dns_frames.specs.Frames.{frames};
+ghost use Rattle.dns_server_core.specs.FrameRuns.{Adds, AddsFront, Halts};
+ghost use Rattle.dns_ticket_lock.specs.declared.view.Account.{Account};
+ghost use Rattle.dns_ticket_lock.specs.declared.view.Terms.{Terms};
+ghost use Rattle.dns_ticket_lock.specs.Fronts.{asks_in, nothing_told};
+ghost use Rattle.dns_ticket_lock.specs.Lists.{StartsWith};
+ghost use Rattle.dns_ticket_lock.specs.Naming.{Advances, NamesRows};
+ghost use Rattle.dns_ticket_lock.specs.Passes.{SettledBy, LeftBy};
+ghost use Rattle.dns_ticket_lock.specs.Rule.{own, settled};
+ghost use Rattle.dns_ticket_lock.specs.Settling.{HasTerms, SettledAs, LeftAs, done_by, receipt_in};
+ghost use Rattle.dns_ticket_lock.specs.Shares.{last};
+
+use crate::held::{Held, Told, member_after, settle_book};
+use crate::pass::{Pass, TicketBook};
+use crate::steps::Board;
+use crate::turns::{begin_turn, end_turn};
+use crate::view::View;
+use atomic_table::{Badge, Seat};
+use dns_book::{AccessControl, Ask, Book, SettledInto};
+use dns_frames::first_frame;
+use dns_io::OutOfMemory;
+use dns_keeper::Keeper;
+use dns_server_core::{Answered, refill};
+use std::alloc::Global;
+use std::mem;
+use std::sync::Wait;
+
+/// The most messages that are settled in one turn, so that those who wait need not wait long.
+const MOST: u64 = 64;
+
+/// How many messages were settled, and the bytes behind them.
+#[derive(Clone, Copy)]
+pub(crate) struct Front<'a> {
+    messages: u64,
+    left: &'a [u8],
+}
+
+/// What stands for a settle that did nothing to the rows and counted no fault.
+fn nothing_told() -> Told
+    ensures { result ≡ nothing_told }
+{
+    Told {
+        receipt: None,
+        count: 0,
+        rise: 0,
+        mark: false,
+    }
+}
+
+/// Whether a turn goes on behind so many messages, of which this is told of the last: it has not had the most, and nothing was done to the
+/// rows and no fault counted.
+fn goes_on(messages: u64, told: &Told) -> bool
+    ensures { result ≡ true → (told.now.receipt ≡ None) × (told.now.rise ≡ 0) × (told.now.mark ≡ false) }
+{
+    messages < MOST && told.receipt.is_none() && told.rise == 0 && !told.mark
+}
+
+/// Settles a message by the book, as `ask`, in whose buffer it is put.
+fn settle_next<K: Keeper>(
+    book: &mut Book<K>,
+    alloc: Global,
+    access: &AccessControl,
+    ask: &mut Ask,
+    message: &[u8],
+    replies: &mut Vec<u8>,
+) -> (Result<SettledInto, OutOfMemory>, Told)
+    requires moment { ask.old.at < 2 ^ 47 }
+    requires bytes { length message.now ≤ 65535 }
+    ensures ok { IfOk result.0 (SettlesInto (λ settled. Settles K.rows K.faults access.now book.old (record ask.old { bytes = message.now }) settled book.new) true replies.old.items replies.new.items) }
+    ensures err { OnErr result.0 (IsLeft K.rows K.faults book.old book.new) }
+    ensures advances { Advances K.rows K.faults ask.old.client book.old result.1.receipt result.1.count book.new }
+    ensures receipt { result.1.receipt ≡ receipt_in result.0 }
+    ensures rise { K.faults book.old.keeper + result.1.rise ≡ K.faults book.new.keeper }
+    ensures rose { OnOk result.0 (Rose (K.faults book.old.keeper) (K.faults book.new.keeper) → (0 < result.1.rise) ⊎ (result.1.mark ≡ true)) }
+    ensures mark { result.1.mark ≡ true → K.faults book.old.keeper ≡ last }
+    ensures ask { ask.new ≡ record ask.old { bytes = ask.new.bytes } }
+{
+    let Ok(()) = refill(alloc, &mut ask.bytes, message) else {
+        return (Err(OutOfMemory), nothing_told());
+    };
+    settle_book(book, access, &*ask, replies, true)
+}
+
+/// Settles messages at the front of these bytes by the book, at least one: up to the first that adds rows or counts a fault, and no more than
+/// a turn may have. Tells what the last of them did.
+fn settle_front<'a, K: Keeper>(
+    book: &mut Book<K>,
+    alloc: Global,
+    access: &AccessControl,
+    ask: &mut Ask,
+    bytes: &'a [u8],
+    replies: &mut Vec<u8>,
+) -> (Result<Front<'a>, OutOfMemory>, Told)
+    requires moment { ask.old.at < 2 ^ 47 }
+    requires some { 0 < length (frames bytes.now).messages }
+    ensures ok { IfOk result.0 (λ f. (t : Terms) (rows : List Row) (a : Account) → HasTerms t book.old → NamesRows K.rows book.old rows → StartsWith rows a.seen
+        → AddsFront (SettledAs K.rows K.faults t access.now ask.old.client) a (asks_in ask.old bytes.now) (settled rows (done_by K.rows ask.old.client rows book.new result.1) a) (asks_in ask.old f.left.now) replies.old.items replies.new.items) }
+    ensures err { OnErr result.0 ((t : Terms) (rows : List Row) (a : Account) → HasTerms t book.old → NamesRows K.rows book.old rows → StartsWith rows a.seen
+        → Halts (SettledAs K.rows K.faults t access.now ask.old.client) LeftAs a (asks_in ask.old bytes.now) (settled rows (done_by K.rows ask.old.client rows book.new result.1) a)) }
+    ensures some { IfOk result.0 (λ f. 0 < f.messages) }
+    ensures count { IfOk result.0 (λ f. f.messages + length (frames f.left.now).messages ≡ length (frames bytes.now).messages) }
+    ensures rest { IfOk result.0 (λ f. (frames f.left.now).rest ≡ (frames bytes.now).rest) }
+    ensures shorter { IfOk result.0 (λ f. 2 * f.messages + length f.left.now ≤ length bytes.now) }
+    ensures advances { Advances K.rows K.faults ask.old.client book.old result.1.receipt result.1.count book.new }
+    ensures rise { K.faults book.old.keeper + result.1.rise ≡ K.faults book.new.keeper }
+    ensures mark { result.1.mark ≡ true → K.faults book.old.keeper ≡ last }
+    ensures ask { ask.new ≡ record ask.old { bytes = ask.new.bytes } }
+{
+    let mut left = bytes;
+    let mut messages = 0;
+    while let Some((message, after)) = first_frame(left) {
+        let (answer, told) = settle_next(book, alloc, access, ask, message, replies);
+        let Ok(_settled) = answer else {
+            return (Err(OutOfMemory), told);
+        };
+        left = after;
+        messages += 1;
+        if !goes_on(messages, &told) {
+            return (Ok(Front { messages, left }), told);
+        }
+    }
+    (Ok(Front { messages, left }), nothing_told())
+}
+
+/// Settles messages as `settle_front` by the number low + 1, and adds to its member what they did to the keeper's count of faults.
+fn settle_held_front<'a, K: Keeper>(
+    held: &mut Held<K>,
+    low: usize,
+    alloc: Global,
+    access: &AccessControl,
+    ask: &mut Ask,
+    bytes: &'a [u8],
+    replies: &mut Vec<u8>,
+) -> (Result<Front<'a>, OutOfMemory>, Told)
+    requires moment { ask.old.at < 2 ^ 47 }
+    requires some { 0 < length (frames bytes.now).messages }
+    requires low { low < length held.old.members.items }
+    ensures ok { IfOk result.0 (λ f. (t : Terms) (rows : List Row) (a : Account) → HasTerms t held.old.book → NamesRows K.rows held.old.book rows → StartsWith rows a.seen
+        → AddsFront (SettledAs K.rows K.faults t access.now ask.old.client) a (asks_in ask.old bytes.now) (settled rows (done_by K.rows ask.old.client rows held.new.book result.1) a) (asks_in ask.old f.left.now) replies.old.items replies.new.items) }
+    ensures err { OnErr result.0 ((t : Terms) (rows : List Row) (a : Account) → HasTerms t held.old.book → NamesRows K.rows held.old.book rows → StartsWith rows a.seen
+        → Halts (SettledAs K.rows K.faults t access.now ask.old.client) LeftAs a (asks_in ask.old bytes.now) (settled rows (done_by K.rows ask.old.client rows held.new.book result.1) a)) }
+    ensures some { IfOk result.0 (λ f. 0 < f.messages) }
+    ensures count { IfOk result.0 (λ f. f.messages + length (frames f.left.now).messages ≡ length (frames bytes.now).messages) }
+    ensures rest { IfOk result.0 (λ f. (frames f.left.now).rest ≡ (frames bytes.now).rest) }
+    ensures shorter { IfOk result.0 (λ f. 2 * f.messages + length f.left.now ≤ length bytes.now) }
+    ensures advances { Advances K.rows K.faults ask.old.client held.old.book result.1.receipt result.1.count held.new.book }
+    ensures members { (m : _) → get_elem? held.old.members.items low ≡ some m → held.new.members.items ≡ slice_set held.old.members.items low (record { share = m.share + result.1.rise; mark = m.mark || result.1.mark }) }
+    ensures start { held.new.start ≡ held.old.start }
+    ensures ask { ask.new ≡ record ask.old { bytes = ask.new.bytes } }
+{
+    let (answer, told) = settle_front(&mut held.book, alloc, access, ask, bytes, replies);
+    let _faults = held.book.fault_count();
+    let member = held.members[low];
+    held.members[low] = member_after(member, told.rise, told.mark);
+    (answer, told)
+}
+
+/// One turn of a seat with one account, for messages at the front of these bytes. Tells how many rows there are then.
+fn settle_turn<'a, K: Keeper, R: Wait>(
+    rt: &R,
+    board: &Board<Box<Held<K>>>,
+    seat: &mut Seat<Option<Box<Held<K>>>, View>,
+    alloc: Global,
+    access: &AccessControl,
+    ask: &mut Ask,
+    bytes: &'a [u8],
+    replies: &mut Vec<u8>,
+) -> (Result<Front<'a>, OutOfMemory>, u64)
+    requires board { (board.now.table_id.words ≡ 3) × (board.now.table_id.slots ≡ 1) × (seat.old.table_id ≡ board.now.table_id) }
+    requires idle { (seat.old.me.1 ≡ []) × (seat.old.me.0.phase ≡ 0) × (length seat.old.me.0.accounts ≡ 1) }
+    requires number { ask.old.client ≡ seat.old.me.0.low + 1 }
+    requires moment { ask.old.at < 2 ^ 47 }
+    requires some { 0 < length (frames bytes.now).messages }
+    ensures same { seat.new.table_id ≡ seat.old.table_id }
+    ensures idle { (seat.new.me.1 ≡ []) × (seat.new.me.0.phase ≡ 0) × (length seat.new.me.0.accounts ≡ 1) }
+    ensures low { (seat.new.me.0.low ≡ seat.old.me.0.low) × (seat.new.me.0.terms ≡ seat.old.me.0.terms) }
+    ensures seen { length (own seat.new.me.0.accounts).seen ≡ result.1 }
+    ensures ok { IfOk result.0 (λ f. AddsFront (SettledAs K.rows K.faults seat.old.me.0.terms access.now ask.old.client) (own seat.old.me.0.accounts) (asks_in ask.old bytes.now) (own seat.new.me.0.accounts) (asks_in ask.old f.left.now) replies.old.items replies.new.items) }
+    ensures err { OnErr result.0 (Halts (SettledAs K.rows K.faults seat.old.me.0.terms access.now ask.old.client) LeftAs (own seat.old.me.0.accounts) (asks_in ask.old bytes.now) (own seat.new.me.0.accounts)) }
+    ensures some { IfOk result.0 (λ f. 0 < f.messages) }
+    ensures count { IfOk result.0 (λ f. f.messages + length (frames f.left.now).messages ≡ length (frames bytes.now).messages) }
+    ensures rest { IfOk result.0 (λ f. (frames f.left.now).rest ≡ (frames bytes.now).rest) }
+    ensures shorter { IfOk result.0 (λ f. 2 * f.messages + length f.left.now ≤ length bytes.now) }
+    ensures ask { ask.new ≡ record ask.old { bytes = ask.new.bytes } }
+{
+    let low = ask.client as usize - 1;
+    let mut held = begin_turn(rt, board, seat);
+    let (answer, told) = settle_held_front(held.as_mut(), low, alloc, access, ask, bytes, replies);
+    let rows = held.book.journal_len();
+    end_turn(board, seat, held, &told);
+    (answer, rows)
+}
+
+/// As many turns of a seat with one account as the whole messages at the front of these bytes take. `seen` is how many rows the account has
+/// seen.
+fn settle_turns<K: Keeper, R: Wait>(
+    rt: &R,
+    board: &Board<Box<Held<K>>>,
+    seat: &mut Seat<Option<Box<Held<K>>>, View>,
+    seen: &mut u64,
+    alloc: Global,
+    access: &AccessControl,
+    ask: &mut Ask,
+    bytes: &[u8],
+    replies: &mut Vec<u8>,
+) -> Result<Answered, OutOfMemory>
+    requires board { (board.now.table_id.words ≡ 3) × (board.now.table_id.slots ≡ 1) × (seat.old.table_id ≡ board.now.table_id) }
+    requires idle { (seat.old.me.1 ≡ []) × (seat.old.me.0.phase ≡ 0) × (length seat.old.me.0.accounts ≡ 1) }
+    requires number { ask.old.client ≡ seat.old.me.0.low + 1 }
+    requires moment { ask.old.at < 2 ^ 47 }
+    requires seen { length (own seat.old.me.0.accounts).seen ≡ seen.old }
+    ensures same { seat.new.table_id ≡ seat.old.table_id }
+    ensures idle { (seat.new.me.1 ≡ []) × (seat.new.me.0.phase ≡ 0) × (length seat.new.me.0.accounts ≡ 1) }
+    ensures low { (seat.new.me.0.low ≡ seat.old.me.0.low) × (seat.new.me.0.terms ≡ seat.old.me.0.terms) }
+    ensures seen { length (own seat.new.me.0.accounts).seen ≡ seen.new }
+    ensures ok { OnOk result (Adds (SettledAs K.rows K.faults seat.old.me.0.terms access.now ask.old.client) (own seat.old.me.0.accounts) (asks_in ask.old bytes.now) (own seat.new.me.0.accounts) replies.old.items replies.new.items) }
+    ensures err { OnErr result (Halts (SettledAs K.rows K.faults seat.old.me.0.terms access.now ask.old.client) LeftAs (own seat.old.me.0.accounts) (asks_in ask.old bytes.now) (own seat.new.me.0.accounts)) }
+    ensures count { IfOk result (λ a. a.messages ≡ length (frames bytes.now).messages) }
+    ensures rest { IfOk result (λ a. a.rest ≡ length (frames bytes.now).rest) }
+    ensures shorter { IfOk result (λ a. 2 * a.messages + a.rest ≤ length bytes.now) }
+    ensures ask { ask.new ≡ record ask.old { bytes = ask.new.bytes } }
+{
+    let mut left = bytes;
+    let mut messages = 0;
+    while let Some((_message, _after)) = first_frame(left) {
+        let (answer, rows) = settle_turn(rt, board, seat, alloc, access, ask, left, replies);
+        *seen = rows;
+        let front = answer?;
+        left = front.left;
+        messages += front.messages;
+    }
+    Ok(Answered {
+        messages,
+        rest: left.len(),
+    })
+}
+
+impl<K: Keeper> TicketBook<K> {
+    /// Settles, in order, the whole messages at the front of what came over a connection, each behind its length, as
+    /// [`TicketBook::settle_into`] does each, and adds the replies that they are owed, each behind its length. Each is asked as `ask`, whose
+    /// buffer is used for one after the other.
+    ///
+    /// One turn serves several of them, up to one that adds rows or counts a fault.
+    pub fn settle_frames<R: Wait>(
+        &self,
+        rt: &R,
+        pass: &mut Pass,
+        alloc: Global,
+        access: &AccessControl,
+        ask: &mut Ask,
+        bytes: &[u8],
+        replies: &mut Vec<u8>,
+    ) -> Result<Answered, OutOfMemory>
+        requires pass { pass.old.book ≡ self.now.id }
+        requires moment { ask.old.at < 2 ^ 47 }
+        ensures book { pass.new.book ≡ pass.old.book }
+        ensures ok { OnOk result (Adds (SettledBy K.rows K.faults access.now) pass.old (map (λ m. record ask.old { bytes = m }) (frames bytes.now).messages) pass.new replies.old.items replies.new.items) }
+        ensures count { IfOk result (λ a. a.messages ≡ length (frames bytes.now).messages) }
+        ensures rest { IfOk result (λ a. a.rest ≡ length (frames bytes.now).rest) }
+        ensures shorter { IfOk result (λ a. 2 * a.messages + a.rest ≤ length bytes.now) }
+        ensures err { OnErr result (Halts (SettledBy K.rows K.faults access.now) LeftBy pass.old (map (λ m. record ask.old { bytes = m }) (frames bytes.now).messages) pass.new) }
+        ensures ask { ask.new ≡ record ask.old { bytes = ask.new.bytes } }
+    {
+        let client = mem::replace(&mut ask.client, pass.number);
+        let badge = mem::replace(&mut pass.badge, Badge::blank());
+        let mut seat: Seat<Option<Box<Held<K>>>, View> = badge.into_seat();
+        let mut seen = pass.seen;
+        let answer = settle_turns(
+            rt,
+            &self.table.shared,
+            &mut seat,
+            &mut seen,
+            alloc,
+            access,
+            ask,
+            bytes,
+            replies,
+        );
+        pass.badge = seat.into_badge();
+        pass.seen = seen;
+        ask.client = client;
+        answer
+    }
+}
