@@ -3,8 +3,8 @@
 
 dig, kdig and dnspython ask hits, aliases, referrals, wildcards and negatives, with and without EDNS, over UDP and TCP, and an answer
 that is too long for UDP; dnsperf asks the same with many under way; nsupdate sends each kind of prerequisite, and adds and deletes; a restart on the same journal shows what was
-acknowledged. Then the program is killed under streams of updates, and what was answered NoError has to be there afterwards; and of 900
-connections 800 come at once and the last hundred when there is room, half of which send single bytes or nothing. A client that is not installed is skipped, with a line.
+acknowledged. Then the program is killed under streams of updates, and what was answered NoError has to be there afterwards; and 900
+connections come at once, and a hundred behind them, half of which send a single byte or nothing. A client that is not installed is skipped, with a line.
 
   clients.py [KILLS [CONNECTIONS]]  that many kills and connections, or 50 and 900
 
@@ -399,10 +399,10 @@ def kills(count):
 
 
 def crowd(server, count):
-    """So many connections at once: each second one of the last hundred is silent, or sends single bytes; the others ask and are answered. The
-    last hundred come when the system's queue has room: of those that it has no room for it forgets one that sends nothing."""
+    """So many connections at once, which ask and are answered, and a hundred behind them, of which each second one is silent or sends a single
+    byte. These come when the system's queue has room: of those that it has no room for it forgets one that sends nothing."""
     message = framed(wire.query("www.example.com.", "A"))
-    last = count - 100
+    last, count = count, count + 100
     idle = set(range(last, count, 2))
     selector = selectors.DefaultSelector()
     streams, answered, ended = [], 0, 0
@@ -483,7 +483,7 @@ def main():
     except Wrong as wrong:
         print(f"clients: {wrong}")
         sys.exit(1)
-    print(f"clients: {count} exchanges passed, {acknowledged_} updates outlived {kills_} kills, {connections} connections, 0 failed")
+    print(f"clients: {count} exchanges passed, {acknowledged_} updates outlived {kills_} kills, {connections} connections at once, 0 failed")
 
 
 if __name__ == "__main__":
