@@ -452,9 +452,10 @@ fn numbered_type(word: &Word<'_>) -> Option<u16>
     Some(number)
 }
 
-/// The type that a word writes.
+/// The type that a word writes, by its name, in capitals or not, or as `TYPE` and its number (RFC 3597 5); none where it
+/// writes none, or one that no record of a zone has (RFC 6895 3.1).
 #[tactic(auto, unfolding(crate::specs::DataText::type_of))]
-pub(crate) fn type_of(word: &Word<'_>) -> Option<WrittenType>
+pub fn type_of(word: &Word<'_>) -> Option<WrittenType>
     ensures { result ≡ type_of word.now }
 {
     match named_type(word) {

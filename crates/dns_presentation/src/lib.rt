@@ -12,7 +12,7 @@ mod typed_data;
 mod values;
 mod words;
 
-pub use data_text::WrittenType;
+pub use data_text::{WrittenType, type_of};
 pub use entry::{Context, Entry, entry_of};
 pub use fault::{EntryFault, EntryKind};
 pub use lines::split_line;

@@ -23,7 +23,7 @@ impl<'a> Model for Word<'a> {
 
 impl<'a> Word<'a> {
     /// A word out of quotes.
-    pub(crate) fn plain(text: &'a [u8]) -> Word<'a>
+    pub fn plain(text: &'a [u8]) -> Word<'a>
         ensures { result ≡ record { quoted = false; text = text.now } }
     {
         Word {
