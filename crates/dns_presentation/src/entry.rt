@@ -327,8 +327,9 @@ fn leading_ttl(words: &[Word<'_>]) -> Result<Option<u32>, EntryFault>
     }
 }
 
-/// The TTL that stands before the type, before or behind the class.
-fn stated_ttl(words: &[Word<'_>]) -> Result<Option<u32>, EntryFault>
+/// The TTL that stands before the type, before or behind the class, in the words behind an owner; a word there that begins
+/// with a digit and is no time is at fault (`Ttl`).
+pub fn stated_ttl(words: &[Word<'_>]) -> Result<Option<u32>, EntryFault>
     ensures { ReadsAs (λ ttl. ttl) result (stated_ttl words.now) }
 {
     match words {
