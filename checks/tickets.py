@@ -13,7 +13,7 @@ from pathlib import Path
 
 import ticket_model
 
-TESTS = Path(__file__).resolve().parent.parent / "crates" / "dns_ticket_tests" / "src" / "tickets.rt"
+TESTS = Path(__file__).resolve().parent.parent / "crates" / "dns_tests" / "src" / "tickets.rt"
 LISTS = 5_000
 TABLE = re.compile(r'const LISTS: &str =\s*"([^"]*)";')
 

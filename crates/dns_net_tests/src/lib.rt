@@ -1,11 +1,9 @@
-//! Tests of dns_net by its public calls.
+//! Tests of dns_quic, dns_multicast, dns_runtime, dns_net and dns_gateway by their public calls.
 #![tactic(auto)]
 
 #[cfg(test)]
-mod bodies;
+mod gateway;
 #[cfg(test)]
-mod clients;
+mod net;
 #[cfg(test)]
-mod header_objects;
-#[cfg(test)]
-mod requests;
+mod streams;

@@ -1,15 +1,15 @@
-//! Tests of dns_keeper, dns_book and dns_server_core by their public calls.
+//! Tests of dns_keeper, dns_book, dns_server_core, dns_ticket_lock, dns_requests and dns_server by their public calls.
 #![tactic(auto)]
 
 #[cfg(test)]
 mod book;
 #[cfg(test)]
-mod buffers;
+mod faults;
 #[cfg(test)]
-mod journal;
+mod given;
 #[cfg(test)]
-mod opening;
+mod lock;
 #[cfg(test)]
-mod server;
+mod requests;
 #[cfg(test)]
-mod updates;
+mod threads;

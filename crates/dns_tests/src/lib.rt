@@ -1,15 +1,9 @@
-//! Tests of the lower libraries by their public calls: vectors from outside, printed texts, and that calls succeed with ample
-//! memory. They stand in a crate of their own, since a crate with tests is proved once more for them. What the program's
-//! words and event lines reach is a case in checks/cases instead.
+//! Tests of dns_io, dns_name, dns_wire, dns_frames, dns_counts, dns_ports and dns_ticket_world by their public calls.
 #![tactic(auto)]
 
 #[cfg(test)]
-mod counts;
+mod messages;
 #[cfg(test)]
-mod frames;
+mod ports;
 #[cfg(test)]
-mod io;
-#[cfg(test)]
-mod name;
-#[cfg(test)]
-mod wire;
+mod tickets;

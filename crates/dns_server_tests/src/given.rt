@@ -1,0 +1,41 @@
+//! The book that is served.
+
+ghost use Rattle.std.specs.Prelude.{◌≡◌, IfOk};
+ghost use Rattle.dns_name.specs.Name.{fold_of};
+
+use dns_book::Book;
+use dns_keeper::MemoryKeeper;
+use dns_name::Name;
+use dns_name::name_laws::folded_names;
+use dns_zone::read_zone;
+use std::alloc::Global;
+use std::test::Fail;
+
+/// Seven records.
+const ZONE: &str =
+    "example.com. 3600 IN SOA ns.example.com. hostmaster.example.com. 7 3600 600 86400 300
+example.com. 3600 IN NS ns.example.com.
+ns.example.com. 3600 IN A 192.0.2.53
+www.example.com. 3600 IN A 192.0.2.1
+alias.example.com. 3600 IN CNAME www.example.com.
+*.wild.example.com. 3600 IN TXT \"w\"
+sub.example.com. 3600 IN NS ns.sub.example.com.
+";
+
+pub(crate) fn origin(alloc: Global) -> Result<Name, Fail>
+    ensures { IfOk result (λ name. fold_of name ≡ name) }
+{
+    folded_names();
+    Ok(Name::parse(alloc, "example.com.")?.folded(alloc)?)
+}
+
+/// A book that was begun on a journal without rows, of which the append calls with these numbers fail; it lets updates in.
+pub(crate) fn book(alloc: Global, failing: Vec<u64>) -> Result<Book<MemoryKeeper>, Fail> {
+    let origin = origin(alloc)?;
+    let zone = read_zone(alloc, ZONE.as_bytes(), &origin)?;
+    let keeper = MemoryKeeper::failing(alloc, failing, Vec::new(alloc));
+    match Book::open(alloc, keeper, origin, true, 0, Some(zone)) {
+        Ok(book) => Ok(book),
+        Err(_) => Err(Fail::from("not opened")),
+    }
+}

@@ -1,0 +1,5 @@
+//! Tests of dns_ticket_lock by its public calls.
+
+mod book;
+mod four;
+mod two;
