@@ -5,9 +5,10 @@
 Each is an edit: a line 'file: PATH' and then pairs of lines 'old: TEXT' and 'new: TEXT'. It applies where each old text stands in
 that file exactly once, with what the pairs before it changed. To see that takes no proof.
 
-  wrong_bodies.py          sees that all of them apply
-  wrong_bodies.py NAME..   then tries those beside the gate's, of the crates of these names
-  wrong_bodies.py --all    and of every crate
+  wrong_bodies.py              sees that all of them apply
+  wrong_bodies.py NAME..       then tries those beside the gate's, of the crates of these names
+  wrong_bodies.py --since REV  and of the crates whose code or definitions have changed since that revision
+  wrong_bodies.py --all        and of every crate
 
 They are tried by rt must-fail on a copy of what git tracks, as it stands now, in a folder of its own: the crates below are built there
 first, a crate is proved once more before its first one, and each takes 20 to 60 seconds then. The status is that of rt. The first form is
@@ -101,9 +102,27 @@ def tried(crates):
         return subprocess.run(["rt", "must-fail", *crates], cwd=folder).returncode
 
 
+def changed_since(revision):
+    """The names of the crates whose code or definitions differ, in the working tree, from those of a revision."""
+    listed = subprocess.run(["git", "diff", "--name-only", revision, "--", "crates"], cwd=TOP, stdout=subprocess.PIPE, text=True)
+    if listed.returncode:
+        sys.exit(f"wrong_bodies.py: {revision} names no revision")
+    parts = [name.split("/") for name in listed.stdout.splitlines()]
+    return {part[1] for part in parts if len(part) > 3 and part[2] in ("src", "specs")}
+
+
+def asked_for(words, more):
+    """The crates that the words name."""
+    if words == ["--all"]:
+        return more
+    if len(words) == 2 and words[0] == "--since":
+        return sorted(changed_since(words[1]) & set(more))
+    return words
+
+
 def main():
     more = crates_with(MORE)
-    crates = more if sys.argv[1:] == ["--all"] else sys.argv[1:]
+    crates = asked_for(sys.argv[1:], more)
     without = [name for name in crates if name not in more]
     if without:
         sys.exit(f"wrong_bodies.py: there is no folder crates/{without[0]}/{MORE}")
