@@ -1,6 +1,4 @@
-mod Decimals
 mod EventWords
-mod Keys
 mod TextsRead
 mod TextsWritten
 mod Told

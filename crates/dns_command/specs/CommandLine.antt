@@ -1,5 +1,5 @@
 -- The words of the command line.
-use Rattle.std.specs.Prelude.{ℕ, ◌^◌, ◌==◌, List, [], ◌∷◌, Option, Some, None, is_some, Bool, true, false, nat_lt, nat_le, length, take, drop, count_by, ◌&&◌, ◌||◌, if◌then◌else◌, Result, Ok, Err, codes}
+use Rattle.std.specs.Prelude.{ℕ, ◌^◌, ◌==◌, List, [], ◌∷◌, Option, Some, None, is_some, Bool, true, false, nat_lt, nat_le, length, drop, count_by, ◌&&◌, ◌||◌, if◌then◌else◌, Result, Ok, Err, codes}
 use Rattle.std.specs.List.{list_all, list_any, filter_map}
 use Rattle.std.specs.Option.{option_map, option_map_or, option_and_then}
 use Rattle.std.specs.Str.{bytes_eq}
@@ -13,17 +13,9 @@ use Rattle.dns_command.specs.declared.command_line.Action.{Action}
 use Rattle.dns_command.specs.declared.command_line.Action.TheVariants.{Help, Version, Command}
 use Rattle.dns_command.specs.declared.command_line.Options.{Options}
 use Rattle.dns_command.specs.declared.command_line.Drawn.{Drawn}
-use Rattle.dns_command.specs.EventText.{decimal_of}
+use Rattle.dns_words.specs.Values.{decimal_of}
+use Rattle.dns_words.specs.Keys.{behind, first_behind}
 use Rattle.dns_generator.specs.Requests.{origin_name}
-
--- what follows a key at the beginning of a word
-abbrev pub behind : List ℕ → List ℕ → Option (List ℕ)
-behind key word = if bytes_eq (take (length key) word) key then Some (drop (length key) word) else None
-
--- what follows a key in the first word that begins with it
-abbrev pub first_behind : List ℕ → List (List ℕ) → Option (List ℕ)
-first_behind key [] = None
-first_behind key (word ∷ words) = elim (behind key word) [ Some rest ↦ Some rest | None ↦ first_behind key words ]
 
 -- the path that a key names: what follows it in the first word behind the command and the origin that begins with it
 abbrev pub path_of : List ℕ → List (List ℕ) → Option (List ℕ)

@@ -5,15 +5,15 @@ ghost use Rattle.std.specs.List.{list_all, list_any};
 ghost use Rattle.std.specs.Option.{option_map};
 ghost use Rattle.dns_name.specs.Name.{fold_of};
 ghost use Rattle.dns_name.specs.NameText.{name_of};
-ghost use Rattle.dns_command.specs.CommandLine.{behind, first_behind, path_of, action_of_word, action_of, is_path_word, is_update_word, net_behind, nets_behind, is_option, has_no_double, are_options, options_for, options_behind, drawn_by, load_options, options_of};
+ghost use Rattle.dns_command.specs.CommandLine.{path_of, action_of_word, action_of, is_path_word, is_update_word, net_behind, nets_behind, is_option, has_no_double, are_options, options_for, options_behind, drawn_by, load_options, options_of};
 
-use crate::event_text::decimal_of;
 use crate::network_text::network_of;
 use dns_book::IpNet;
 use dns_generator::origin_name;
 use dns_io::OutOfMemory;
 use dns_name::name_laws::folded_names;
 use dns_name::{Name, ProtoError};
+use dns_words::{behind, decimal_of, first_behind};
 use std::alloc::Global;
 use std::io::ErrorKind;
 use std::marker::Model;
@@ -368,23 +368,4 @@ fn net_behind(word: &str, key: &str) -> Option<IpNet>
         Some(text) => network_of(text.as_bytes()),
         None => None,
     }
-}
-
-/// What follows a key in the first word that begins with it.
-pub fn first_behind<'a>(words: &'a [String], key: &str) -> Option<&'a str>
-    ensures { option_map (λ path. path.now) result ≡ first_behind key.now (map string_bytes words.now) }
-{
-    for word in words {
-        if let Some(path) = behind(word.as_str(), key) {
-            return Some(path);
-        }
-    }
-    None
-}
-
-/// What follows a key at the beginning of a word.
-pub fn behind<'a>(word: &'a str, key: &str) -> Option<&'a str>
-    ensures { option_map (λ rest. rest.now) result ≡ behind key.now word.now }
-{
-    word.strip_prefix(key)
 }
