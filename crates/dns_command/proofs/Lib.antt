@@ -1,6 +1,6 @@
 mod EventWords
 mod TextsRead
-mod TextsWritten
+mod LinesWritten
 mod Told
 mod Drawn
 mod ExampleRead

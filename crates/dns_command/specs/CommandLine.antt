@@ -9,8 +9,6 @@ use Rattle.dns_name.specs.NameText.{name_of}
 use Rattle.dns_book.specs.declared.access.IpNet.{IpNet}
 use Rattle.dns_book.specs.Access.{Access}
 use Rattle.dns_command.specs.NetworkText.{network_of}
-use Rattle.dns_command.specs.declared.command_line.Action.{Action}
-use Rattle.dns_command.specs.declared.command_line.Action.TheVariants.{Help, Version, Command}
 use Rattle.dns_command.specs.declared.command_line.Options.{Options}
 use Rattle.dns_command.specs.declared.command_line.Drawn.{Drawn}
 use Rattle.dns_words.specs.Values.{decimal_of}
@@ -96,13 +94,3 @@ options_of (command ∷ word ∷ words) = options_by command word words
 -- who is let in: the networks of the options
 abbrev pub access_of : Options → Access
 access_of options = record { allowed = options.allowed; denied = options.denied }
-
--- what a word asks for that stands alone
-abbrev pub action_of_word : List ℕ → Action
-action_of_word word = if bytes_eq word (codes "--help") then Help else if bytes_eq word (codes "--version") then Version else Command
-
--- what the words ask for
-unfoldable pub action_of : List (List ℕ) → Action
-action_of [] = Command
-action_of (word ∷ []) = action_of_word word
-action_of (word ∷ other ∷ words) = Command
