@@ -22,7 +22,8 @@ use Rattle.dns_command.specs.declared.command_line.Options.{Options}
 use Rattle.dns_command.specs.declared.command_line.Drawn.{Drawn}
 use Rattle.dns_command.specs.CommandLine.{options_of}
 use Rattle.dns_command.specs.EventText.{events_of}
-use Rattle.dns_command.specs.World.{World, IsUntouched}
+use Rattle.dns_words.specs.Writing.{IsUntouched}
+use Rattle.dns_command.specs.World.{World}
 use Rattle.dns_command.specs.Steps.{zone_bound, event_bound, Finds, LoadsEvents, SeesNoRow, journal_unread, journal_without_memory, ReadsNoZone, zone_unread, zone_too_long, zone_faulty, zone_without_memory, FindsNot, unseen, no_zone, FindsExample, FindsBy, FindsNotBy}
 use Rattle.dns_command.specs.Steps.{LoadsNoEvents, events_unread, events_too_long, event_faulty, events_without_memory, OpensNot, rows_refused, journal_failed, opening_without_memory, IsRefused, at_words, without_memory, at_finding, at_events, at_opening}
 use Rattle.dns_command.specs.Ends.{Rejects, Ends, with_answers, with_refusal, with_rejection, with_write_fault, cut_for_memory, refused_for_memory, broken_for_memory}

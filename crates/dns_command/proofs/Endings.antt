@@ -34,11 +34,13 @@ use Rattle.dns_command.specs.declared.command_line.Drawn.{Drawn}
 use Rattle.dns_command.specs.CommandLine.{access_of}
 use Rattle.dns_command.specs.Lines.{lines_by}
 use Rattle.dns_command.specs.Status.{refusal_line}
-use Rattle.dns_command.specs.World.{World, IsUntouched, IsWritten}
+use Rattle.dns_words.specs.Writing.{IsUntouched, IsWritten}
+use Rattle.dns_command.specs.World.{World}
 use Rattle.dns_command.specs.Steps.{Finds, FindsExample, FindsBy, LoadsEvents, SeesNoRow, journal_unread, journal_without_memory, OpensNot, rows_refused, journal_failed, opening_without_memory, at_opening}
 use Rattle.dns_command.specs.Ends.{IsOpened, Begins, Serves, Rejects, Answers, Breaks, all, TookFront, Refuses, IsCut, in_refusal, in_rejection, in_answers}
 use Rattle.dns_command.specs.Ends.{Ends, with_answers, with_refusal, with_rejection, with_write_fault, cut_for_memory, refused_for_memory, broken_for_memory}
-use Rattle.dns_command.specs.Writing.{WritesWhole, after_writing, EndsWriting, EndsRefusing, silent, by_line}
+use Rattle.dns_words.specs.Writing.{WritesWhole}
+use Rattle.dns_command.specs.Writing.{after_writing, EndsWriting, EndsRefusing, silent, by_line}
 use Rattle.dns_command.specs.Parts.{Prepares, OpensBook, unopened, unkept, SettlesPart, of_invalid, of_memory, SettlesAll, SettlesNot, not_opened, not_settled}
 use Rattle.dns_command.proofs.Told.{NeverBegins-told, NeverBegins-same, NeverBegins-more, HadNoRow-on, HadRows-on, HadNoRow-earlier, AreRefused-earlier, GrowsByBatch-earlier, Rose-earlier, RoseBy-earlier}
 use Rattle.dns_command.proofs.Settled.{Run-told}

@@ -1,8 +1,6 @@
-mod Decimals
 mod EventWords
-mod Keys
 mod TextsRead
-mod TextsWritten
+mod LinesWritten
 mod Told
 mod Drawn
 mod ExampleRead

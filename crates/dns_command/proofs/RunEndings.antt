@@ -6,7 +6,8 @@ use Rattle.dns_command.specs.declared.status.Status.TheVariants as status
 use Rattle.dns_command.specs.declared.listening_words.Service.{Service}
 use Rattle.dns_command.specs.ListeningWords.{service_of}
 use Rattle.dns_command.specs.Hubs.{HubAround, IsUnused, OfSocket, OfListener}
-use Rattle.dns_command.specs.World.{World, IsUntouched, IsUnwritten}
+use Rattle.dns_words.specs.Writing.{IsUntouched, IsUnwritten}
+use Rattle.dns_command.specs.World.{World}
 use Rattle.dns_command.specs.Ends.{Ends}
 use Rattle.dns_command.specs.Completeness.{Completes}
 use Rattle.dns_command.specs.Serving.{without_memory, unserved}

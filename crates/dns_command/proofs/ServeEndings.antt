@@ -18,10 +18,12 @@ use Rattle.dns_command.specs.ListeningWords.{service_of}
 use Rattle.dns_command.specs.Status.{refusal_line}
 use Rattle.dns_command.specs.Lines.{serve_lines}
 use Rattle.dns_command.specs.Hubs.{HubAround, IsUnused, OfSocket, OfListener}
-use Rattle.dns_command.specs.World.{World, IsUntouched, IsUnwritten, IsWritten}
+use Rattle.dns_words.specs.Writing.{IsUntouched, IsUnwritten, IsWritten}
+use Rattle.dns_command.specs.World.{World}
 use Rattle.dns_command.specs.Steps.{Finds, OpensNot}
 use Rattle.dns_command.specs.Ends.{TookFront}
-use Rattle.dns_command.specs.Writing.{WritesWhole, after_writing, EndsWriting, EndsRefusing, silent, by_line}
+use Rattle.dns_words.specs.Writing.{WritesWhole}
+use Rattle.dns_command.specs.Writing.{after_writing, EndsWriting, EndsRefusing, silent, by_line}
 use Rattle.dns_command.specs.Parts.{OpensBook}
 use Rattle.dns_command.specs.Completeness.{HasZone}
 use Rattle.dns_command.specs.Serving.{IsPortCause, BeginsServing, Serves, StopsServing, IsUnserved, without_memory, at_finding, at_opening, at_sharing, RefusesServing, unserved, stopped}

@@ -1,18 +1,12 @@
 -- What came of reading a text to its end.
-use Rattle.std.proofs.Common.{◌≡◌, ℕ, List, Option, Some, None, Err, refl, sym, subst}
+use Rattle.std.proofs.Common.{ℕ, List, Err, refl}
 use Rattle.std.specs.Result.{IsErrOf}
 use Rattle.dns_io.specs.Around.{Around}
-use Rattle.dns_io.specs.Edge.{Rose, WasRead, WasLonger}
+use Rattle.dns_io.specs.Edge.{Rose, WasLonger}
 use Rattle.dns_io.specs.declared.to_end.ReadFault.{ReadFault}
 use Rattle.dns_io.specs.declared.to_end.ReadFault.TheVariants as read
 use Rattle.dns_command.specs.Status.{read_status}
 use Rattle.dns_command.specs.Steps.{zone_bound, event_bound, ReadsNoZone, zone_unread, zone_too_long, zone_without_memory, LoadsNoEvents, events_unread, events_too_long, events_without_memory}
-
--- what holds of the bytes that were read holds of the text
-pub WasRead-bytes : (a b : Option (List ℕ)) (bytes : List ℕ) (P : List ℕ → Type 0) → WasRead a b (λ text. text ≡ bytes) → P bytes → WasRead a b P
-WasRead-bytes a None bytes P w p = tt
-WasRead-bytes None (Some t) bytes P w p = absurd w
-WasRead-bytes (Some s) (Some t) bytes P w p = (w.0, subst P (sym w.1) p)
 
 -- a zone text that was not read to its end
 pub zone_cut : {T : Type 0} (source : Around (List ℕ)) (origin : List (List ℕ)) (fault : ReadFault) → (IsErrOf {T = T} (Err fault) read.TooLong → WasLonger source.before source.after zone_bound) → (IsErrOf {T = T} (Err fault) read.Failed → Rose source.faults_before source.faults_after)

@@ -1,5 +1,5 @@
 -- The words of the command line.
-use Rattle.std.specs.Prelude.{ℕ, ◌^◌, ◌==◌, List, [], ◌∷◌, Option, Some, None, is_some, Bool, true, false, nat_lt, nat_le, length, take, drop, count_by, ◌&&◌, ◌||◌, if◌then◌else◌, Result, Ok, Err, codes}
+use Rattle.std.specs.Prelude.{ℕ, ◌^◌, ◌==◌, List, [], ◌∷◌, Option, Some, None, is_some, Bool, true, false, nat_lt, nat_le, length, drop, count_by, ◌&&◌, ◌||◌, if◌then◌else◌, Result, Ok, Err, codes}
 use Rattle.std.specs.List.{list_all, list_any, filter_map}
 use Rattle.std.specs.Option.{option_map, option_map_or, option_and_then}
 use Rattle.std.specs.Str.{bytes_eq}
@@ -9,21 +9,11 @@ use Rattle.dns_name.specs.NameText.{name_of}
 use Rattle.dns_book.specs.declared.access.IpNet.{IpNet}
 use Rattle.dns_book.specs.Access.{Access}
 use Rattle.dns_command.specs.NetworkText.{network_of}
-use Rattle.dns_command.specs.declared.command_line.Action.{Action}
-use Rattle.dns_command.specs.declared.command_line.Action.TheVariants.{Help, Version, Command}
 use Rattle.dns_command.specs.declared.command_line.Options.{Options}
 use Rattle.dns_command.specs.declared.command_line.Drawn.{Drawn}
-use Rattle.dns_command.specs.EventText.{decimal_of}
+use Rattle.dns_words.specs.Values.{decimal_of}
+use Rattle.dns_words.specs.Keys.{behind, first_behind}
 use Rattle.dns_generator.specs.Requests.{origin_name}
-
--- what follows a key at the beginning of a word
-abbrev pub behind : List ℕ → List ℕ → Option (List ℕ)
-behind key word = if bytes_eq (take (length key) word) key then Some (drop (length key) word) else None
-
--- what follows a key in the first word that begins with it
-abbrev pub first_behind : List ℕ → List (List ℕ) → Option (List ℕ)
-first_behind key [] = None
-first_behind key (word ∷ words) = elim (behind key word) [ Some rest ↦ Some rest | None ↦ first_behind key words ]
 
 -- the path that a key names: what follows it in the first word behind the command and the origin that begins with it
 abbrev pub path_of : List ℕ → List (List ℕ) → Option (List ℕ)
@@ -104,13 +94,3 @@ options_of (command ∷ word ∷ words) = options_by command word words
 -- who is let in: the networks of the options
 abbrev pub access_of : Options → Access
 access_of options = record { allowed = options.allowed; denied = options.denied }
-
--- what a word asks for that stands alone
-abbrev pub action_of_word : List ℕ → Action
-action_of_word word = if bytes_eq word (codes "--help") then Help else if bytes_eq word (codes "--version") then Version else Command
-
--- what the words ask for
-unfoldable pub action_of : List (List ℕ) → Action
-action_of [] = Command
-action_of (word ∷ []) = action_of_word word
-action_of (word ∷ other ∷ words) = Command

@@ -19,7 +19,8 @@ use Rattle.dns_command.specs.declared.command_line.Options.{Options}
 use Rattle.dns_command.specs.CommandLine.{options_of, access_of}
 use Rattle.dns_command.specs.Lines.{lines_by}
 use Rattle.dns_command.specs.Status.{refusal_line}
-use Rattle.dns_command.specs.World.{World, IsUnwritten, IsWritten}
+use Rattle.dns_words.specs.Writing.{IsUnwritten, IsWritten}
+use Rattle.dns_command.specs.World.{World}
 use Rattle.dns_command.specs.Steps.{FindsBy, HearsBy, IsRefused}
 
 -- how the journal was opened, by the options: one without rows was begun with the zone that was found at this moment, and

@@ -1,19 +1,14 @@
 -- The words of the command `serve`: those of `events`, and where the program listens.
-use Rattle.std.specs.Prelude.{ℕ, ◌+◌, ◌^◌, List, [], ◌∷◌, Option, Some, None, is_some, Bool, false, nat_le, length, take, drop, position, count_by, ◌==◌, ◌&&◌, ◌||◌, if◌then◌else◌, codes}
+use Rattle.std.specs.Prelude.{ℕ, ◌+◌, ◌^◌, List, [], ◌∷◌, Option, Some, None, is_some, Bool, false, nat_le, count_by, ◌==◌, ◌&&◌, ◌||◌, if◌then◌else◌, codes}
 use Rattle.std.specs.List.{list_all}
 use Rattle.std.specs.Option.{option_map, option_and_then, unwrap_or}
 use Rattle.std.specs.Str.{bytes_eq}
 use Rattle.dns_io.specs.declared.peer.Peer.{Peer}
-use Rattle.dns_command.specs.EventText.{◌>>=◌, decimal_of, peer_of}
-use Rattle.dns_command.specs.CommandLine.{behind, first_behind, is_option, has_no_double, options_behind}
+use Rattle.dns_words.specs.Values.{◌>>=◌, decimal_of, address_of}
+use Rattle.dns_words.specs.Keys.{behind, first_behind}
+use Rattle.dns_command.specs.CommandLine.{is_option, has_no_double, options_behind}
 use Rattle.dns_command.specs.declared.listening_words.Listening.{Listening}
 use Rattle.dns_command.specs.declared.listening_words.Service.{Service}
-
--- an address and a port: hex digits, `:`, and a decimal number
-unfoldable pub address_of : List ℕ → Option Peer
-address_of text = do
-  place ← position (λ b. b == 58) text
-  peer_of (take place text) (drop (place + 1) text)
 
 -- for how many milliseconds a connection may stay without a whole message, or 0 for any time
 abbrev pub limit_of : List ℕ → Option ℕ

@@ -8,7 +8,8 @@ use Rattle.dns_command.specs.declared.listening_words.Service.{Service}
 use Rattle.dns_command.specs.ListeningWords.{service_of}
 use Rattle.dns_command.specs.Status.{refusal_line}
 use Rattle.dns_command.specs.Hubs.{HubAround, IsUnused, OfSocket, OfListener}
-use Rattle.dns_command.specs.World.{World, IsUnwritten, IsWritten}
+use Rattle.dns_words.specs.Writing.{IsUnwritten, IsWritten}
+use Rattle.dns_command.specs.World.{World}
 use Rattle.dns_command.specs.Ends.{Ends, TookFront}
 use Rattle.dns_command.specs.Completeness.{HasZone, Completes}
 use Rattle.dns_command.specs.Serving.{Serves, RefusesServing}

@@ -31,7 +31,8 @@ use Rattle.dns_command.specs.CommandLine.{access_of}
 use Rattle.dns_command.specs.ListeningWords.{service_of, sockets_of, listeners_of, seats_of}
 use Rattle.dns_command.specs.Lines.{serve_lines}
 use Rattle.dns_command.specs.Hubs.{HubAround, IsUnused, OfSocket, OfListener}
-use Rattle.dns_command.specs.World.{World, IsUntouched}
+use Rattle.dns_words.specs.Writing.{IsUntouched}
+use Rattle.dns_command.specs.World.{World}
 use Rattle.dns_command.specs.Steps.{Finds, FindsNot, OpensNot}
 use Rattle.dns_command.specs.Ends.{IsOpened}
 

@@ -22,7 +22,7 @@ use Rattle.dns_command.specs.declared.listening_words.Service.{Service}
 use Rattle.dns_command.specs.CommandLine.{access_of}
 use Rattle.dns_command.specs.ListeningWords.{seats_of}
 use Rattle.dns_command.specs.Hubs.{HubAround, IsUnused, OfSocket, OfListener}
-use Rattle.dns_command.specs.World.{IsUntouched}
+use Rattle.dns_words.specs.Writing.{IsUntouched}
 use Rattle.dns_command.specs.Steps.{OpensNot}
 use Rattle.dns_command.specs.Parts.{OpensBook}
 use Rattle.dns_command.specs.Serving.{IsPortCause, IsNewWorker, IsNewCrew, Crew, passes_of, openings_of, WorksToItsEnd, ServesPorts}

@@ -17,7 +17,7 @@ use Rattle.dns_command.specs.declared.opening.Opening.TheVariants.{Begin, Recove
 use Rattle.dns_command.specs.declared.command_line.Options.{Options}
 use Rattle.dns_command.specs.CommandLine.{options_of}
 use Rattle.dns_command.specs.EventText.{events_of}
-use Rattle.dns_command.specs.World.{IsUntouched}
+use Rattle.dns_words.specs.Writing.{IsUntouched}
 use Rattle.dns_command.specs.Example.{example_text}
 use Rattle.dns_generator.specs.Requests.{origin_name}
 use Rattle.dns_generator.specs.Loaded.{loaded}

@@ -1,25 +1,12 @@
 -- Writing the output, and how the program ends by it.
-use Rattle.std.specs.Prelude.{◌≡◌, ◌≢◌, ℕ, List, Result, Ok, Err, OnOk, OnErr}
+use Rattle.std.specs.Prelude.{◌≡◌, ◌≢◌, ℕ, List, Result, Ok, Err}
 use Rattle.dns_io.specs.Around.{SinkAround}
-use Rattle.dns_io.specs.Edge.{HasCause, Grows, GrowsByPrefix, IsHandedOn}
 use Rattle.dns_io.specs.declared.edge.IoFault.{IoFault}
 use Rattle.dns_io.specs.declared.edge.IoFault.TheVariants.{Failed, OutOfMemory}
 use Rattle.dns_command.specs.declared.status.Status.{Status}
 use Rattle.dns_command.specs.declared.status.Status.TheVariants as status
 use Rattle.dns_command.specs.Status.{refusal_line}
-use Rattle.dns_command.specs.World.{IsUnwritten}
-
--- writing a text: on Ok all of it was taken, after an error a front of it; the count of faults never falls, and `Failed`
--- comes only where it rose
-pub record Writes (output : SinkAround) (text : List ℕ) (result : Result (Unit {0}) IoFault) : Type 0 where
-  pub ok : OnOk result (Grows output.before output.after text)
-  pub err : OnErr result ((rest : List ℕ) × GrowsByPrefix output.before output.after text rest)
-  pub cause : HasCause output.faults_before output.faults_after result
-
--- writing a text that is the whole output: on Ok all that was taken was handed on, too
-pub record WritesWhole (output : SinkAround) (text : List ℕ) (result : Result (Unit {0}) IoFault) : Type 0 where
-  pub written : Writes output text result
-  pub flushed : OnOk result (IsHandedOn output.after output.flushed_after)
+use Rattle.dns_words.specs.Writing.{IsUnwritten, WritesWhole}
 
 -- a status that was meant, where the text was written to its end
 abbrev pub after_writing : Status → Result (Unit {0}) IoFault → Status

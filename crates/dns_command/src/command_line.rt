@@ -1,21 +1,20 @@
 //! What the words of the command line ask for. The program's name is not among them.
 
-ghost use Rattle.std.specs.Prelude.{◌≡◌, ◌≤◌, ◌↔◌, IsErr, ◌++◌, ◌∷◌, [], IfOk, IfSome, OnOk, map, length, drop, count_by, string_bytes};
+ghost use Rattle.std.specs.Prelude.{◌≡◌, ◌≤◌, ◌++◌, ◌∷◌, [], IfOk, IfSome, OnOk, map, length, drop, count_by, string_bytes};
 ghost use Rattle.std.specs.List.{list_all, list_any};
 ghost use Rattle.std.specs.Option.{option_map};
 ghost use Rattle.dns_name.specs.Name.{fold_of};
 ghost use Rattle.dns_name.specs.NameText.{name_of};
-ghost use Rattle.dns_command.specs.CommandLine.{behind, first_behind, path_of, action_of_word, action_of, is_path_word, is_update_word, net_behind, nets_behind, is_option, has_no_double, are_options, options_for, options_behind, drawn_by, load_options, options_of};
+ghost use Rattle.dns_command.specs.CommandLine.{path_of, is_path_word, is_update_word, net_behind, nets_behind, is_option, has_no_double, are_options, options_for, options_behind, drawn_by, load_options, options_of};
 
-use crate::event_text::decimal_of;
 use crate::network_text::network_of;
 use dns_book::IpNet;
 use dns_generator::origin_name;
 use dns_io::OutOfMemory;
 use dns_name::name_laws::folded_names;
 use dns_name::{Name, ProtoError};
+use dns_words::{behind, decimal_of, first_behind};
 use std::alloc::Global;
-use std::io::ErrorKind;
 use std::marker::Model;
 
 /// The key of the zone text's path.
@@ -187,52 +186,6 @@ pub fn path_of<'a>(words: &'a [String], key: &str) -> Option<&'a str>
     }
 }
 
-/// The words of a command line that could not be read, for this kind of error: where one of them is not UTF-8 there is no
-/// command, as where there is no word.
-pub fn unread_words(alloc: Global, kind: ErrorKind) -> Result<Vec<String>, OutOfMemory>
-    ensures none { IfOk result (λ words. words.items ≡ []) }
-    ensures memory { IsErr result ↔ (kind ≡ ErrorKind.OutOfMemory) }
-{
-    match kind {
-        ErrorKind::OutOfMemory => Err(OutOfMemory),
-        _ => Ok(Vec::new(alloc)),
-    }
-}
-
-/// What the program is asked to do.
-#[derive(Clone, Copy, Debug, PartialEq, Eq)]
-pub enum Action {
-    /// To say how it is used.
-    Help,
-    /// To say which version it is.
-    Version,
-    /// To do what a command says, if the words are one.
-    Command,
-}
-
-/// What the words ask for: help where `--help` is the only word, the version where `--version` is, and else a command.
-#[tactic(auto, unfolding(crate::specs::CommandLine::action_of))]
-pub fn action_of(words: &[String]) -> Action
-    ensures { result ≡ action_of (map string_bytes words.now) }
-{
-    match words {
-        [word] => action_of_word(word.as_str()),
-        _ => Action::Command,
-    }
-}
-
-fn action_of_word(word: &str) -> Action
-    ensures { result ≡ action_of_word word.now }
-{
-    if word == "--help" {
-        return Action::Help;
-    }
-    if word == "--version" {
-        return Action::Version;
-    }
-    Action::Command
-}
-
 fn options_for(
     alloc: Global,
     origin: &str,
@@ -368,23 +321,4 @@ fn net_behind(word: &str, key: &str) -> Option<IpNet>
         Some(text) => network_of(text.as_bytes()),
         None => None,
     }
-}
-
-/// What follows a key in the first word that begins with it.
-pub fn first_behind<'a>(words: &'a [String], key: &str) -> Option<&'a str>
-    ensures { option_map (λ path. path.now) result ≡ first_behind key.now (map string_bytes words.now) }
-{
-    for word in words {
-        if let Some(path) = behind(word.as_str(), key) {
-            return Some(path);
-        }
-    }
-    None
-}
-
-/// What follows a key at the beginning of a word.
-pub fn behind<'a>(word: &'a str, key: &str) -> Option<&'a str>
-    ensures { option_map (λ rest. rest.now) result ≡ behind key.now word.now }
-{
-    word.strip_prefix(key)
 }

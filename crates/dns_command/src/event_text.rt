@@ -1,14 +1,14 @@
 //! The event text.
 
-ghost use Rattle.std.specs.Prelude.{◌≡◌, ◌<◌, ◌≤◌, ◌==◌, ◌+◌, ◌^◌, List, ℕ, ◌∷◌, IfOk, IfErr, OnOk, IfSome, MatchOption, [], length, position};
+ghost use Rattle.std.specs.Prelude.{◌≡◌, ◌<◌, ◌+◌, ◌^◌, List, ℕ, ◌∷◌, IfOk, IfErr, OnOk, MatchOption, []};
 ghost use Rattle.dns_command.specs.declared.event_text.EventFault.TheVariants.{OutOfMemory as NoMemory};
-ghost use Rattle.dns_command.specs.EventText.{digits_behind, below, decimal_of, ip_of, bytes_of, peer_of, milliseconds_of, connection_of, datagram_of, piece_of, accepted_of, end_of, tick_of, stop_of, plain_of, event_of, words_in, is_skipped, events_of};
+ghost use Rattle.dns_command.specs.EventText.{milliseconds_of, connection_of, datagram_of, piece_of, accepted_of, end_of, tick_of, stop_of, plain_of, event_of, words_in, is_skipped, events_of};
 ghost use Rattle.dns_command.specs.EventReading.{Tells, Gives, given_by};
 
-use dns_io::{Ip, Octets, OutOfMemory, Peer};
+use dns_io::OutOfMemory;
 use dns_presentation::split_line;
 use dns_server_core::Event;
-use hex::FromHexError;
+use dns_words::{bytes_of, decimal_of, first_place, peer_of};
 use std::alloc::{AllocFailed, Global};
 
 /// Why an event text gives no events.
@@ -275,99 +275,4 @@ fn split_word(line: &[u8]) -> (&[u8], Option<&[u8]>)
     let (word, _) = line.split_at(place);
     let (_, rest) = line.split_at(place + 1);
     (word, Some(rest))
-}
-
-/// The place of the first such byte.
-pub(crate) fn first_place(byte: u8, bytes: &[u8]) -> Option<usize>
-    ensures value { result ≡ position (λ b. b == byte) bytes.now }
-    ensures inside { IfSome result (λ place. place < length bytes.now) }
-{
-    bytes.iter().position(|one| *one == byte)
-}
-
-/// An address and a port: 8 or 32 hex digits, and a decimal number below 65,536 with no zero before another digit.
-#[tactic(auto, unfolding(crate::specs::EventText::peer_of))]
-pub(crate) fn peer_of(ip: &[u8], port: &[u8]) -> Option<Peer>
-    ensures { result ≡ peer_of ip.now port.now }
-{
-    let ip = ip_of(ip)?;
-    let port = decimal_of(65536, port)?;
-    Some(Peer {
-        ip,
-        port: port as u16,
-    })
-}
-
-/// The address of 8 (IPv4) or 32 (IPv6) hex digits of either case, none for any other word.
-#[tactic(auto, unfolding(crate::specs::EventText::ip_of))]
-pub(crate) fn ip_of(word: &[u8]) -> Option<Ip>
-    ensures { result ≡ ip_of word.now }
-{
-    if word.len() == 8 {
-        let mut bytes = [0u8; 4];
-        return match hex::decode_to_slice(word, &mut bytes) {
-            Ok(()) => Some(Ip::V4(u32::from_be_bytes(bytes))),
-            Err(_) => None,
-        };
-    }
-    if word.len() == 32 {
-        let mut bytes = [0u8; 16];
-        return match hex::decode_to_slice(word, &mut bytes) {
-            Ok(()) => Some(Ip::V6(u128::from_be_bytes(bytes))),
-            Err(_) => None,
-        };
-    }
-    None
-}
-
-#[tactic(auto, unfolding(crate::specs::EventText::bytes_of))]
-fn bytes_of(alloc: Global, word: &[u8]) -> Result<Option<Octets>, OutOfMemory>
-    ensures { IfOk result (λ bytes. bytes ≡ bytes_of word.now) }
-{
-    if word.is_empty() {
-        return Ok(None);
-    }
-    if word == b"-".as_slice() {
-        return Ok(Some(Octets::new(alloc)));
-    }
-    match hex::decode(alloc, word) {
-        Ok(bytes) => Ok(Some(Octets::from_vec(bytes))),
-        Err(FromHexError::OutOfMemory) => Err(OutOfMemory),
-        Err(_) => Ok(None),
-    }
-}
-
-/// The decimal number of a word, where it is below the limit and has no zero before another digit.
-#[tactic(auto, unfolding(crate::specs::EventText::decimal_of))]
-pub(crate) fn decimal_of(limit: u128, word: &[u8]) -> Option<u64>
-    requires some { 0 < limit }
-    requires fits { limit ≤ 2 ^ 64 }
-    ensures value { result ≡ decimal_of limit word.now }
-    ensures below { IfSome result (λ n. n < limit) }
-{
-    match word {
-        [] => None,
-        [b'0', _, ..] => None,
-        _ => digits_below(limit, word),
-    }
-}
-
-fn digits_below(limit: u128, digits: &[u8]) -> Option<u64>
-    requires some { 0 < limit }
-    requires fits { limit ≤ 2 ^ 64 }
-    ensures value { result ≡ below limit (digits_behind 0 digits.now) }
-    ensures below { IfSome result (λ n. n < limit) }
-{
-    let mut number = 0u64;
-    for digit in digits {
-        if !digit.is_ascii_digit() {
-            return None;
-        }
-        let next = u128::from(number) * 10 + u128::from(*digit - b'0');
-        if next >= limit {
-            return None;
-        }
-        number = next as u64;
-    }
-    Some(number)
 }

@@ -16,8 +16,7 @@ pub mod run;
 pub mod run_list;
 mod status;
 
-pub use command_line::{Action, JOURNAL, ZONE, action_of, path_of, unread_words};
+pub use command_line::{JOURNAL, ZONE, path_of};
 pub use help::{HELP, VERSION};
 pub use listening_words::is_command;
-pub use output::put_text;
 pub use status::{Ended, Status, after_writing};

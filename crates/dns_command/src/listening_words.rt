@@ -4,13 +4,11 @@ ghost use Rattle.std.specs.Prelude.{◌≡◌, ◌<◌, ◌≤◌, ◌^◌, ◌|
 ghost use Rattle.std.specs.List.{list_all};
 ghost use Rattle.dns_name.specs.Name.{fold_of};
 ghost use Rattle.dns_command.specs.CommandLine.{options_of};
-ghost use Rattle.dns_command.specs.ListeningWords.{address_of, limit_of, workers_of, is_address_word, is_limit_word, is_workers_word, is_serve_option, address_in, limit_in, workers_in, listening_of, are_serve_options, service_of, count_at, seats_of};
+ghost use Rattle.dns_command.specs.ListeningWords.{limit_of, workers_of, is_address_word, is_limit_word, is_workers_word, is_serve_option, address_in, limit_in, workers_in, listening_of, are_serve_options, service_of, count_at, seats_of};
 
-use crate::command_line::{
-    Options, behind, first_behind, has_no_double, is_option, options_behind, options_of,
-};
-use crate::event_text::{decimal_of, first_place, peer_of};
+use crate::command_line::{Options, has_no_double, is_option, options_behind, options_of};
 use dns_io::{OutOfMemory, Peer};
+use dns_words::{address_of, behind, decimal_of, first_behind};
 use std::alloc::Global;
 
 /// The key of the address and port where datagrams are taken.
@@ -255,18 +253,6 @@ fn workers_in(words: &[String]) -> Option<u32>
         Some(text) => workers_of(text.as_bytes()),
         None => None,
     }
-}
-
-/// The address and port of a text: 8 (IPv4) or 32 (IPv6) hex digits, `:`, and a decimal number below 65,536 with no zero
-/// before another digit. None for any other text.
-#[tactic(auto, unfolding(crate::specs::ListeningWords::address_of))]
-fn address_of(text: &[u8]) -> Option<Peer>
-    ensures { result ≡ address_of text.now }
-{
-    let place = first_place(b':', text)?;
-    let (ip, _) = text.split_at(place);
-    let (_, port) = text.split_at(place + 1);
-    peer_of(ip, port)
 }
 
 fn limit_of(text: &[u8]) -> Option<u64>

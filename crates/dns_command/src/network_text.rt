@@ -3,8 +3,8 @@
 ghost use Rattle.std.specs.Prelude.{◌≡◌};
 ghost use Rattle.dns_command.specs.NetworkText.{network_of};
 
-use crate::event_text::{decimal_of, first_place, ip_of};
 use dns_book::IpNet;
+use dns_words::{decimal_of, first_place, ip_of};
 
 /// The network of a text: an address in 8 (IPv4) or 32 (IPv6) hex digits, `/`, and how many of its first bits count, as
 /// a decimal number with no zero before another digit, at most 32 or 128 (RFC 4632 3.1). None for any other text.

@@ -5,23 +5,17 @@ ghost use Rattle.std.specs.List.{flat_map};
 ghost use Rattle.dns_io.specs.Around.{around_sink};
 ghost use Rattle.dns_command.specs.Lines.{out_line, number_line, closing_lines, output_lines, serve_lines, counted_lines, summary_lines, lines_by};
 ghost use Rattle.dns_command.specs.Status.{refusal_line};
-ghost use Rattle.dns_command.specs.Writing.{Writes, WritesWhole, EndsRefusing, after_writing};
+ghost use Rattle.dns_words.specs.Writing.{Writes, WritesWhole};
+ghost use Rattle.dns_command.specs.Writing.{EndsRefusing, after_writing};
 
 use crate::command_line::Drawn;
 use crate::lines::{number_line, out_line};
 use crate::status::{Status, after_writing, refusal_line};
 use dns_generator::Summary;
-use dns_io::{IoFault, Sink, write_all};
+use dns_io::{IoFault, Sink};
 use dns_server_core::Out;
+use dns_words::{put_line, put_text};
 use std::alloc::Global;
-
-/// Writes a text that is the whole output, and hands it on.
-pub fn put_text<W: Sink>(text: &str, out: &mut W) -> Result<(), IoFault>
-    ensures { WritesWhole (around_sink W.taken W.flushed W.faults out.old out.new) text.now result }
-{
-    put_line(text, out)?;
-    out.flush()
-}
 
 /// Writes the one line of a refusal, and tells how the program ends.
 pub fn refuse<W: Sink>(alloc: Global, status: Status, out: &mut W) -> Status
@@ -173,11 +167,4 @@ fn put_number<W: Sink>(alloc: Global, name: &str, number: u128, out: &mut W) -> 
 {
     let line = number_line(alloc, name, number)?;
     put_line(line.as_str(), out)
-}
-
-/// Hands a line to the sink, whole.
-fn put_line<W: Sink>(line: &str, out: &mut W) -> Result<(), IoFault>
-    ensures { Writes (around_sink W.taken W.flushed W.faults out.old out.new) line.now result }
-{
-    write_all(out, line.as_bytes())
 }

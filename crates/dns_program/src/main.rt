@@ -8,13 +8,13 @@ use crate::closed_journal::ClosedJournal;
 use crate::file_journal::FileJournal;
 use dns_command::run::run;
 use dns_command::{
-    Action, Ended, HELP, JOURNAL, Status, VERSION, ZONE, action_of, after_writing, is_command,
-    path_of, put_text, unread_words,
+    Ended, HELP, JOURNAL, Status, VERSION, ZONE, after_writing, is_command, path_of,
 };
 use dns_io::{FileSource, OutOfMemory, Reading, SystemClock, Writing};
 use dns_journal::PersistenceError;
 use dns_keeper::{Keeper, MemoryKeeper};
 use dns_ports::SocketHub;
+use dns_words::{Action, action_of, put_text, unread_words};
 use std::fs::{self, File};
 use std::io::{self, BufWriter, Write};
 use std::net::{Net, TcpListener, TcpStream};

@@ -1,7 +1,7 @@
 use Rattle.std.proofs.Common.{ℕ, List, ◌++◌, codes}
 use Rattle.std.proofs.lemmas.Result.{err_from_is_err_and}
 use Rattle.dns_command.specs.Lines.{number_line}
-use Rattle.dns_command.proofs.TextsWritten.{Writes-stop, Writes-then}
+use Rattle.dns_words.proofs.TextsWritten.{Writes-stop, Writes-then}
 use Rattle.dns_command.proofs.output.put_closing.Goals as goal
 
 -- the three lines

@@ -2,7 +2,7 @@ use Rattle.std.proofs.Common.{ℕ, List, ◌++◌, codes}
 use Rattle.std.proofs.lemmas.Result.{err_from_is_err_and}
 use Rattle.dns_generator.specs.declared.summary.Summary.{Summary}
 use Rattle.dns_command.specs.Lines.{number_line}
-use Rattle.dns_command.proofs.TextsWritten.{Writes-stop, Writes-then}
+use Rattle.dns_words.proofs.TextsWritten.{Writes-stop, Writes-then}
 use Rattle.dns_command.proofs.output.put_counted.Goals as goal
 
 -- the five lines, and those from each of them on

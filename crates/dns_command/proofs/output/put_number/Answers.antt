@@ -1,5 +1,5 @@
 use Rattle.std.proofs.lemmas.Result.{err_from_is_err_and}
-use Rattle.dns_command.proofs.TextsWritten.{Writes-nothing}
+use Rattle.dns_words.proofs.TextsWritten.{Writes-nothing}
 use Rattle.dns_command.proofs.output.put_number.Goals as goal
 
 pub returns-in_err-line : goal.returns-in_err-line

@@ -1,6 +1,7 @@
 -- One line more is written, or the lines end there.
 use Rattle.std.proofs.lemmas.Result.{err_from_is_err_and}
-use Rattle.dns_command.proofs.TextsWritten.{Writes-stop, Writes-then, lines_round}
+use Rattle.dns_words.proofs.TextsWritten.{Writes-stop, Writes-then}
+use Rattle.dns_command.proofs.LinesWritten.{lines_round}
 use Rattle.dns_command.proofs.output.put_outs.Goals as goal
 
 pub returns-in_err-put_out : goal.returns-in_err-put_out

@@ -3,7 +3,7 @@ use Rattle.std.proofs.Common.{Ok, take}
 use Rattle.std.specs.List.{flat_map}
 use Rattle.dns_io.specs.Around.{around_sink}
 use Rattle.dns_command.specs.Lines.{out_line}
-use Rattle.dns_command.specs.Writing.{Writes}
+use Rattle.dns_words.specs.Writing.{Writes}
 use Rattle.dns_command.proofs.output.put_outs.Given as goal
 
 abbrev pub invariant-loop-one : goal.invariant-loop-one

@@ -1,5 +1,5 @@
 use Rattle.std.proofs.lemmas.Result.{err_from_is_err_and}
-use Rattle.dns_command.proofs.TextsWritten.{Writes-stop, Writes-then, Whole-stop, Whole-flush}
+use Rattle.dns_words.proofs.TextsWritten.{Writes-stop, Writes-then, Whole-stop, Whole-flush}
 use Rattle.dns_command.proofs.output.put_summary.Goals as goal
 
 pub returns-in_err-put_counted : goal.returns-in_err-put_counted

@@ -1,7 +1,7 @@
 use Rattle.std.proofs.Common.{codes}
 use Rattle.std.proofs.lemmas.Result.{err_from_is_err_and}
 use Rattle.dns_command.specs.Lines.{number_line}
-use Rattle.dns_command.proofs.TextsWritten.{Writes-stop, Writes-then, Whole-stop, Whole-flush}
+use Rattle.dns_words.proofs.TextsWritten.{Writes-stop, Writes-then, Whole-stop, Whole-flush}
 use Rattle.dns_command.proofs.output.put_totals.Goals as goal
 
 pub returns-in_err-put_number : goal.returns-in_err-put_number

@@ -1,7 +1,7 @@
 -- The digits so far make a number below the limit, behind which the others stand.
 use Rattle.std.proofs.Common.{◌≡◌, ◌<◌, drop}
-use Rattle.dns_command.specs.EventText.{below, digits_behind}
-use Rattle.dns_command.proofs.event_text.digits_below.Given as goal
+use Rattle.dns_words.specs.Values.{below, digits_behind}
+use Rattle.dns_words.proofs.values.digits_below.Given as goal
 
 abbrev pub invariant-loop-digit : goal.invariant-loop-digit
 invariant-loop-digit l =

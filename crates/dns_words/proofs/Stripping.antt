@@ -6,7 +6,7 @@ use Rattle.std.specs.Str.Pattern.{FindsTextPrefix, LacksTextAt, StripsPrefix}
 use Rattle.std.proofs.Math.Seq.{take-append_seam}
 use Rattle.std.proofs.lemmas.List.{take-append-drop}
 use Rattle.std.proofs.lemmas.Slice.Eq.{bytes_eq-Decides}
-use Rattle.dns_command.specs.CommandLine.{behind}
+use Rattle.dns_words.specs.Keys.{behind}
 
 -- a word that is a key and a rest has that rest behind the key
 behind-stripped : (key word rest : List ℕ) (n : ℕ) → n ≡ length key → word ≡ key ++ drop n word → rest ≡ drop n word → behind key word ≡ Some rest

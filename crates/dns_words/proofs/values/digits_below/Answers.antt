@@ -1,8 +1,8 @@
 -- A number past the limit stays past it.
 use Rattle.std.proofs.Common.{sym, ◌∙◌, arith}
 use Rattle.std.proofs.lemmas.List.{drop_more}
-use Rattle.dns_command.proofs.Decimals.{below-digit}
-use Rattle.dns_command.proofs.event_text.digits_below.Goals as goal
+use Rattle.dns_words.proofs.Decimals.{below-digit}
+use Rattle.dns_words.proofs.values.digits_below.Goals as goal
 
 pub returns-then-next-limit-clause-value : goal.returns-then-next-limit-clause-value
 returns-then-next-limit-clause-value c =

@@ -2,7 +2,7 @@
 use Rattle.std.proofs.Common.{◌≡◌, ℕ, ◌+◌, ◌-◌, ◌*◌, ◌≤◌, List, [], ◌∷◌, Option, None, Bool, true, false, if◌then◌else◌, refl, arith}
 use Rattle.std.specs.Char.{is_ascii_digit}
 use Rattle.std.proofs.lemmas.Bool.{le-ltb}
-use Rattle.dns_command.specs.EventText.{below, digits_behind}
+use Rattle.dns_words.specs.Values.{below, digits_behind}
 
 -- none, whether a byte is a digit or not
 no_digit : (test : Bool) (limit : ℕ) (number : Option ℕ) → below limit number ≡ None → below limit (if test then number else None) ≡ None

@@ -1,7 +1,7 @@
 -- The words so far don't begin with the key.
 use Rattle.std.proofs.Common.{◌≡◌, map, drop, string_bytes}
-use Rattle.dns_command.specs.CommandLine.{first_behind}
-use Rattle.dns_command.proofs.command_line.first_behind.Given as goal
+use Rattle.dns_words.specs.Keys.{first_behind}
+use Rattle.dns_words.proofs.keys.first_behind.Given as goal
 
 abbrev pub invariant-loop-word : goal.invariant-loop-word
 invariant-loop-word l =

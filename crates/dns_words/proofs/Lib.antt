@@ -1,0 +1,4 @@
+mod Decimals
+mod Stripping
+pub mod TextsRead
+pub mod TextsWritten

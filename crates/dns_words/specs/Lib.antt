@@ -1,0 +1,4 @@
+pub mod Values
+pub mod Keys
+pub mod Actions
+pub mod Writing

@@ -1,0 +1,24 @@
+//! Words that begin with a key, as `--zone=`.
+
+ghost use Rattle.std.specs.Prelude.{◌≡◌, map, string_bytes};
+ghost use Rattle.std.specs.Option.{option_map};
+ghost use Rattle.dns_words.specs.Keys.{behind, first_behind};
+
+/// What follows a key in the first word that begins with it.
+pub fn first_behind<'a>(words: &'a [String], key: &str) -> Option<&'a str>
+    ensures { option_map (λ path. path.now) result ≡ first_behind key.now (map string_bytes words.now) }
+{
+    for word in words {
+        if let Some(path) = behind(word.as_str(), key) {
+            return Some(path);
+        }
+    }
+    None
+}
+
+/// What follows a key at the beginning of a word.
+pub fn behind<'a>(word: &'a str, key: &str) -> Option<&'a str>
+    ensures { option_map (λ rest. rest.now) result ≡ behind key.now word.now }
+{
+    word.strip_prefix(key)
+}
