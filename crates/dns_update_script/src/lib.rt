@@ -3,6 +3,7 @@
 
 mod entry;
 mod fault;
+mod kept;
 mod line;
 mod meant;
 mod script;

@@ -5,6 +5,7 @@ ghost use Rattle.std.specs.List.{AllByRecursion};
 ghost use Rattle.dns_wire.specs.ReadBack.{IsMessage, IsPlain};
 ghost use Rattle.dns_update_script.specs.Meant.{update_header, update_of, meant_by};
 
+use crate::kept::kept_messages;
 use crate::script::{Script, Sending};
 use dns_io::OutOfMemory;
 use dns_wire::{Header, Message, Question, Questions, Records, class, opcode, record_type};
@@ -19,7 +20,9 @@ impl Script {
         ensures kept { IfOk result (λ messages. AllByRecursion IsMessage messages.items) }
         ensures plain { IfOk result (λ messages. AllByRecursion IsPlain messages.items) }
     {
-        messages_of(alloc, self.as_slice(), first_id)
+        let messages = messages_of(alloc, self.as_slice(), first_id)?;
+        kept_messages(messages.as_slice());
+        Ok(messages)
     }
 }
 

@@ -5,6 +5,7 @@ ghost use Rattle.std.specs.Option.{option_or};
 ghost use Rattle.dns_update_script.specs.declared.line.Line.TheVariants as said;
 ghost use Rattle.dns_update_script.specs.Script.{script_of, ended, Tells};
 ghost use Rattle.dns_update_script.specs.Reading.{given_by, given_behind};
+ghost use Rattle.dns_update_script.specs.Plain.{ArePlain};
 
 use crate::fault::{LineFault, ScriptFault, ScriptKind};
 use crate::line::{Line, line_of};
@@ -46,7 +47,9 @@ impl Model for Script {
 impl Script {
     /// The sendings, in order.
     pub fn as_slice(&self) -> &[Sending]
-        ensures { result.now ≡ self.now }
+        ensures sendings { result.now ≡ self.now }
+        // The data of each of their records is of its type, and none is an OPT.
+        ensures plain { ArePlain self.now }
     {
         self.sendings.as_slice()
     }

@@ -1,0 +1,3 @@
+pub mod Cutting
+pub mod Standings
+pub mod LogicalLines
