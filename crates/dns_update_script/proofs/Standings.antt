@@ -13,7 +13,7 @@ use Rattle.dns_update_script.specs.declared.line.Line.{Line}
 use Rattle.dns_update_script.specs.declared.line.Line.TheVariants.{Nothing, Zone, Prerequisite, Change, Send}
 use Rattle.dns_update_script.specs.declared.script.Sending.{Sending}
 use Rattle.dns_update_script.specs.Line.{line_of}
-use Rattle.dns_update_script.specs.Script.{is_send, zone_of, prerequisite_in, change_in, is_update, last_zone, unsent, sending_to, first_unsent, at_line, before, sent, sendings_from}
+use Rattle.dns_update_script.specs.Script.{is_send, zone_of, prerequisite_in, change_in, is_update, last_zone, unsent, sending_to, first_unsent, ended, at_line, before, sent, sendings_from}
 use Rattle.dns_update_script.specs.Reading.{Standing, kept, sending_at, sent_at, sendings_behind, ahead}
 
 -- the elements that do not pass
@@ -44,13 +44,14 @@ length-after_last p xs = omega (arith, length-drop (length xs - suffix_len (fail
 -- the first that passes in a longer list
 position_from-more : {X : Type 0} (p : X → Bool) (n : ℕ) (xs : List X) (x : X) → position_from p n (xs ++ x ∷ []) ≡ option_or (position_from p n xs) (cond (p x) (Some (n + length xs)) None)
 position_from-more p n [] x = let e : n + 0 ≡ n = omega arith in rw e refl
-position_from-more p n (y ∷ xs) x = by_test (p y)
+position_from-more p n (y ∷ xs) x = by_test (p y) (position_from-more p (n + 1) xs x)
   where
-    by_test : (test : Bool) → cond test (Some n) (position_from p (n + 1) (xs ++ x ∷ [])) ≡ option_or (cond test (Some n) (position_from p (n + 1) xs)) (cond (p x) (Some (n + length (y ∷ xs))) None)
-    by_test true = refl
-    by_test false =
+    by_test : (test : Bool) → position_from p (n + 1) (xs ++ x ∷ []) ≡ option_or (position_from p (n + 1) xs) (cond (p x) (Some (n + 1 + length xs)) None)
+        → cond test (Some n) (position_from p (n + 1) (xs ++ x ∷ [])) ≡ option_or (cond test (Some n) (position_from p (n + 1) xs)) (cond (p x) (Some (n + length (y ∷ xs))) None)
+    by_test true more = refl
+    by_test false more =
         let e : n + length (y ∷ xs) ≡ n + 1 + length xs = omega arith in
-        rw e (position_from-more p (n + 1) xs x)
+        rw e more
 
 option_or-assoc : {X : Type 0} (a b c : Option X) → option_or (option_or a b) c ≡ option_or a (option_or b c)
 option_or-assoc None b c = refl
@@ -124,17 +125,28 @@ sent-standing_of front Send more = ap (λ sending. at_line (length front + 1) se
 -- so the sendings are the same
 pub sendings-standing_of : (front : List Line) (lines : List (List ℕ)) → sendings_behind (standing_of front) lines ≡ sendings_from front lines
 sendings-standing_of front [] = refl
-sendings-standing_of front (line ∷ lines) = by_line (line_of line)
+sendings-standing_of front (line ∷ lines) = by_line (line_of line) (λ said. sendings-standing_of (front ++ said ∷ []) lines)
   where
-    by_line : (found : Result Line ScriptKind)
+    by_line : (found : Result Line ScriptKind) → ((said : Line) → sendings_behind (standing_of (front ++ said ∷ [])) lines ≡ sendings_from (front ++ said ∷ []) lines)
         → at_line (length front + 1) found (λ said. sent_at (standing_of front) said (sendings_behind (kept (standing_of front) said) lines))
         ≡ at_line (length front + 1) found (λ said. sent front said (sendings_from (front ++ said ∷ []) lines))
-    by_line (Err wrong) = refl
-    by_line (Ok said) =
+    by_line (Err wrong) more = refl
+    by_line (Ok said) more =
         sent-standing_of front said (sendings_behind (kept (standing_of front) said) lines)
-        ∙ ap (sent front said) (ap (λ standing. sendings_behind standing lines) (kept-standing_of front said) ∙ sendings-standing_of (front ++ said ∷ []) lines)
+        ∙ ap (sent front said) (ap (λ standing. sendings_behind standing lines) (kept-standing_of front said) ∙ more said)
 
 -- before any line
 pub ahead-none : (found : Result (List Sending) ScriptFault) → ahead [] found ≡ found
 ahead-none (Ok sendings) = refl
 ahead-none (Err fault) = refl
+
+pub sendings-first : (prerequisites changes : List Record) (found : List Sending) (lines : List (List ℕ)) → prerequisites ≡ [] → changes ≡ [] → found ≡ []
+    → ahead found (sendings_behind (record { lines = 0; zone = None; prerequisites = prerequisites; changes = changes; first = None }) lines) ≡ sendings_from [] lines
+sendings-first prerequisites changes found lines no_prerequisites no_changes none =
+    rw (no_prerequisites, no_changes, none) (ahead-none (sendings_behind (standing_of []) lines) ∙ sendings-standing_of [] lines)
+
+-- behind all lines
+pub sendings-last : (found : List Sending) (standing : Standing) (lines : List (List ℕ)) (script : Result (List Sending) ScriptFault)
+    → ahead found (sendings_behind standing lines) ≡ script → lines ≡ [] → standing.first ≡ None → script ≡ Ok found
+sendings-last found standing lines script same none sent =
+    sym same ∙ ap (λ lines. ahead found (sendings_behind standing lines)) none ∙ ap (λ first. ahead found (ended first)) sent ∙ ap Ok (append-nil found)

@@ -104,7 +104,10 @@ pub fn read_script(alloc: Global, text: &[u8]) -> Result<Script, ScriptFault>
     };
     let mut rest = text;
     while let Some((line, after)) = split_line(rest) {
-        take_line(alloc, &mut state, line)?;
+        match take_line(alloc, &mut state, line) {
+            Ok(()) => {}
+            Err(fault) => return Err(fault),
+        }
         rest = after;
     }
     if let Some(line) = state.first {
