@@ -1,0 +1,3 @@
+pub mod Faults
+pub mod Framed
+pub mod Exchange
