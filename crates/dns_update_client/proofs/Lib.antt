@@ -1,2 +1,4 @@
+mod Exchanging
 mod Framing
+mod NotSent
 mod Pieces

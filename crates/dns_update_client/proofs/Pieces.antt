@@ -1,10 +1,8 @@
 -- How an input goes on from read to read.
 use Rattle.std.proofs.Common.{◌≡◌, ℕ, ◌+◌, ◌*◌, ◌<◌, ◌≤◌, List, [], ◌∷◌, ◌++◌, length, get_or, Option, Some, None, refl, sym, ap, ◌∙◌, arith}
-use Rattle.std.proofs.lemmas.List.{append_assoc, append-nil}
-use Rattle.std.specs.Prelude.{Result, Ok, Err, OnErr}
-use Rattle.dns_io.specs.Edge.{Told, Takes, EndsAt}
+use Rattle.std.proofs.lemmas.List.{append_assoc}
+use Rattle.dns_io.specs.Edge.{Takes, EndsAt}
 use Rattle.dns_io.proofs.ToldContents.{Told-same, Takes-more}
-use Rattle.dns_name.specs.declared.fault.ProtoError.{ProtoError}
 use Rattle.dns_update_client.specs.declared.submit_fault.SubmitFault.{SubmitFault}
 use Rattle.dns_update_client.specs.declared.submit_fault.SubmitFault.TheVariants.{Proto, Write, Read, Ended, Mismatch, NotReply, OutOfMemory}
 use Rattle.dns_update_client.specs.Exchange.{IsInputFault, Leaves, StopsReceiving, unreceived, ended, no_memory, TakesUntil}
@@ -19,11 +17,11 @@ took-whole a None bytes count took whole = tt
 took-whole None (Some rest) bytes count took whole = absurd took
 took-whole (Some left) (Some rest) bytes count took whole = (took, λ short. absurd (omega (arith, whole, short)))
 
-pub took-to-end : (a b c : Option (List ℕ)) (bytes none : List ℕ) (count zero : ℕ) → Takes a b bytes → Takes b c none → EndsAt b c zero → zero ≡ 0 → none ≡ [] → GivesUpTo count a c bytes
-took-to-end a b None bytes none count zero took next end is empty = tt
-took-to-end a None (Some rest) bytes none count zero took next end is empty = absurd next
-took-to-end None (Some left) (Some rest) bytes none count zero took next end is empty = absurd took
-took-to-end (Some all) (Some left) (Some rest) bytes none count zero took next end is empty =
+pub took-to-end : (a b c : Option (List ℕ)) (bytes none : List ℕ) (count got : ℕ) → Takes a b bytes → Takes b c none → EndsAt b c got → got ≡ 0 → none ≡ [] → GivesUpTo count a c bytes
+took-to-end a b None bytes none count got took next end is empty = tt
+took-to-end a None (Some rest) bytes none count got took next end is empty = absurd next
+took-to-end None (Some left) (Some rest) bytes none count got took next end is empty = absurd took
+took-to-end (Some all) (Some left) (Some rest) bytes none count got took next end is empty =
     let same : left ≡ rest = next ∙ ap (λ (l : List ℕ). l ++ rest) empty in
     (took ∙ ap (λ (l : List ℕ). bytes ++ l) same, λ short. sym same ∙ end.0 is)
 
@@ -123,6 +121,5 @@ ends-in-message number prefix body a b c two gives next short =
 pub whole-message : (prefix body : List ℕ) (a b c : Option (List ℕ)) → ((i : ℕ) → get_or prefix i 0 < 256) → length prefix ≡ 2 → GivesUpTo 2 a b prefix → GivesUpTo (get_or prefix 0 0 * 256 + get_or prefix 1 0) b c body
     → length body ≡ get_or prefix 0 0 * 256 + get_or prefix 1 0 → Takes a c (frame body)
 whole-message prefix body a b c fits two gives next is =
-    let P : List ℕ → Type 0 = λ (l : List ℕ). Takes a c l in
     let count = get_or prefix 0 0 * 256 + get_or prefix 1 0 in
-    rw ← (frame-of-parts prefix body fits two is) (Takes-more a b c prefix body (took 2 a b prefix gives) (took count b c body next))
+    rw (← frame-of-parts prefix body fits two is) (Takes-more a b c prefix body (took 2 a b prefix gives) (took count b c body next))

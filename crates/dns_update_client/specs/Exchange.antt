@@ -1,6 +1,6 @@
 -- What is exchanged with a server: messages are sent one after another, each behind its length, and each is answered by a reply
 -- behind its length before the next one is sent (RFC 1035 4.2.2, RFC 2136 2).
-use Rattle.std.specs.Prelude.{◌≡◌, ◌≢◌, ℕ, ◌+◌, ◌*◌, ◌≤◌, List, [], ◌∷◌, ◌++◌, length, map, Bool, true, Option, Some, None}
+use Rattle.std.specs.Prelude.{◌≡◌, ◌≢◌, ℕ, ◌+◌, ◌*◌, ◌≤◌, List, [], ◌∷◌, ◌++◌, length, true, Option, Some, None}
 use Rattle.std.specs.List.{flat_map}
 use Rattle.dns_io.specs.Edge.{Told, Takes, Grows}
 use Rattle.dns_name.specs.declared.fault.ProtoError.{ProtoError}
@@ -131,3 +131,13 @@ pub record StopsAt (messages : List Message) (fault : SubmitFault) (left rest ta
   pub cause : Stops message (length front + 1) sent_part got_part fault
   pub received : TakesUntil fault left rest (frames_of replies ++ got_part)
   pub sent : Grows taken now (message_frames front ++ sent_part)
+
+-- a fault that follows from the messages and what the input has: neither the input nor the output failed, nor did memory run out
+abbrev pub IsDecided : SubmitFault → Type 0
+IsDecided (Proto error) = Unit {0}
+IsDecided (Ended number) = Unit {0}
+IsDecided (Mismatch want got) = Unit {0}
+IsDecided (NotReply id) = Unit {0}
+IsDecided Write = ⊥
+IsDecided Read = ⊥
+IsDecided OutOfMemory = ⊥

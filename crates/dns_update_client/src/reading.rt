@@ -1,8 +1,7 @@
 //! What a reply says.
 
-ghost use Rattle.std.specs.Prelude.{◌≡◌, ◌≤◌, ◌<◌, ◌^◌, ◌↔◌, IsTrue, length, IfOk, IfErr};
-ghost use Rattle.dns_wire.specs.Messages.{MessageAt};
-ghost use Rattle.dns_update_client.specs.Exchange.{full_code, upper_bits, IsUpdateReply, Replies, StopsReading};
+ghost use Rattle.std.specs.Prelude.{◌≡◌, ◌≤◌, ◌<◌, ◌+◌, ◌*◌, ◌↔◌, IsTrue, length, IfOk, IfErr};
+ghost use Rattle.dns_update_client.specs.Exchange.{upper_bits, IsUpdateReply, Replies, StopsReading};
 
 use crate::submit_fault::SubmitFault;
 use dns_wire::{Edns, Message, opcode};
@@ -14,17 +13,19 @@ pub(crate) fn code_in(alloc: Global, id: u16, bytes: &[u8]) -> Result<u16, Submi
     ensures ok { IfOk result (λ code. Replies id bytes.now code) }
     ensures err { IfErr result (StopsReading id bytes.now) }
 {
-    let reply = Message::from_vec(alloc, bytes)?;
-    if reply.header.id != id {
-        return Err(SubmitFault::Mismatch {
-            want: id,
-            got: reply.header.id,
-        });
+    match Message::from_vec(alloc, bytes) {
+        Err(error) => Err(SubmitFault::from(error)),
+        Ok(reply) => {
+            let got = reply.header.id;
+            if got != id {
+                return Err(SubmitFault::Mismatch { want: id, got });
+            }
+            if !is_update_reply(&reply) {
+                return Err(SubmitFault::NotReply { id });
+            }
+            Ok(joined(upper_bits(&reply.edns), reply.header.code))
+        }
     }
-    if !is_update_reply(&reply) {
-        return Err(SubmitFault::NotReply { id });
-    }
-    Ok(code_of(&reply))
 }
 
 /// Whether a message says that it is the reply to an update.
@@ -34,11 +35,12 @@ fn is_update_reply(message: &Message) -> bool
     message.header.qr && message.header.opcode == opcode::UPDATE
 }
 
-/// The code of a message that was read.
-fn code_of(message: &Message) -> u16
-    ensures { result ≡ full_code message.now }
+/// The code with these bits above those of the header (RFC 6891 6.1.3).
+fn joined(upper: u16, code: u8) -> u16
+    requires { upper < 256 }
+    ensures { result ≡ upper * 16 + code }
 {
-    upper_bits(&message.edns) * 16 + u16::from(message.header.code)
+    upper * 16 + u16::from(code)
 }
 
 fn upper_bits(edns: &Option<Edns>) -> u16

@@ -1,5 +1,7 @@
-use Rattle.dns_update_client.proofs.Framing.{frame-made}
+use Rattle.std.proofs.Common.{arith}
+use Rattle.dns_update_client.specs.Framed.{frame}
 use Rattle.dns_update_client.proofs.sending.framed.Goals as goal
 
 pub returns : goal.returns
-returns c = ?
+unfolding frame
+returns c = grind arith
