@@ -1,4 +1,7 @@
 mod Exchanging
+mod FrameParts
 mod Framing
 mod NotSent
 mod Pieces
+mod TooLong
+mod Unique

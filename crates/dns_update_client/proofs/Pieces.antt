@@ -93,9 +93,11 @@ took count (Some left) (Some rest) bytes gives = gives.0
 pub broke-in-message : (fault : SubmitFault) (number : ℕ) (prefix : List ℕ) (a b c : Option (List ℕ)) → IsInputFault fault → length prefix ≡ 2 → GivesUpTo 2 a b prefix
     → ((got : List ℕ) × (length got ≤ get_or prefix 0 0 * 256 + get_or prefix 1 0) × Takes b c got)
     → (got : List ℕ) × StopsReceiving number got fault × TakesUntil fault a c got
-broke-in-message fault number prefix a b c is two gives part =
-    (prefix ++ part.0, broke fault number (prefix ++ part.0) is (body-part prefix part.0 two part.1),
-    until fault a c (prefix ++ part.0) is (Takes-more a b c prefix part.0 (took 2 a b prefix gives) part.2))
+broke-in-message fault number prefix a b c is two gives part = (
+  prefix ++ part.0,
+  broke fault number (prefix ++ part.0) is (body-part prefix part.0 two part.1),
+  until fault a c (prefix ++ part.0) is (Takes-more a b c prefix part.0 (took 2 a b prefix gives) part.2),
+)
 
 unfinished-message : (prefix body : List ℕ) → length prefix ≡ 2 → length body < get_or prefix 0 0 * 256 + get_or prefix 1 0 → IsUnfinished (prefix ++ body)
 unfinished-message [] body two short = absurd (omega (arith, two))

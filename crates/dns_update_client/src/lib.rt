@@ -1,6 +1,7 @@
 //! A client that sends updates to a server, one after another, and reads their replies (RFC 2136).
 #![tactic(auto)]
 
+pub mod laws;
 mod reading;
 mod receiving;
 mod sending;

@@ -52,11 +52,7 @@ fn said_length(prefix: &[u8]) -> Option<usize>
 }
 
 /// Reads until there are so many bytes, or the input ends.
-fn read_up_to<R: Source>(
-    alloc: Global,
-    input: &mut R,
-    count: usize,
-) -> Result<Vec<u8>, SubmitFault>
+fn read_up_to<R: Source>(alloc: Global, input: &mut R, count: usize) -> Result<Vec<u8>, SubmitFault>
     ensures given { IfOk result (λ bytes. GivesUpTo count (R.left input.old) (R.left input.new) bytes.items) }
     ensures within { IfOk result (λ bytes. length bytes.items ≤ count) }
     ensures part { OnErr result ((got : List ℕ) × (length got ≤ count) × Takes (R.left input.old) (R.left input.new) got) }
