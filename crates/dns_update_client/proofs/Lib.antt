@@ -1,8 +1,11 @@
+mod Framing
+mod Pieces
+mod Exchanging
+mod NotSent
+mod FrameParts
+mod TooLong
+mod Unique
 mod ScriptRead
 mod LinesWritten
 mod Submitted
 mod Endings
-mod Exchanging
-mod Framing
-mod NotSent
-mod Pieces

@@ -4,6 +4,7 @@
 
 mod client;
 mod help;
+pub mod laws;
 mod lines;
 mod output;
 mod reading;
