@@ -9,3 +9,4 @@ mod ScriptRead
 mod LinesWritten
 mod Submitted
 mod Endings
+mod Completing

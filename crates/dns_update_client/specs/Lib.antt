@@ -8,3 +8,4 @@ pub mod World
 pub mod Writing
 pub mod Steps
 pub mod Ends
+pub mod Completeness

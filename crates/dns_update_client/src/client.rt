@@ -7,6 +7,7 @@ ghost use Rattle.dns_update_client.specs.Lines.{code_lines};
 ghost use Rattle.dns_update_client.specs.World.{World};
 ghost use Rattle.dns_update_client.specs.Steps.{LoadsScript, LoadsNoScript, Converses, IsRefused};
 ghost use Rattle.dns_update_client.specs.Ends.{Ends};
+ghost use Rattle.dns_update_client.specs.Completeness.{Completes};
 ghost use Rattle.dns_update_client.specs.Writing.{EndsWriting};
 
 use crate::output::{put_codes, refuse};
@@ -48,7 +49,7 @@ pub fn nsupdate<E: Source, R: Source, W: Sink, O: Sink>(
       input = around R.left R.faults input.old input.new;
       output = around_sink W.taken W.flushed W.faults output.old output.new;
       out = around_sink O.taken O.flushed O.faults out.old out.new;
-    } in Ends w result }
+    } in Ends w result × Completes w result }
     ensures later_script { E.faults script.old ≤ E.faults script.new }
     ensures later_input { R.faults input.old ≤ R.faults input.new }
     ensures later_output { W.faults output.old ≤ W.faults output.new }
