@@ -1,7 +1,7 @@
 -- The records that a script's lines write are of their types, and none is an OPT: so they read as themselves where they are written.
-use Rattle.std.proofs.Common.{◌≡◌, ℕ, zero, suc, ◌+◌, ◌%◌, Bool, true, false, ◌==◌, ◌||◌, nat_lt, List, [], ◌∷◌, ◌++◌, length, drop, Option, Some, None, Result, Ok, Err, IfOk, refl, sym, ap, subst, ◌∙◌, arith, lit<}
+use Rattle.std.proofs.Common.{◌≡◌, ℕ, zero, suc, ◌+◌, ◌%◌, Bool, true, false, ◌==◌, ◌||◌, List, [], ◌∷◌, ◌++◌, length, drop, Option, Some, None, Result, Ok, Err, IfOk, refl, sym, ap, subst, ◌∙◌, lit<}
 use Rattle.std.specs.Prelude.{if◌then◌else◌}
-use Rattle.std.specs.List.{AllByRecursion, after_last, filter_map}
+use Rattle.std.specs.List.{AllByRecursion, filter_map}
 use Rattle.std.specs.Str.{bytes_eq}
 use lib.Chars.{codes}
 use Rattle.dns_wire.specs.declared.record.Record.{Record}
@@ -9,11 +9,10 @@ use Rattle.dns_wire.specs.declared.record_type.TheConstants as record_type
 use Rattle.dns_wire.specs.declared.class.TheConstants as class
 use Rattle.dns_wire.specs.Messages.{is_opt}
 use Rattle.dns_wire.specs.ReadBack.{IsOfItsType, IsPlain}
-use Rattle.dns_zone_map.specs.Zone.{is_meta}
 use Rattle.dns_presentation.specs.declared.data_text.WrittenType.{WrittenType}
 use Rattle.dns_presentation.specs.Words.{Word}
 use Rattle.dns_presentation.specs.Values.{is_word}
-use Rattle.dns_presentation.specs.DataText.{named_type, numbered_type, is_meta_type, typed, type_of}
+use Rattle.dns_presentation.specs.DataText.{named_type, numbered_type, typed, type_of}
 use Rattle.dns_zone.specs.declared.zone_text.ZoneTextKind.{ZoneTextKind}
 use Rattle.dns_zone.proofs.Readings.{IsRead, taken, some_same, IsWritten-type_of}
 use Rattle.dns_update_script.specs.declared.fault.ScriptKind.{ScriptKind}
@@ -25,7 +24,7 @@ use Rattle.dns_update_script.specs.declared.script.Sending.{Sending}
 use Rattle.dns_update_script.specs.Words.{words_of, from_word, behind_word}
 use Rattle.dns_update_script.specs.Entry.{entry_in}
 use Rattle.dns_update_script.specs.Line.{◌>>=◌, name_in, number_in, type_in, bare, of_name, of_set, or_entry, entry_with, of_record, name_is, set_exists, set_lacks, prerequisite_of, added, deleted, change_of, begun, zone_line, send_line, command_of, is_comment, worded, line_of}
-use Rattle.dns_update_script.specs.Script.{prerequisite_in, change_in, is_send, last_zone, unsent, sending_to, sending_behind, first_unsent, ended, at_line, before, sent, sendings_from}
+use Rattle.dns_update_script.specs.Script.{prerequisite_in, change_in, last_zone, unsent, sending_to, sending_behind, first_unsent, ended, at_line, before, sent, sendings_from}
 use Rattle.dns_update_script.specs.Meant.{update_of, meant_by}
 use Rattle.dns_update_script.proofs.EntryRecords.{entry_in-read}
 use Rattle.dns_update_script.specs.Plain.{IsPlainRecord, IsPlainLine, IsPlainSending, ArePlain}
