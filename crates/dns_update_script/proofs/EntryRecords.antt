@@ -1,5 +1,5 @@
 -- What holds of the record of an entry that stands alone.
-use Rattle.std.proofs.Common.{◌≡◌, ℕ, Bool, true, false, List, [], ◌∷◌, Option, None, Result, Ok, Err, refl, ap, arith}
+use Rattle.std.proofs.Common.{◌≡◌, ℕ, Bool, true, false, List, [], Option, Result, Ok, Err, refl, ap, ◌∙◌, arith}
 use Rattle.dns_wire.specs.declared.record.Record.{Record}
 use Rattle.dns_presentation.specs.declared.fault.EntryKind.{EntryKind}
 use Rattle.dns_presentation.specs.declared.entry.Entry.{Entry}

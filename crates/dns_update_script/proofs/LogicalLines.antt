@@ -2,8 +2,8 @@
 use Rattle.std.proofs.Common.{◌≡◌, ℕ, ◌<◌, Bool, true, false, ◌==◌, List, [], ◌∷◌, ◌++◌, length, refl, length-append, arith}
 use Rattle.std.specs.Prelude.{if◌then◌else◌}
 use Rattle.std.proofs.lemmas.Bool.Decides.{Decides-eqb}
-use Rattle.dns_presentation.specs.Lines.{without_return, lines_from, lines_of}
-use Rattle.dns_presentation.specs.LogicalLines.{LogicalLine, begun_line, longer_line, lines_after, logical_from, logical_lines}
+use Rattle.dns_presentation.specs.Lines.{without_return, lines_from}
+use Rattle.dns_presentation.specs.LogicalLines.{LogicalLine, begun_line, longer_line, lines_after, logical_lines}
 
 -- the list has an element
 abbrev HasFirst : {X : Type 0} → List X → Type 0

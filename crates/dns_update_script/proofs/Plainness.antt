@@ -1,18 +1,18 @@
 -- The records that a script's lines write are of their types, and none is an OPT: so they read as themselves where they are written.
-use Rattle.std.proofs.Common.{◌≡◌, ℕ, zero, suc, ◌+◌, ◌%◌, Bool, true, false, ◌==◌, ◌||◌, nat_lt, List, [], ◌∷◌, ◌++◌, length, drop, Option, Some, None, Result, Ok, Err, IfOk, refl, sym, ap, subst, ◌∙◌, arith, lit<}
+use Rattle.std.proofs.Common.{◌≡◌, ℕ, zero, suc, ◌+◌, ◌%◌, Bool, true, false, ◌==◌, ◌||◌, List, [], ◌∷◌, ◌++◌, length, drop, Option, Some, None, Result, Ok, Err, IfOk, refl, sym, ap, subst, ◌∙◌, lit<}
 use Rattle.std.specs.Prelude.{if◌then◌else◌}
-use Rattle.std.specs.List.{AllByRecursion, after_last, filter_map}
+use Rattle.std.specs.List.{AllByRecursion, filter_map}
+use Rattle.std.specs.Str.{bytes_eq}
 use lib.Chars.{codes}
 use Rattle.dns_wire.specs.declared.record.Record.{Record}
 use Rattle.dns_wire.specs.declared.record_type.TheConstants as record_type
 use Rattle.dns_wire.specs.declared.class.TheConstants as class
 use Rattle.dns_wire.specs.Messages.{is_opt}
 use Rattle.dns_wire.specs.ReadBack.{IsOfItsType, IsPlain}
-use Rattle.dns_zone_map.specs.Zone.{is_meta}
 use Rattle.dns_presentation.specs.declared.data_text.WrittenType.{WrittenType}
 use Rattle.dns_presentation.specs.Words.{Word}
 use Rattle.dns_presentation.specs.Values.{is_word}
-use Rattle.dns_presentation.specs.DataText.{named_type, numbered_type, is_meta_type, typed, type_of}
+use Rattle.dns_presentation.specs.DataText.{named_type, numbered_type, typed, type_of}
 use Rattle.dns_zone.specs.declared.zone_text.ZoneTextKind.{ZoneTextKind}
 use Rattle.dns_zone.proofs.Readings.{IsRead, taken, some_same, IsWritten-type_of}
 use Rattle.dns_update_script.specs.declared.fault.ScriptKind.{ScriptKind}
@@ -24,7 +24,7 @@ use Rattle.dns_update_script.specs.declared.script.Sending.{Sending}
 use Rattle.dns_update_script.specs.Words.{words_of, from_word, behind_word}
 use Rattle.dns_update_script.specs.Entry.{entry_in}
 use Rattle.dns_update_script.specs.Line.{◌>>=◌, name_in, number_in, type_in, bare, of_name, of_set, or_entry, entry_with, of_record, name_is, set_exists, set_lacks, prerequisite_of, added, deleted, change_of, begun, zone_line, send_line, command_of, is_comment, worded, line_of}
-use Rattle.dns_update_script.specs.Script.{prerequisite_in, change_in, is_send, last_zone, unsent, sending_to, sending_behind, first_unsent, ended, at_line, before, sent, sendings_from}
+use Rattle.dns_update_script.specs.Script.{prerequisite_in, change_in, last_zone, unsent, sending_to, sending_behind, first_unsent, ended, at_line, before, sent, sendings_from}
 use Rattle.dns_update_script.specs.Meant.{update_of, meant_by}
 use Rattle.dns_update_script.proofs.EntryRecords.{entry_in-read}
 use Rattle.dns_update_script.specs.Plain.{IsPlainRecord, IsPlainLine, IsPlainSending, ArePlain}
@@ -42,6 +42,16 @@ IsPlainRecord-read r read = record { form = read.form; no_opt = not_opt (r.rtype
 IfOk-if : {X : Type 0} (P : X → Type 0) (test : Bool) (first second : Result X ScriptKind) → IfOk first P → IfOk second P → IfOk (if test then first else second) P
 IfOk-if P true first second a b = a
 IfOk-if P false first second a b = b
+
+IfOk-if_two : {X : Type 0} (P : X → Type 0) (s t : Bool) (a b c : Result X ScriptKind) → IfOk a P → IfOk b P → IfOk c P → IfOk (if s then a else if t then b else c) P
+IfOk-if_two P true t a b c ha hb hc = ha
+IfOk-if_two P false true a b c ha hb hc = hb
+IfOk-if_two P false false a b c ha hb hc = hc
+
+IfOk-if_four : {X : Type 0} (P : X → Type 0) (s t u v : Bool) (a b c d e : Result X ScriptKind) → IfOk a P → IfOk b P → IfOk c P → IfOk d P → IfOk e P → IfOk (if s then a else if t then b else if u then c else if v then d else e) P
+IfOk-if_four P true t u v a b c d e ha hb hc hd he = ha
+IfOk-if_four P false true u v a b c d e ha hb hc hd he = hb
+IfOk-if_four P false false u v a b c d e ha hb hc hd he = IfOk-if_two P u v c d e hc hd he
 
 IfOk-bind : {X Y : Type 0} (Q : X → Type 0) (P : Y → Type 0) (found : Result X ScriptKind) (next : X → Result Y ScriptKind) → IfOk found Q → ((x : X) → Q x → IfOk (next x) P) → IfOk (found >>= next) P
 IfOk-bind Q P (Ok x) next held more = more x held
@@ -136,10 +146,9 @@ IfOk-set_lacks (name ∷ type ∷ word ∷ words) = tt
 IfOk-prerequisite_of : (word rest : List ℕ) → IfOk (prerequisite_of word rest) IsPlainRecord
 unfolding prerequisite_of
 IfOk-prerequisite_of word rest =
-    IfOk-if IsPlainRecord _ _ _ (IfOk-name_is class.ANY (words_of rest))
-    (IfOk-if IsPlainRecord _ _ _ (IfOk-name_is class.NONE (words_of rest))
-    (IfOk-if IsPlainRecord _ _ _ (IfOk-set_exists (words_of rest) (from_word rest))
-    (IfOk-if IsPlainRecord _ _ _ (IfOk-set_lacks (words_of rest)) tt)))
+    IfOk-if_four IsPlainRecord (bytes_eq word (codes "yxdomain")) (bytes_eq word (codes "nxdomain")) (bytes_eq word (codes "yxrrset")) (bytes_eq word (codes "nxrrset"))
+    (name_is class.ANY (words_of rest)) (name_is class.NONE (words_of rest)) (set_exists (words_of rest) (from_word rest)) (set_lacks (words_of rest)) (Err kind.Word)
+    (IfOk-name_is class.ANY (words_of rest)) (IfOk-name_is class.NONE (words_of rest)) (IfOk-set_exists (words_of rest) (from_word rest)) (IfOk-set_lacks (words_of rest)) tt
 
 -- changes
 IfOk-added : (words : List (List ℕ)) (text : List ℕ) → IfOk (added words text) IsPlainRecord
@@ -155,8 +164,8 @@ IfOk-deleted (name ∷ type ∷ word ∷ words) text = IfOk-of_record class.NONE
 IfOk-change_of : (word rest : List ℕ) → IfOk (change_of word rest) IsPlainRecord
 unfolding change_of
 IfOk-change_of word rest =
-    IfOk-if IsPlainRecord _ _ _ (IfOk-added (words_of rest) (from_word rest))
-    (IfOk-if IsPlainRecord _ _ _ (IfOk-deleted (words_of rest) (from_word rest)) tt)
+    IfOk-if_two IsPlainRecord (bytes_eq word (codes "add")) (bytes_eq word (codes "delete")) (added (words_of rest) (from_word rest)) (deleted (words_of rest) (from_word rest)) (Err kind.Word)
+    (IfOk-added (words_of rest) (from_word rest)) (IfOk-deleted (words_of rest) (from_word rest)) tt
 
 IfOk-begun : (by : List ℕ → List ℕ → Result Record ScriptKind) → ((word rest : List ℕ) → IfOk (by word rest) IsPlainRecord) → (words : List (List ℕ)) (rest : List ℕ) → IfOk (begun by words rest) IsPlainRecord
 IfOk-begun by each [] rest = tt
@@ -175,11 +184,13 @@ IfOk-send_line (word ∷ words) = tt
 IfOk-command_of : (word rest : List ℕ) → IfOk (command_of word rest) IsPlainLine
 unfolding command_of
 IfOk-command_of word rest =
-    IfOk-if IsPlainLine _ _ _ (IfOk-zone_line (words_of rest))
-    (IfOk-if IsPlainLine _ _ _ (IfOk-send_line (words_of rest))
-    (IfOk-if IsPlainLine _ _ _ (IfOk-bind IsPlainRecord IsPlainLine (begun prerequisite_of (words_of rest) rest) (λ r. Ok (Prerequisite r)) (IfOk-begun prerequisite_of IfOk-prerequisite_of (words_of rest) rest) (λ r plain. plain))
-    (IfOk-if IsPlainLine _ _ _ (IfOk-bind IsPlainRecord IsPlainLine (begun change_of (words_of rest) rest) (λ r. Ok (Change r)) (IfOk-begun change_of IfOk-change_of (words_of rest) rest) (λ r plain. plain))
-    (IfOk-bind IsPlainRecord IsPlainLine (change_of word rest) (λ r. Ok (Change r)) (IfOk-change_of word rest) (λ r plain. plain)))))
+    IfOk-if_four IsPlainLine (bytes_eq word (codes "zone")) (bytes_eq word (codes "send")) (bytes_eq word (codes "prereq")) (bytes_eq word (codes "update"))
+    (zone_line (words_of rest)) (send_line (words_of rest)) (begun prerequisite_of (words_of rest) rest >>= λ r. Ok (Prerequisite r)) (begun change_of (words_of rest) rest >>= λ r. Ok (Change r)) (change_of word rest >>= λ r. Ok (Change r))
+    (IfOk-zone_line (words_of rest))
+    (IfOk-send_line (words_of rest))
+    (IfOk-bind IsPlainRecord IsPlainLine (begun prerequisite_of (words_of rest) rest) (λ r. Ok (Prerequisite r)) (IfOk-begun prerequisite_of IfOk-prerequisite_of (words_of rest) rest) (λ r plain. plain))
+    (IfOk-bind IsPlainRecord IsPlainLine (begun change_of (words_of rest) rest) (λ r. Ok (Change r)) (IfOk-begun change_of IfOk-change_of (words_of rest) rest) (λ r plain. plain))
+    (IfOk-bind IsPlainRecord IsPlainLine (change_of word rest) (λ r. Ok (Change r)) (IfOk-change_of word rest) (λ r plain. plain))
 
 IfOk-worded : (words : List (List ℕ)) (rest : List ℕ) → IfOk (worded words rest) IsPlainLine
 IfOk-worded [] rest = tt

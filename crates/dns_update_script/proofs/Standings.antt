@@ -1,5 +1,5 @@
 -- What is kept of lines as they are read is what they say together.
-use Rattle.std.proofs.Common.{◌≡◌, ℕ, zero, suc, ◌+◌, ◌-◌, ◌<◌, ◌≤◌, Bool, true, false, not, cond, List, [], ◌∷◌, ◌++◌, length, reverse, drop, Option, Some, None, Result, Ok, Err, refl, sym, ap, ◌∙◌, append_assoc, length-append, length-drop, arith}
+use Rattle.std.proofs.Common.{◌≡◌, ℕ, ◌+◌, ◌-◌, ◌≤◌, Bool, true, false, not, cond, List, [], ◌∷◌, ◌++◌, length, Option, Some, None, Result, Ok, Err, refl, sym, ap, ◌∙◌, length-append, length-drop, arith}
 use Rattle.std.specs.List.{after_last, filter_map, position_from, prefix_len, suffix_len}
 use Rattle.std.specs.Option.{option_or}
 use Rattle.std.proofs.lemmas.List.{append-nil, reverse-append, drop-append-le}
@@ -99,16 +99,42 @@ module _ (front : List Line) (said : Line) (other : is_send said ≡ false) wher
   listed_more : {X : Type 0} (h : Line → Option X) → filter_map h (unsent (front ++ said ∷ [])) ≡ filter_map h (unsent front) ++ filter_map h (said ∷ [])
   listed_more h = ap (filter_map h) unsent_more ∙ filter_map-append h (unsent front) (said ∷ [])
 
+-- what is kept is the same where each part is
+same_standing : {lines lines' : ℕ} {zone zone' : Option (List (List ℕ))} {prerequisites prerequisites' changes changes' : List Record} {first first' : Option ℕ}
+    → lines' ≡ lines → zone' ≡ zone → prerequisites' ≡ prerequisites → changes' ≡ changes → first' ≡ first
+    → let before : Standing = record { lines = lines; zone = zone; prerequisites = prerequisites; changes = changes; first = first } in
+    let after : Standing = record { lines = lines'; zone = zone'; prerequisites = prerequisites'; changes = changes'; first = first' } in
+    before ≡ after
+same_standing l z p c f = rw (l, z, p, c, f) refl
+
 -- it is what is kept line by line
 pub kept-standing_of : (front : List Line) (said : Line) → kept (standing_of front) said ≡ standing_of (front ++ said ∷ [])
-kept-standing_of front Nothing = rw (count_more front Nothing refl, last_zone-more front Nothing, listed_more front Nothing refl prerequisite_in, listed_more front Nothing refl change_in, first_more front Nothing refl, option_or-none (first_unsent front), append-nil (filter_map prerequisite_in (unsent front)), append-nil (filter_map change_in (unsent front))) refl
-kept-standing_of front (Zone name) = rw (count_more front (Zone name) refl, last_zone-more front (Zone name), listed_more front (Zone name) refl prerequisite_in, listed_more front (Zone name) refl change_in, first_more front (Zone name) refl, option_or-none (first_unsent front), append-nil (filter_map prerequisite_in (unsent front)), append-nil (filter_map change_in (unsent front))) refl
-kept-standing_of front (Prerequisite r) = rw (count_more front (Prerequisite r) refl, last_zone-more front (Prerequisite r), listed_more front (Prerequisite r) refl prerequisite_in, listed_more front (Prerequisite r) refl change_in, first_more front (Prerequisite r) refl, append-nil (filter_map change_in (unsent front))) refl
-kept-standing_of front (Change r) = rw (count_more front (Change r) refl, last_zone-more front (Change r), listed_more front (Change r) refl prerequisite_in, listed_more front (Change r) refl change_in, first_more front (Change r) refl, append-nil (filter_map prerequisite_in (unsent front))) refl
+kept-standing_of front Nothing =
+    same_standing (count_more front Nothing refl) (last_zone-more front Nothing)
+    (listed_more front Nothing refl prerequisite_in ∙ append-nil (filter_map prerequisite_in (unsent front)))
+    (listed_more front Nothing refl change_in ∙ append-nil (filter_map change_in (unsent front)))
+    (first_more front Nothing refl ∙ option_or-none (first_unsent front))
+kept-standing_of front (Zone name) =
+    same_standing (count_more front (Zone name) refl) (last_zone-more front (Zone name))
+    (listed_more front (Zone name) refl prerequisite_in ∙ append-nil (filter_map prerequisite_in (unsent front)))
+    (listed_more front (Zone name) refl change_in ∙ append-nil (filter_map change_in (unsent front)))
+    (first_more front (Zone name) refl ∙ option_or-none (first_unsent front))
+kept-standing_of front (Prerequisite r) =
+    same_standing (count_more front (Prerequisite r) refl) (last_zone-more front (Prerequisite r))
+    (listed_more front (Prerequisite r) refl prerequisite_in)
+    (listed_more front (Prerequisite r) refl change_in ∙ append-nil (filter_map change_in (unsent front)))
+    (first_more front (Prerequisite r) refl)
+kept-standing_of front (Change r) =
+    same_standing (count_more front (Change r) refl) (last_zone-more front (Change r))
+    (listed_more front (Change r) refl prerequisite_in ∙ append-nil (filter_map prerequisite_in (unsent front)))
+    (listed_more front (Change r) refl change_in)
+    (first_more front (Change r) refl)
 kept-standing_of front Send =
     let none : unsent (front ++ Send ∷ []) ≡ [] = after_last-passed is_send front Send refl in
-    let first : first_unsent (front ++ Send ∷ []) ≡ None = ap (position_from is_update (length (front ++ Send ∷ []) - length (unsent (front ++ Send ∷ [])) + 1)) none in
-    rw (first, none, length-append front (Send ∷ []), last_zone-more front Send) refl
+    same_standing (length-append front (Send ∷ [])) (last_zone-more front Send)
+    (ap (filter_map prerequisite_in) none)
+    (ap (filter_map change_in) none)
+    (ap (position_from is_update (length (front ++ Send ∷ []) - length (unsent (front ++ Send ∷ [])) + 1)) none)
 
 -- a line sends what stands behind the last `send`
 sending-standing_of : (front : List Line) (zone : Option (List (List ℕ))) → sending_at zone (standing_of front) ≡ sending_to zone (unsent front)

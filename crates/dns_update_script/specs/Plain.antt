@@ -5,7 +5,7 @@ use Rattle.dns_wire.specs.declared.record.Record.{Record}
 use Rattle.dns_wire.specs.Messages.{is_opt}
 use Rattle.dns_wire.specs.ReadBack.{IsOfItsType}
 use Rattle.dns_update_script.specs.declared.line.Line.{Line}
-use Rattle.dns_update_script.specs.declared.line.Line.TheVariants.{Nothing, Zone, Prerequisite, Change, Send}
+use Rattle.dns_update_script.specs.declared.line.Line.TheVariants.{Prerequisite, Change}
 use Rattle.dns_update_script.specs.declared.script.Sending.{Sending}
 
 -- the data of a record is of its type, and it is no OPT

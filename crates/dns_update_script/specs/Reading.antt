@@ -1,11 +1,10 @@
 -- An update script, read line by line: what is kept of the lines before.
-use Rattle.std.specs.Prelude.{◌≡◌, ℕ, ◌+◌, List, [], ◌∷◌, ◌++◌, Option, Some, None, Result, Ok, Err}
+use Rattle.std.specs.Prelude.{ℕ, ◌+◌, List, [], ◌∷◌, ◌++◌, Option, Some, None, Result, Ok, Err}
 use Rattle.std.specs.Option.{option_or}
 use Rattle.dns_wire.specs.declared.record.Record.{Record}
 use Rattle.dns_update_script.specs.declared.fault.ScriptKind.{ScriptKind}
 use Rattle.dns_update_script.specs.declared.fault.ScriptKind.TheVariants.{NoZone}
 use Rattle.dns_update_script.specs.declared.fault.ScriptFault.{ScriptFault}
-use Rattle.dns_update_script.specs.declared.fault.ScriptFault.TheVariants.{Refused}
 use Rattle.dns_update_script.specs.declared.line.Line.{Line}
 use Rattle.dns_update_script.specs.declared.line.Line.TheVariants.{Nothing, Zone, Prerequisite, Change, Send}
 use Rattle.dns_update_script.specs.declared.script.Sending.{Sending}

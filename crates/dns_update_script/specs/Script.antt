@@ -1,5 +1,5 @@
 -- The messages that the lines of an update script ask for, told over the lines that were read up to each `send`.
-use Rattle.std.specs.Prelude.{◌≡◌, ℕ, ◌+◌, ◌-◌, Bool, true, false, ◌||◌, List, [], ◌∷◌, ◌++◌, length, Option, Some, None, Result, Ok, Err}
+use Rattle.std.specs.Prelude.{◌≡◌, ℕ, ◌+◌, ◌-◌, Bool, true, false, List, [], ◌∷◌, ◌++◌, length, Option, Some, None, Result, Ok, Err}
 use Rattle.std.specs.List.{after_last, filter_map, position_from}
 use Rattle.std.specs.Option.{option_or}
 use Rattle.dns_wire.specs.declared.record.Record.{Record}
@@ -9,7 +9,7 @@ use Rattle.dns_update_script.specs.declared.fault.ScriptKind.TheVariants.{NoZone
 use Rattle.dns_update_script.specs.declared.fault.ScriptFault.{ScriptFault}
 use Rattle.dns_update_script.specs.declared.fault.ScriptFault.TheVariants.{Refused, OutOfMemory}
 use Rattle.dns_update_script.specs.declared.line.Line.{Line}
-use Rattle.dns_update_script.specs.declared.line.Line.TheVariants.{Nothing, Zone, Prerequisite, Change, Send}
+use Rattle.dns_update_script.specs.declared.line.Line.TheVariants.{Zone, Prerequisite, Change, Send}
 use Rattle.dns_update_script.specs.declared.script.Sending.{Sending}
 use Rattle.dns_update_script.specs.Line.{line_of}
 

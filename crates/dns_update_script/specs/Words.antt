@@ -1,5 +1,5 @@
 -- The words of a line of an update script: the longest runs of bytes other than space and tab.
-use Rattle.std.specs.Prelude.{◌≡◌, ℕ, Bool, if◌then◌else◌, List, [], ◌∷◌, ◌++◌}
+use Rattle.std.specs.Prelude.{◌≡◌, ℕ, if◌then◌else◌, List, [], ◌∷◌, ◌++◌}
 use Rattle.dns_presentation.specs.Words.{is_blank}
 use Rattle.dns_update_script.specs.declared.words.Words.{Words}
 use Rattle.dns_update_script.specs.declared.words.Words.TheVariants as few

@@ -1,8 +1,8 @@
 -- A text that goes on behind a logical line has a second one.
-use Rattle.std.proofs.Common.{◌≡◌, ◌<◌, ◌∷◌, Ok, Err, length, ap, sym, ◌∙◌, arith}
-use Rattle.dns_presentation.specs.Entries.{◌>>=◌, entry_of}
+use Rattle.std.proofs.Common.{◌≡◌, ◌<◌, ◌∷◌, Err, length, ap, sym, ◌∙◌, arith}
+use Rattle.dns_presentation.specs.Entries.{◌>>=◌}
 use Rattle.dns_presentation.specs.LogicalLines.{logical_lines}
-use Rattle.dns_update_script.specs.Entry.{broken, only_line, line_entry, text_entry}
+use Rattle.dns_update_script.specs.Entry.{only_line, line_entry, text_entry}
 use Rattle.dns_update_script.proofs.LogicalLines.{logical_lines-some}
 use Rattle.dns_update_script.proofs.entry.text_entry.Goals as goal
 
