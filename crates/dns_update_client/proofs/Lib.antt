@@ -1,0 +1,12 @@
+mod Framing
+mod Pieces
+mod Exchanging
+mod NotSent
+mod FrameParts
+mod TooLong
+mod Unique
+mod ScriptRead
+mod LinesWritten
+mod Submitted
+mod Endings
+mod Completing

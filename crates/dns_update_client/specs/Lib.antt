@@ -1,0 +1,11 @@
+pub mod Faults
+pub mod Framed
+pub mod Exchange
+pub mod Settings
+pub mod Status
+pub mod Lines
+pub mod World
+pub mod Writing
+pub mod Steps
+pub mod Ends
+pub mod Completeness

@@ -1,0 +1,7 @@
+pub mod Entry
+pub mod Line
+pub mod Meant
+pub mod Plain
+pub mod Reading
+pub mod Script
+pub mod Words
