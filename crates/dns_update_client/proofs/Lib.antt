@@ -5,3 +5,4 @@ mod NotSent
 mod Pieces
 mod TooLong
 mod Unique
+mod UpdateReplies

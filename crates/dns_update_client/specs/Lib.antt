@@ -1,3 +1,4 @@
 pub mod Faults
 pub mod Framed
 pub mod Exchange
+pub mod SettledUpdates
