@@ -5,6 +5,7 @@ mod NotSent
 mod FrameParts
 mod TooLong
 mod Unique
+mod UpdateReplies
 mod ScriptRead
 mod LinesWritten
 mod Submitted

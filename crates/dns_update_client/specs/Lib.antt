@@ -1,6 +1,7 @@
 pub mod Faults
 pub mod Framed
 pub mod Exchange
+pub mod SettledUpdates
 pub mod Settings
 pub mod Status
 pub mod Lines

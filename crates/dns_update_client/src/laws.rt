@@ -1,9 +1,15 @@
 //! What an exchange obeys: each law is a call that does nothing and whose contract is the law.
 
-ghost use Rattle.std.specs.Prelude.{◌≡◌, ℕ, List, Option, Some};
+ghost use Rattle.std.specs.Prelude.{◌≡◌, ◌++◌, ℕ, List, Option, Some};
 ghost use Rattle.dns_wire.specs.declared.message.Message.{Message};
+ghost use Rattle.dns_book.specs.Access.{Access};
+ghost use Rattle.dns_book.specs.Book.{SeenOf};
 ghost use Rattle.dns_update_client.specs.declared.submit_fault.SubmitFault.{SubmitFault as Fault};
-ghost use Rattle.dns_update_client.specs.Exchange.{Answers, IsDecided, StopsAt};
+ghost use Rattle.dns_update_client.specs.Exchange.{Answers, Exchanges, IsDecided, StopsAt};
+ghost use Rattle.dns_update_client.specs.Framed.{frames_of};
+ghost use Rattle.dns_update_client.specs.SettledUpdates.{SettlesUpdates};
+
+use dns_keeper::Keeper;
 
 /// The messages and what an input has decide how they are exchanged, where neither the input nor the output fails and memory does
 /// not run out.
@@ -14,4 +20,18 @@ pub fn decided_exchanges()
         → StopsAt messages f (Some left) (Some y) r s → IsDecided f → ⊥ }
     ensures fault { (messages : List Message) (left x y : List ℕ) (f g : Fault) (p q r s : Option (List ℕ)) → StopsAt messages f (Some left) (Some x) p q
         → StopsAt messages g (Some left) (Some y) r s → IsDecided f → IsDecided g → f ≡ g }
+{}
+
+/// The replies to updates that a book settles are taken for what they are: where the input has their frames, whatever follows
+/// them, all updates are answered, with the codes of the replies that are owed, but where the input or the output fails or memory
+/// runs out.
+pub fn answered_updates<K: Keeper>()
+    ensures exchanged { (access : Access) (before after : SeenOf K) (messages : List Message) (replies : List (List ℕ)) (codes : List ℕ)
+        → SettlesUpdates K.rows K.faults access before messages replies codes after → Exchanges messages replies codes }
+    ensures codes { (access : Access) (before after : SeenOf K) (messages : List Message) (replies : List (List ℕ)) (codes more given rest : List ℕ) (p q : Option (List ℕ))
+        → SettlesUpdates K.rows K.faults access before messages replies codes after
+        → Answers messages given (Some (frames_of replies ++ more)) (Some rest) p q → given ≡ codes }
+    ensures answered { (access : Access) (before after : SeenOf K) (messages : List Message) (replies : List (List ℕ)) (codes more rest : List ℕ) (f : Fault) (p q : Option (List ℕ))
+        → SettlesUpdates K.rows K.faults access before messages replies codes after
+        → StopsAt messages f (Some (frames_of replies ++ more)) (Some rest) p q → IsDecided f → ⊥ }
 {}
