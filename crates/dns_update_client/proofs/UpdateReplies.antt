@@ -1,5 +1,5 @@
 -- The reply that an update is owed is short, and reads back as a reply to it.
-use Rattle.std.proofs.Common.{◌≡◌, ◌≢◌, ℕ, ◌+◌, ◌*◌, ◌%◌, ◌<◌, ◌≤◌, ◌^◌, List, [], ◌∷◌, ◌++◌, length, take, Option, Some, None, Bool, true, false, refl, sym, ap, ◌∙◌, subst, arith}
+use Rattle.std.proofs.Common.{◌≡◌, ◌≢◌, ℕ, ◌<◌, ◌≤◌, ◌^◌, List, [], ◌∷◌, ◌++◌, length, take, Option, Some, None, Bool, true, false, refl, sym, ap, ◌∙◌, subst, arith}
 use Rattle.std.specs.Prelude.{IfSome, not, ◌==◌, ◌||◌, if◌then◌else◌}
 use Rattle.std.specs.List.{AllByRecursion}
 use Rattle.std.specs.Option.{option_map}
@@ -10,10 +10,8 @@ use Rattle.dns_wire.specs.declared.edns.Edns.{Edns}
 use Rattle.dns_wire.specs.declared.header.Header.{Header}
 use Rattle.dns_wire.specs.declared.message.Message.{Message}
 use Rattle.dns_wire.specs.declared.question.Question.{Question}
-use Rattle.dns_wire.specs.declared.record.Record.{Record}
 use Rattle.dns_wire.specs.declared.reply.Reply.{Reply}
-use Rattle.dns_wire.specs.Header.{header_of}
-use Rattle.dns_wire.specs.MessageBytes.{counted, message_bytes}
+use Rattle.dns_wire.specs.MessageBytes.{counted}
 use Rattle.dns_wire.specs.Messages.{MessageAt, OneQuestionAt}
 use Rattle.dns_wire.specs.ReadBack.{IsMessage, IsPlain, IsQuestion}
 use Rattle.dns_wire.specs.Sections.{ItemsAt}
@@ -29,12 +27,12 @@ use Rattle.dns_update.specs.declared.verdict.Verdict.TheVariants.{Fails, Passes}
 use Rattle.dns_update.specs.Verdict.{verdict_of}
 use Rattle.dns_book.specs.declared.ask.Ask.{Ask}
 use Rattle.dns_book.specs.Access.{Access}
-use Rattle.dns_book.specs.Cases.{is_newer, only_question, query_case, question_case, message_case, request_by, Decides, silent, shut_out, malformed, read}
+use Rattle.dns_book.specs.Cases.{is_newer, only_question, question_case, message_case, request_by, Decides, silent, shut_out, malformed, read}
 use Rattle.dns_book.specs.Owed.{code_of, case_reply, edns_for, id_for, limit_of, reply_of, Grounds, IsWritten}
-use Rattle.dns_book.specs.Book.{SeenOf, grounds_of, Settles}
+use Rattle.dns_book.specs.Book.{SeenOf, grounds_of}
 use Rattle.dns_book.proofs.Codes.{HasCode, failing_code, verdict_code}
 use Rattle.dns_book.proofs.Deciding.{request_of-head, some_same}
-use Rattle.dns_update_client.specs.Exchange.{full_code, upper_bits, Answers, Exchanges, IsDecided, Replies, StopsAt}
+use Rattle.dns_update_client.specs.Exchange.{upper_bits, Answers, Exchanges, IsDecided, Replies, StopsAt}
 use Rattle.dns_update_client.specs.Framed.{frames_of}
 use Rattle.dns_update_client.specs.SettledUpdates.{IsUpdate, SettlesUpdate, SettlesUpdates}
 use Rattle.dns_update_client.specs.declared.submit_fault.SubmitFault.{SubmitFault}
