@@ -8,11 +8,12 @@ use Rattle.dns_presentation.specs.declared.entry.Entry.{Entry}
 use Rattle.dns_presentation.specs.declared.entry.Entry.TheVariants as entry
 use Rattle.dns_presentation.specs.Words.{Word}
 use Rattle.dns_presentation.specs.LogicalLines.{LogicalLine, logical_lines}
-use Rattle.dns_presentation.specs.Entries.{◌>>=◌, stated_ttl, entry_of}
+use Rattle.dns_presentation.specs.Entries.{◌>>=◌, begins_dollar, stated_ttl, entry_of}
 use Rattle.dns_zone.specs.declared.zone_text.ZoneTextKind.{ZoneTextKind}
 use Rattle.dns_zone.specs.declared.zone_text.ZoneTextFault.{ZoneTextFault}
 use Rattle.dns_zone.specs.declared.zone_text.ZoneTextFault.TheVariants.{Refused, OutOfMemory}
 use Rattle.dns_zone.specs.ZoneText.{kind_of}
+use Rattle.dns_update_script.specs.Words.{from_word}
 
 -- where an entry stands alone: below this origin, with this TTL to fall back on, if there is one
 abbrev pub alone : List (List ℕ) → Option ℕ → Context
@@ -48,24 +49,27 @@ lacks_ttl None words = states_none words
 abbrev pub timed : Bool → Record → Result Record EntryKind
 timed lacks r = if lacks then Err kind.Ttl else Ok r
 
--- what is wrong first: that the TTL is lacking comes before what is wrong with the data
-abbrev pub first_wrong : Bool → EntryKind → EntryKind
-first_wrong lacks kind.Data = if lacks then kind.Ttl else kind.Data
-first_wrong lacks wrong = wrong
+-- what is wrong first: that a line is a directive comes before what is wrong with it, and that the TTL is lacking before what is
+-- wrong with the data
+abbrev pub first_wrong : Bool → Bool → EntryKind → EntryKind
+first_wrong directive lacks kind.Name = if directive then kind.Directive else kind.Name
+first_wrong directive lacks kind.Ttl = if directive then kind.Directive else kind.Ttl
+first_wrong directive lacks kind.Data = if lacks then kind.Ttl else kind.Data
+first_wrong directive lacks wrong = wrong
 
 -- the record of what a logical line says, if it is one
-abbrev pub entered : Bool → Result Entry EntryKind → Result Record EntryKind
-entered lacks (Ok (entry.Record r stated)) = timed lacks r
-entered lacks (Ok other) = Err kind.Directive
-entered lacks (Err wrong) = Err (first_wrong lacks wrong)
+abbrev pub entered : Bool → Bool → Result Entry EntryKind → Result Record EntryKind
+entered directive lacks (Ok (entry.Record r stated)) = timed lacks r
+entered directive lacks (Ok other) = Err kind.Directive
+entered directive lacks (Err wrong) = Err (first_wrong directive lacks wrong)
 
--- the record of a logical line
-abbrev pub line_entry : List (List ℕ) → Option ℕ → LogicalLine → Result Record EntryKind
-line_entry origin ttl line = entered (lacks_ttl ttl line.words) (entry_of (alone origin ttl) line)
+-- the record of a logical line, which is a directive where its first byte, blanks aside, is a dollar sign
+abbrev pub line_entry : Bool → List (List ℕ) → Option ℕ → LogicalLine → Result Record EntryKind
+line_entry directive origin ttl line = entered directive (lacks_ttl ttl line.words) (entry_of (alone origin ttl) line)
 
 -- the record of a text's one logical line
 unfoldable pub text_entry : List (List ℕ) → Option ℕ → List ℕ → Result Record EntryKind
-text_entry origin ttl text = only_line (logical_lines 1 text) >>= λ line. line_entry origin ttl line
+text_entry origin ttl text = only_line (logical_lines 1 text) >>= λ line. line_entry (begins_dollar (from_word text)) origin ttl line
 
 -- with the kinds of a zone's text
 abbrev pub in_zone_text : Result Record EntryKind → Result Record ZoneTextKind

@@ -3,9 +3,11 @@
 ghost use Rattle.std.specs.Prelude.{◌≡◌, Ok, IfOk, IfErr};
 ghost use Rattle.dns_name.specs.Name.{fold_of};
 ghost use Rattle.dns_zone.specs.ZoneText.{kind_of};
-ghost use Rattle.dns_presentation.specs.Entries.{ReadsAs};
+ghost use Rattle.dns_presentation.specs.Entries.{begins_dollar, ReadsAs};
+ghost use Rattle.dns_update_script.specs.Words.{from_word};
 ghost use Rattle.dns_update_script.specs.Entry.{alone, broken, states_none, lacks_ttl, timed, first_wrong, line_entry, text_entry, entry_in, TellsEntry};
 
+use crate::words::from_word;
 use dns_io::OutOfMemory;
 use dns_name::Name;
 use dns_presentation::{
@@ -19,8 +21,7 @@ use std::alloc::Global;
 /// (RFC 1035 5.1). A name without a last dot stands below this origin, in small letters, as all names of the record are.
 ///
 /// Where no TTL stands in the entry it is this one, in seconds; where there is none the entry is at fault (`Ttl`), that of an
-/// SOA too. A text without an entry, a directive, and a text of more than one logical line are at fault (`Directive`); a
-/// directive that is at fault itself tells so as in a zone's text. Faults are told at line 1, the first of their kinds in the
+/// SOA too. A text without an entry, a directive, and a text of more than one logical line are at fault (`Directive`). Faults are told at line 1, the first of their kinds in the
 /// order in which `ZoneTextKind` lists them.
 pub fn read_entry(
     alloc: Global,
@@ -57,7 +58,7 @@ fn text_entry(
         return Err(EntryFault::Refused(EntryKind::Directive));
     };
     match rest {
-        [] => line_entry(alloc, origin, ttl, &line),
+        [] => line_entry(alloc, is_directive(text), origin, ttl, &line),
         [_, ..] => Err(EntryFault::Refused(broken(&line))),
     }
 }
@@ -75,14 +76,25 @@ fn broken(line: &LogicalLine<'_>) -> EntryKind
     EntryKind::Directive
 }
 
+/// Whether a text begins with the dollar sign of a directive, blanks aside.
+fn is_directive(text: &[u8]) -> bool
+    ensures { result ≡ begins_dollar (from_word text.now) }
+{
+    match from_word(text) {
+        [] => false,
+        [byte, ..] => *byte == b'$',
+    }
+}
+
 /// The record of a logical line.
 fn line_entry(
     alloc: Global,
+    directive: bool,
     origin: Name,
     ttl: Option<u32>,
     line: &LogicalLine<'_>,
 ) -> Result<Record, EntryFault>
-    ensures { ReadsAs (λ r. r) result (line_entry origin ttl line.now) }
+    ensures { ReadsAs (λ r. r) result (line_entry directive origin ttl line.now) }
 {
     let lacks = lacks_ttl(ttl, line.words())?;
     let context = alone(origin, ttl);
@@ -91,7 +103,9 @@ fn line_entry(
         Ok(Entry::Nothing) => Err(EntryFault::Refused(EntryKind::Directive)),
         Ok(Entry::Origin(_origin)) => Err(EntryFault::Refused(EntryKind::Directive)),
         Ok(Entry::DefaultTtl(_ttl)) => Err(EntryFault::Refused(EntryKind::Directive)),
-        Err(EntryFault::Refused(kind)) => Err(EntryFault::Refused(first_wrong(lacks, kind))),
+        Err(EntryFault::Refused(kind)) => Err(EntryFault::Refused(first_wrong(
+            directive, lacks, kind,
+        ))),
         Err(EntryFault::OutOfMemory) => Err(EntryFault::OutOfMemory),
     }
 }
@@ -143,23 +157,31 @@ fn timed(lacks: bool, one: Record) -> Result<Record, EntryFault>
     Ok(one)
 }
 
-/// What is wrong first with an entry: that its TTL is lacking comes before what is wrong with its data.
-fn first_wrong(lacks: bool, kind: EntryKind) -> EntryKind
-    ensures { result ≡ first_wrong lacks kind }
+/// What is wrong first: that a line is a directive comes before what is wrong with it, and that the TTL is lacking before what
+/// is wrong with the data.
+fn first_wrong(directive: bool, lacks: bool, kind: EntryKind) -> EntryKind
+    ensures { result ≡ first_wrong directive lacks kind }
 {
     match kind {
+        EntryKind::Name => {
+            if directive {
+                return EntryKind::Directive;
+            }
+            EntryKind::Name
+        }
+        EntryKind::Ttl => {
+            if directive {
+                return EntryKind::Directive;
+            }
+            EntryKind::Ttl
+        }
         EntryKind::Data => {
             if lacks {
                 return EntryKind::Ttl;
             }
             EntryKind::Data
         }
-        EntryKind::Paren
-        | EntryKind::Quote
-        | EntryKind::Directive
-        | EntryKind::Name
-        | EntryKind::Ttl
-        | EntryKind::RecordType => kind,
+        EntryKind::Paren | EntryKind::Quote | EntryKind::Directive | EntryKind::RecordType => kind,
     }
 }
 
