@@ -1,6 +1,6 @@
 -- The reply that an update is owed is short, and reads back as a reply to it.
 use Rattle.std.proofs.Common.{◌≡◌, ◌≢◌, ℕ, ◌<◌, ◌≤◌, ◌^◌, List, [], ◌∷◌, ◌++◌, length, take, Option, Some, None, Bool, true, false, refl, sym, ap, ◌∙◌, subst, arith}
-use Rattle.std.specs.Prelude.{IfSome, not, ◌==◌, ◌||◌, if◌then◌else◌}
+use Rattle.std.specs.Prelude.{IfSome, is_err, not, ◌==◌, ◌||◌, if◌then◌else◌}
 use Rattle.std.specs.List.{AllByRecursion}
 use Rattle.std.specs.Option.{option_map}
 use Rattle.std.proofs.Math.Seq.{take-nil}
@@ -11,7 +11,8 @@ use Rattle.dns_wire.specs.declared.header.Header.{Header}
 use Rattle.dns_wire.specs.declared.message.Message.{Message}
 use Rattle.dns_wire.specs.declared.question.Question.{Question}
 use Rattle.dns_wire.specs.declared.reply.Reply.{Reply}
-use Rattle.dns_wire.specs.MessageBytes.{counted}
+use Rattle.dns_wire.specs.MessageBytes.{counted, message_bytes}
+use Rattle.dns_wire.specs.Header.{header_of}
 use Rattle.dns_wire.specs.Messages.{MessageAt, OneQuestionAt}
 use Rattle.dns_wire.specs.ReadBack.{IsMessage, IsPlain, IsQuestion}
 use Rattle.dns_wire.specs.Sections.{ItemsAt}
@@ -26,10 +27,12 @@ use Rattle.dns_update.specs.declared.verdict.Verdict.{Verdict}
 use Rattle.dns_update.specs.declared.verdict.Verdict.TheVariants.{Fails, Passes}
 use Rattle.dns_update.specs.Verdict.{verdict_of}
 use Rattle.dns_book.specs.declared.ask.Ask.{Ask}
+use Rattle.dns_book.specs.declared.ask.Settled.{Settled}
+use Rattle.dns_book.specs.Sources.{sanitized, IsSafe}
 use Rattle.dns_book.specs.Access.{Access}
-use Rattle.dns_book.specs.Cases.{is_newer, only_question, question_case, message_case, request_by, Decides, silent, shut_out, malformed, read}
+use Rattle.dns_book.specs.Cases.{request_in, request_of, is_newer, only_question, question_case, message_case, request_by, Decides, silent, shut_out, malformed, read}
 use Rattle.dns_book.specs.Owed.{code_of, case_reply, edns_for, id_for, limit_of, reply_of, Grounds, IsWritten}
-use Rattle.dns_book.specs.Book.{SeenOf, grounds_of}
+use Rattle.dns_book.specs.Book.{SeenOf, grounds_of, Settles}
 use Rattle.dns_book.proofs.Codes.{HasCode, failing_code, verdict_code}
 use Rattle.dns_book.proofs.Deciding.{request_of-head, some_same}
 use Rattle.dns_update_client.specs.Exchange.{upper_bits, Answers, Exchanges, IsDecided, Replies, StopsAt}
@@ -242,3 +245,27 @@ pub SettlesUpdates-answered : {K : Type 0} (rows : K → Option (List Row)) (fau
     → SettlesUpdates rows faults access before messages replies codes after → StopsAt messages fault (Some (frames_of replies ++ more)) (Some rest) p q → IsDecided fault → ⊥
 SettlesUpdates-answered rows faults access before after messages replies codes more rest fault p q s stops decided =
     Answers-not messages codes (frames_of replies ++ more) more rest fault None None p q (held messages replies codes more (SettlesUpdates-exchange rows faults access before after messages replies codes s)) stops decided
+
+-- an update in its written form, from a safe source, is a request
+request-made : (ask : Ask) (h : Header) → IsSafe ask.source → header_of ask.bytes ≡ Some h → h.qr ≡ false → request_of ask ≡ Some h
+unfolding request_of
+request-made ask h safe head asks = if-false (is_err (sanitized ask.source)) _ _ (ap (λ r. is_err r) safe) ∙ ap request_in head ∙ if-false h.qr _ _ asks
+
+reply-there : (protocol : Protocol) (r : Reply) (told : Option (List ℕ)) → IsWritten protocol (Some r) told → (bytes : List ℕ) × (told ≡ Some bytes)
+reply-there protocol r None written = absurd written
+reply-there protocol r (Some bytes) written = (bytes, refl)
+
+owed-there : (grounds : Grounds) (access : Access) (ask : Ask) (h : Header) (decision : _) (told : Option (List ℕ)) → Decides grounds.zone access ask decision → request_of ask ≡ Some h
+    → IsWritten ask.protocol (option_map (reply_of grounds) decision) told → (bytes : List ℕ) × (told ≡ Some bytes)
+owed-there grounds access ask h _ told (silent none) asks written = absurd (let it : None ≡ Some h = sym none ∙ asks in cc)
+owed-there grounds access ask h _ told (shut_out g e out question reads) asks written = reply-there ask.protocol _ told written
+owed-there grounds access ask h _ told (malformed g e let_in none) asks written = reply-there ask.protocol _ told written
+owed-there grounds access ask h _ told (read g e let_in n at) asks written = reply-there ask.protocol _ told written
+
+-- it is owed a reply
+pub Settles-replied : {K : Type 0} (rows : K → Option (List Row)) (faults : K → ℕ) (access : Access) (before after : SeenOf K) (m : Message) (ask : Ask) (settled : Settled)
+    → IsUpdate m → m.header.qr ≡ false → ask.bytes ≡ message_bytes m → IsSafe ask.source → Settles rows faults access before ask settled after → (bytes : List ℕ) × (settled.reply ≡ Some bytes)
+Settles-replied rows faults access before after m ask settled update asks asked safe s =
+    let P : List ℕ → Type 0 = λ (l : List ℕ). MessageAt l (counted m) in
+    let at : MessageAt ask.bytes (counted m) = subst P (sym asked) (message_alone m update.kept update.plain update.short.short) in
+    owed-there (grounds_of before s.failed) access ask (counted m).header s.reply.decision settled.reply s.reply.decided (request-made ask (counted m).header safe at.header asks) s.reply.written

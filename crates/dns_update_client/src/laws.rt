@@ -1,13 +1,17 @@
 //! What an exchange obeys: each law is a call that does nothing and whose contract is the law.
 
-ghost use Rattle.std.specs.Prelude.{◌≡◌, ◌++◌, ℕ, List, Option, Some};
+ghost use Rattle.std.specs.Prelude.{◌≡◌, ◌++◌, ℕ, List, Option, Some, false};
 ghost use Rattle.dns_wire.specs.declared.message.Message.{Message};
 ghost use Rattle.dns_book.specs.Access.{Access};
-ghost use Rattle.dns_book.specs.Book.{SeenOf};
+ghost use Rattle.dns_book.specs.declared.ask.Ask.{Ask as Asked};
+ghost use Rattle.dns_book.specs.declared.ask.Settled.{Settled as Done};
+ghost use Rattle.dns_book.specs.Book.{SeenOf, Settles};
+ghost use Rattle.dns_book.specs.Sources.{IsSafe};
+ghost use Rattle.dns_wire.specs.MessageBytes.{message_bytes};
 ghost use Rattle.dns_update_client.specs.declared.submit_fault.SubmitFault.{SubmitFault as Fault};
 ghost use Rattle.dns_update_client.specs.Exchange.{Answers, Exchanges, IsDecided, StopsAt};
 ghost use Rattle.dns_update_client.specs.Framed.{frames_of};
-ghost use Rattle.dns_update_client.specs.SettledUpdates.{SettlesUpdates};
+ghost use Rattle.dns_update_client.specs.SettledUpdates.{IsUpdate, SettlesUpdates};
 
 use dns_keeper::Keeper;
 
@@ -34,4 +38,8 @@ pub fn answered_updates<K: Keeper>()
     ensures answered { (access : Access) (before after : SeenOf K) (messages : List Message) (replies : List (List ℕ)) (codes more rest : List ℕ) (f : Fault) (p q : Option (List ℕ))
         → SettlesUpdates K.rows K.faults access before messages replies codes after
         → StopsAt messages f (Some (frames_of replies ++ more)) (Some rest) p q → IsDecided f → ⊥ }
+    // From a safe source an update that says it is a request is owed a reply.
+    ensures replied { (access : Access) (before after : SeenOf K) (m : Message) (ask : Asked) (settled : Done) → IsUpdate m → m.header.qr ≡ false
+        → ask.bytes ≡ message_bytes m → IsSafe ask.source → Settles K.rows K.faults access before ask settled after
+        → (bytes : List ℕ) × (settled.reply ≡ Some bytes) }
 {}

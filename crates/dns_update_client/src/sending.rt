@@ -1,8 +1,7 @@
 //! How one message is sent.
 
 ghost use Rattle.std.specs.Prelude.{◌≡◌, ◌≤◌, ◌++◌, ℕ, List, length, IfOk, IfErr, OnOk, OnErr, IsErrOf};
-ghost use Rattle.dns_io.specs.Edge.{Grows, HasCause, IsHandedOn, NeverBegins};
-ghost use Rattle.dns_io.specs.Edge.{Rose};
+ghost use Rattle.dns_io.specs.Edge.{Grows, HasCause, IsHandedOn, Rose};
 ghost use Rattle.dns_update_client.specs.Exchange.{message_frame, IsSendable, StopsSending};
 ghost use Rattle.dns_update_client.specs.Framed.{frame};
 

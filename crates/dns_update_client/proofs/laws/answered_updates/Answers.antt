@@ -1,4 +1,4 @@
-use Rattle.dns_update_client.proofs.UpdateReplies.{SettlesUpdates-exchange, SettlesUpdates-codes, SettlesUpdates-answered}
+use Rattle.dns_update_client.proofs.UpdateReplies.{Settles-replied, SettlesUpdates-exchange, SettlesUpdates-codes, SettlesUpdates-answered}
 use Rattle.dns_update_client.proofs.laws.answered_updates.Goals as goal
 
 pub returns-clause-exchanged : goal.returns-clause-exchanged
@@ -9,3 +9,6 @@ returns-clause-codes g c = SettlesUpdates-codes g.K.Keeper.rows g.K.Keeper.fault
 
 pub returns-clause-answered : goal.returns-clause-answered
 returns-clause-answered g c = SettlesUpdates-answered g.K.Keeper.rows g.K.Keeper.faults
+
+pub returns-clause-replied : goal.returns-clause-replied
+returns-clause-replied g c = Settles-replied g.K.Keeper.rows g.K.Keeper.faults

@@ -13,7 +13,8 @@ returns-in_err-code-clause-err g c =
     let inside : i < length messages = rw c.deref-message-items.ensures.value at c.loop-message-test.true in
     let size : length (take i messages) ≡ i = length-take-le i messages (omega (arith, inside)) in
     rw (p.1, p.2)
-    (StopsAt-behind messages (take i messages) c.message-item.result (drop (i + 1) messages) c.loop-message.codes.items c.in_err-code.field-0.0 (c.len.result + 1) _ _ _ _ _ _
+    (StopsAt-behind messages (take i messages) c.message-item.result (drop (i + 1) messages) c.loop-message.codes.items c.in_err-code.field-0.0 (c.len.result + 1) (g.R.Source.left c.args.input.now) (g.R.Source.left c.loop-message.input) (g.R.Source.left c.exchange.new.input) (g.W.Sink.taken c.args.output.now) (g.W.Sink.taken c.loop-message.output)
+    (g.W.Sink.taken c.exchange.new.output)
     (parted messages i c.message-item.result inside (rw c.deref-message-items.ensures.value at c.message-item.is)) (omega (arith, size, c.len.ensures, c.loop-message.codes.ok, c.loop-message.invariant.count)) c.loop-message.invariant.answered c.in_err-code.ensures.err)
 
 pub returns-in_err-push-clause-err : goal.returns-in_err-push-clause-err
