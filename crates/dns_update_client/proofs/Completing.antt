@@ -43,7 +43,7 @@ not_longer before after text bound is some short longer =
 -- messages that are answered do not stop for a cause that the input decides
 not_stopped : (messages : List Message) (codes left rest : List ℕ) (before after p q : Option (List ℕ)) (fault : SubmitFault) → before ≡ Some left → IsSome after
     → Answers messages codes (Some left) (Some rest) None None → StopsAt messages fault before after p q → IsDecided fault → ⊥
-not_stopped messages codes left rest before None p q fault is some answers stops decided = absurd some
+not_stopped messages codes left rest before None p q fault is some answers stops decided = absurd cc
 not_stopped messages codes left rest before (Some y) p q fault is some answers stops decided =
     Answers-not messages codes left rest y fault None None p q answers (subst (λ (b : Option (List ℕ)). StopsAt messages fault b (Some y) p q) is stops) decided
 
