@@ -4,7 +4,8 @@
 Each kind of prerequisite and of change is sent to the server, which serves example.com and lets updates in, and what is served
 afterwards is asked for. A server of this script's own looks at the bytes that come, and answers with another id, with what is no reply,
 with what is no message, with half a frame, byte by byte, or not at all. Then scripts that have a line at fault, which send nothing;
-words that are no command; and a server that is not there.
+words that are no command; and a server that is not there. One script is given to BIND's nsupdate, too, whose messages must say the same,
+section by section; that is skipped with a line where it is not installed.
 
   nsupdate.py
 
@@ -12,6 +13,7 @@ What is due comes from RFC 2136 (the messages: 2.4 and 2.5, the codes: 3.1 to 3.
 hand. Uses the standard library, and loopback alone. Each wait is bounded in time.
 """
 
+import shutil
 import socket
 import subprocess
 import sys
@@ -21,6 +23,7 @@ from contextlib import contextmanager
 from pathlib import Path
 
 import serving
+import update_model
 import wire
 
 TOP = Path(__file__).resolve().parent.parent
@@ -93,6 +96,32 @@ LINES = [
     ("delete a.example.com. CNAME", None, "a.example.com. 0 ANY CNAME"),
     ("update delete a.example.com. 60 NS n.example.com.", None, "a.example.com. 0 NONE NS n.example.com."),
 ]
+
+# scripts that both clients read, with each kind of line
+COMMON = (
+    """zone example.com.
+prereq yxdomain www.example.com.
+prereq nxdomain none.example.com.
+prereq yxrrset www.example.com. A
+prereq nxrrset www.example.com. TXT
+prereq yxrrset www.example.com. A 192.0.2.1
+prereq yxrrset mx.example.com. MX 10 m.example.com.
+add a.example.com. 60 A 192.0.2.55
+update add b.example.com. 3600 AAAA 2001:db8::1
+add c.example.com. 60 TXT "a b" c
+add c.example.com. 60 SRV 1 2 53 t.example.com.
+add d.example.com. 60 TYPE65280 \\# 2 abcd
+update delete e.example.com.
+delete e.example.com. CNAME
+delete f.example.com. NS n.example.com.
+delete g.example.com. MX 5 q.example.com.
+send
+""",
+    """zone example.net.
+add x.example.net. 1 PTR y.example.net.
+send
+""",
+)
 
 # scripts that are refused, and what is told of them
 FAULTY = [
@@ -337,6 +366,37 @@ def refused():
     yield "the help", (status, text.splitlines()[2]), (0, "usage: dns_nsupdate --server=IP:PORT --id=N")
 
 
+def example():
+    """The script of the first steps, sent twice: the name is in no use before the first time alone (RFC 2136 3.2.5)."""
+    script = (TOP / "examples" / "add_new.script").read_text(encoding="utf-8")
+    with serving.serving("--update") as server:
+        yield "the example", sent_to(server.port, script, 1), (0, "0001 0\n")
+        yield "the example once more", sent_to(server.port, script, 1), (0, "0001 6\n")
+
+
+def said_by(client):
+    """What the messages say that a client sends over one connection, without their ids, which each chooses by itself: flags and sections."""
+    with plain(answering(lambda message: framed(reply_to(message)))) as server:
+        client(server.port)
+        return [(message[2:4], update_model.read_message(message)) for message in server.ended()]
+
+
+def beside_another_client():
+    """BIND's nsupdate: its message for a script says what ours says."""
+    if shutil.which("nsupdate") is None:
+        print("nsupdate: BIND's nsupdate is not installed, skipped")
+        return
+    for script in COMMON:
+
+        def other(port):
+            lines = f"server {HOST} {port}\n{script}"
+            subprocess.run(["nsupdate", "-v"], input=lines.encode(), stdout=subprocess.DEVNULL, stderr=subprocess.DEVNULL, timeout=BOUND, check=True)
+
+        theirs = said_by(other)
+        yield "another client's message", len(theirs), 1
+        yield f"what another client says for {script!r}", said_by(lambda port: sent_to(port, script, 0)), theirs
+
+
 def slow_script():
     """A script that comes slowly: the connection is made when it was read, so that a server with a limit does not end it."""
     with serving.serving("--update", f"--limit={serving.LIMIT}") as server:
@@ -353,6 +413,8 @@ def tried():
     yield from messages()
     yield from answers()
     yield from refused()
+    yield from example()
+    yield from beside_another_client()
     yield from slow_script()
 
 
