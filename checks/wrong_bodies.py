@@ -1,138 +1,429 @@
 #!/usr/bin/env python3
-"""Sees that each wrong body still applies to the source: those that the gate tries (crates/NAME/must-fail), and those beside them
-(crates/NAME/must-fail-more). Then tries the latter where it is asked to: the prover must refuse each.
+"""Tries wrong bodies: the prover must refuse each function that one of them changes, for itself.
 
-Each is an edit: a line 'file: PATH' and then pairs of lines 'old: TEXT' and 'new: TEXT'. It applies where each old text stands in
-that file exactly once, with what the pairs before it changed. To see that takes no proof.
+  wrong_bodies.py              sees that each applies, and tries all of crates/*/must-fail-together
+  wrong_bodies.py NAME..       tries those of these crates
+  wrong_bodies.py --since REV  tries those of the crates whose code, definitions or proofs changed since a revision
+  wrong_bodies.py --apply      sees that each applies, and tries none: no library and no proof is needed
 
-  wrong_bodies.py              sees that all of them apply
-  wrong_bodies.py NAME..       then tries those beside the gate's, of the crates of these names
-  wrong_bodies.py --since REV  and of the crates whose code or definitions have changed since that revision
-  wrong_bodies.py --all        and of every crate
+It runs after `rt ci` in the same checkout, over the libraries that stand in crates/*/out/rlib. rt itself tries crates/*/must-fail, which
+it proves each crate once more for; these here are the others, and those of a crate are tried together, in a copy of it:
 
-They are tried by rt must-fail on a copy of what git tracks, as it stands now, in a folder of its own: the crates below are built there
-first, a crate is proved once more before its first one, and each takes 20 to 60 seconds then. The status is that of rt. The first form is
-part of .ci/run, the others are not. Uses the standard library alone.
+- each wrong body changes a function of its own (a second one of the same function is put into a function of another name beside it,
+  with the proof files of the first), and no function that is not changed is proved: its proof is a hole, so that its contract counts
+  and its body does not;
+- one check proves just the functions that were changed. A wrong body is refused if the prover says of the function that it changes that a
+  goal is not proved, or refuses a proof file of that function. That it calls a function which is not proved counts for nothing, and
+  neither does a proof file that names what the edit took away: such an edit says nothing of a contract, and fails the run;
+- an edit of a constant or a definition can change what others mean, so it is tried alone. It says by `only: FUNCTION` (a path below the
+  crate, several lines for several functions) whose contract is to refuse it; an edit of a function may do so too;
+- what ends in .harmless in the same folder is an edit that keeps the meaning: it is tried with the others, and has to stay proved.
+
+An edit is as rt's: a line 'file: PATH', then pairs of lines 'old: TEXT' and 'new: TEXT', where the old text stands exactly once in that file.
+RT_JOBS says how many crates are tried side by side (all processors). Uses the standard library, and the kit's own rtlib.py for the
+words of a check.
 """
 
+import importlib.machinery
+import importlib.util
 import os
 import re
 import shutil
 import subprocess
 import sys
 import tempfile
+import time
+from concurrent.futures import ThreadPoolExecutor
 from pathlib import Path
 
 TOP = Path(__file__).resolve().parent.parent
-GATE, MORE = "must-fail", "must-fail-more"
-EDIT = re.compile(r"[A-Za-z0-9_-][A-Za-z0-9_.-]*\.edit")
-PARTS = ("src/", "specs/", "proofs/")
+BY_RT, TOGETHER = "must-fail", "must-fail-together"
+EDIT = re.compile(r"[A-Za-z0-9_-][A-Za-z0-9_.-]*\.(edit|harmless)")
+PARTS = ("src", "specs", "proofs")
+FUNCTION = re.compile(r"^( *)(?:pub(?:\([a-z]+\))? )?(?:const )?(?:unsafe )?fn (\w+)")
+# What the prover says of a proof file that names what an edit took away.
+NAMES = re.compile(r"has no field|\(nearest: |is not in scope|has no `|was not admitted|is no name")
 
 
-def crates_with(kind):
-    """The names of the crates that have a folder of this name."""
-    return sorted(folder.parent.name for folder in TOP.glob(f"crates/*/{kind}") if folder.is_dir())
+class Stale(Exception):
+    """An edit that cannot be applied, with why."""
 
 
-def files_of(crate, kind):
-    """The edits of a crate in the folder of this name, and the files in it that are none."""
-    folder = TOP / "crates" / crate / kind
-    files = sorted(path for path in folder.rglob("*") if not path.is_dir())
-    edits = [path for path in files if path.parent == folder and EDIT.fullmatch(path.name)]
-    return edits, [path for path in files if path not in edits and path.suffix != ".md"]
+class Place:
+    """A function in a file's text: its path below the crate, and its lines, from the first of its doc comment to its end."""
+
+    def __init__(self, path, name, indent, first, head, last):
+        self.path, self.name, self.indent, self.first, self.head, self.last = path, name, indent, first, head, last
 
 
-def why_stale(edit):
-    """Why an edit cannot be applied, or none. Reads it as rt does."""
-    crate, path, old, pairs, texts = edit.parent.parent, "", "", 0, {}
-    for line in edit.read_text(encoding="utf-8", errors="replace").split("\n"):
+def bare(kind):
+    """The last word of a type's or trait's path, without its parameters."""
+    kind = re.sub(r"^&(?:'\w+ )?(?:mut )?", "", kind.strip())
+    return re.sub(r"<.*", "", kind).split("::")[-1].strip()
+
+
+def owner_of(line):
+    """How rattle names what an impl or a trait's methods belong to, or none."""
+    trait = re.match(r"(?:pub(?:\([a-z]+\))? )?(?:unsafe )?trait (\w+)", line)
+    if trait:
+        return trait[1]
+    if not re.match(r"(?:unsafe )?impl\b", line):
+        return None
+    text, depth = re.sub(r"^(?:unsafe )?impl\s*", "", line).split("{")[0], 0
+    text = re.sub(r"\bwhere\b.*", "", text)
+    for at, letter in enumerate(text if text.startswith("<") else ""):
+        depth += (letter == "<") - (letter == ">" and text[at - 1] != "-")
+        if not depth:
+            text = text[at + 1 :]
+            break
+    first, _, second = text.partition(" for ")
+    return bare(second) + bare(first) if second else bare(first)
+
+
+def body_of(lines, head, indent):
+    """The last line of a function that begins at this one, or none where it has no body."""
+    depth = 0
+    for at in range(head, len(lines)):
+        line = lines[at]
+        if not depth and (line == indent + "{}" or at == head and re.search(r"\{.*\}$", line)):
+            return at
+        if not depth and line.endswith("{") and len(line) - len(line.lstrip()) == len(indent):
+            return lines.index(indent + "}", at)
+        depth += line.count("{") - line.count("}")
+        if not depth and line.endswith(";"):
+            return None
+    return None
+
+
+def places(file, text):
+    """The functions with a body in the text of a file of src/, as rustfmt lays it out."""
+    module = [it for it in Path(file).with_suffix("").parts[1:] if it not in ("lib", "main", "mod")]
+    lines, owner, found = text.split("\n"), None, []
+    for at, line in enumerate(lines):
+        if re.match(r"(?:pub(?:\([a-z]+\))? )?(?:unsafe )?(?:impl|trait)\b", line):
+            owner = owner_of(" ".join(it.strip() for it in lines[at : at + 12]))
+        elif line.startswith("}"):
+            owner = None
+        head = FUNCTION.match(line)
+        last = body_of(lines, at, head[1]) if head else None
+        if last is None:
+            continue
+        first = at
+        while first and re.match(r" *(///|#\[)", lines[first - 1]):
+            first -= 1
+        own = [owner] if head[1] and owner else []
+        found.append(Place("::".join([*module, *own, head[2]]), head[2], head[1], first, at, last))
+    return found
+
+
+def read(edit):
+    """The pairs of an edit, each with its file, and the functions that it names."""
+    file = old = None
+    pairs, only = [], []
+    for line in edit.read_text(encoding="utf-8").split("\n"):
         if line.startswith("file: "):
-            path = line.removeprefix("file: ").strip()
-            if os.path.normpath(path) != path or not path.startswith(PARTS):
-                return f"{path} is no file below src/, specs/ or proofs/"
+            file = line.removeprefix("file: ").strip()
+            if os.path.normpath(file) != file or not file.startswith(tuple(f"{it}/" for it in PARTS)):
+                raise Stale(f"{file} is no file below src/, specs/ or proofs/")
+        elif line.startswith("only: "):
+            only.append(line.removeprefix("only: ").strip())
         elif line.startswith("old: "):
             old = line.removeprefix("old: ")
         elif line.startswith("new:"):
-            if not path or not old:
-                return "a new text stands before any file or old text"
-            if path not in texts:
+            if not file or not old:
+                raise Stale("a new text stands before any file or old text")
+            pairs.append((file, old, line.removeprefix("new:").removeprefix(" ")))
+            old = None
+    if not pairs:
+        raise Stale("it has no pair of an old and a new text")
+    return pairs, only
+
+
+def applied(folder, edit):
+    """The texts that an edit makes of files, those of before, the functions that it changes, and whether it changes nothing else."""
+    texts, before, inside, apart = {}, {}, {}, True
+    pairs, only = read(edit)
+    for file, old, new in pairs:
+        if file not in texts:
+            try:
+                texts[file] = before[file] = (folder / file).read_text(encoding="utf-8")
+            except (OSError, UnicodeDecodeError):
+                raise Stale(f"there is no file {file}") from None
+        if texts[file].count(old) != 1:
+            raise Stale(f"an old text is in {file} {texts[file].count(old)} times, and not once")
+        row = texts[file][: texts[file].index(old)].count("\n")
+        around = [it for it in places(file, texts[file]) if it.head < row <= it.last] if file.startswith("src/") else []
+        inside.update({around[-1].path: file} if around else {})
+        apart = apart and bool(around)
+        texts[file] = texts[file].replace(old, new)
+    if texts == before:
+        raise Stale("it changes nothing")
+    return texts, before, only or list(inside), apart
+
+
+def edits_of(crate, kind):
+    """The edits of a crate in the folder of this name."""
+    folder = TOP / "crates" / crate / kind
+    return sorted(path for path in folder.rglob("*") if path.is_file() and path.suffix != ".md")
+
+
+def stale():
+    """How many edits there are by folder, and what is wrong with them."""
+    count, wrong = {BY_RT: 0, TOGETHER: 0}, []
+    for kind in count:
+        for crate in sorted(it.parent.name for it in TOP.glob(f"crates/*/{kind}")):
+            for edit in edits_of(crate, kind):
+                count[kind] += edit.suffix == ".edit"
                 try:
-                    texts[path] = (crate / path).read_text(encoding="utf-8")
-                except (OSError, UnicodeDecodeError):
-                    return f"there is no file {path}"
-            found = texts[path].count(old)
-            if found != 1:
-                return f"an old text is in {path} {found} times, and not once"
-            texts[path] = texts[path].replace(old, line.removeprefix("new:").removeprefix(" "))
-            old, pairs = "", pairs + 1
-    return None if pairs else "it has no pair of an old and a new text"
-
-
-def seen(kind):
-    """How many edits the folders of this name have, and what is wrong with them."""
-    count, wrong = 0, []
-    for crate in crates_with(kind):
-        edits, others = files_of(crate, kind)
-        faults = [(edit, why_stale(edit)) for edit in edits] + [(path, "it is no edit") for path in others]
-        count += len(edits)
-        wrong += [f"{path.relative_to(TOP)}: {why}" for path, why in faults if why]
+                    if not EDIT.fullmatch(edit.name) or edit.parent.name != kind:
+                        raise Stale("it is no edit")
+                    _, _, only, _ = applied(TOP / "crates" / crate, edit)
+                    if kind == TOGETHER and not only:
+                        raise Stale("it changes no function, and has no line `only:`")
+                except Stale as why:
+                    wrong.append(f"{edit.relative_to(TOP)}: {why}")
     return count, wrong
 
 
-def copied(folder):
-    """Copies what git tracks, as it stands in the working tree."""
-    listed = subprocess.run(["git", "ls-files", "-z"], cwd=TOP, stdout=subprocess.PIPE, check=True).stdout
-    for name in filter(None, os.fsdecode(listed).split("\0")):
-        if (TOP / name).is_file():
-            (folder / name).parent.mkdir(parents=True, exist_ok=True)
-            shutil.copy2(TOP / name, folder / name)
+class Copy:
+    """A copy of a crate in which wrong bodies are tried together."""
+
+    def __init__(self, crate, room, no_copies):
+        self.no_copies, self.is_closed = no_copies, False
+        self.crate, self.room, self.tried, self.changed, self.same = crate, room, {}, {}, {}
+        for part in PARTS:
+            if os.path.isdir(f"{crate.folder}/{part}"):
+                shutil.copytree(f"{crate.folder}/{part}", room / part)
+
+    def take(self, edit):
+        """Applies an edit, and returns whether it could go along with those that were taken."""
+        if self.is_closed:
+            return False
+        own, before, only, is_apart = applied(Path(self.crate.folder), edit)
+        if not is_apart or len(only) != 1 or len(own) != 1:
+            if self.tried:
+                return False
+            for file, text in own.items():
+                (self.room / file).write_text(text, encoding="utf-8")
+            self.tried[edit] = only
+            self.changed.update(dict.fromkeys(only, True))
+            self.is_closed = not is_apart
+            return True
+        (file, text), (path,) = *own.items(), only
+        now = (self.room / file).read_text(encoding="utf-8")
+        if path not in self.changed:
+            first = self.put_in_place(file, before[file], text, now, path)
+        else:
+            first = self.put_beside(file, before[file], text, now, path)
+        if first:
+            self.tried[edit] = [first]
+            self.changed[first] = True
+        return bool(first)
+
+    @staticmethod
+    def lines_of(file, text, path):
+        """The lines of a function, and where they begin and end."""
+        place = next(it for it in places(file, text) if it.path == path)
+        return place, text.split("\n")[place.first : place.last + 1]
+
+    def put_in_place(self, file, before, text, now, path):
+        _, wrong = self.lines_of(file, text, path)
+        place, _ = self.lines_of(file, now, path)
+        lines = now.split("\n")
+        lines[place.first : place.last + 1] = wrong
+        (self.room / file).write_text("\n".join(lines), encoding="utf-8")
+        return path
+
+    def put_beside(self, file, before, text, now, path):
+        """Puts the wrong function beside the right one, by another name and with copies of its proof files; and, with the first, the right one by
+        another name too, which has to be proved, or else such copies say nothing."""
+        place, wrong = self.lines_of(file, text, path)
+        owner = path.split("::")[-2] if place.indent else ""
+        header = next((it for it in text.split("\n")[: place.head][::-1] if it[:1] not in ("", " ", "/", "}", ")")), "")
+        if path in self.no_copies or place.indent and (" for " in header or header.startswith(("trait", "pub trait")) or not owner):
+            return None
+        _, right = self.lines_of(file, before, path)
+        if path not in self.same:
+            self.same[path] = self.put_copy(file, path, right, "unchanged")
+            self.changed[self.same[path]] = True
+        return self.put_copy(file, path, wrong, str(len(self.changed)))
+
+    def put_copy(self, file, path, text, ending):
+        """Puts a function of this text beside another, by its name with an ending, and gives its path."""
+        now = (self.room / file).read_text(encoding="utf-8")
+        place, _ = self.lines_of(file, now, path)
+        lines = now.split("\n")
+        text = "\n".join(text).replace(f"fn {place.name}", f"fn {place.name}_{ending}", 1)
+        lines[place.last + 1 : place.last + 1] = ["", *text.split("\n")]
+        (self.room / file).write_text("\n".join(lines), encoding="utf-8")
+        beside = f"{path}_{ending}"
+        self.copy_proof(path, beside)
+        return beside
+
+    def copy_proof(self, path, beside):
+        one, other = (self.room / "proofs" / Path(*it.split("::")) for it in (path, beside))
+        if one.is_dir():
+            shutil.copytree(one, other)
+        for proof in other.rglob("*.antt") if other.is_dir() else ():
+            whole = [f"proofs.{it.replace('::', '.')}." for it in (path, beside)]
+            text = proof.read_text(encoding="utf-8").replace(*whole)
+            proof.write_text(text, encoding="utf-8")
+
+    def leave_open(self, but):
+        """Gives each function that is not changed, but these, a hole for a proof."""
+        for source in sorted((self.room / "src").rglob("*.rt")):
+            text = source.read_text(encoding="utf-8")
+            lines = text.split("\n")
+            for place in places(str(source.relative_to(self.room)), text):
+                calls = rf"(?:self\.|Self::){place.name}\(" if place.indent else rf"(?<![\w:.]){place.name}\("
+                is_cycle = any("#[cycle" in it for it in lines[place.first : place.head]) or re.search(calls, "\n".join(lines[place.head + 1 : place.last]))
+                if is_cycle or place.path in self.changed or place.path in but:
+                    continue
+                folder = self.room / "proofs" / Path(*place.path.split("::"))
+                for name in ("Invariants.antt", "Answers.antt"):
+                    (folder / name).unlink(missing_ok=True)
+                folder.mkdir(parents=True, exist_ok=True)
+                module = place.path.replace("::", ".")
+                (folder / "Proof.antt").write_text(
+                    f"use Rattle.{self.crate.name}.proofs.{module}.Statement.{{statement}}\n\n"
+                    f"pub {place.name}_spec : {{M : Type 1}} → statement M\n{place.name}_spec 𝓤 𝓛 𝓜 𝓡 w = ?\n",
+                    encoding="utf-8",
+                )
+
+    def check(self, lib):
+        """What the prover says of the functions that were changed."""
+        but = set()
+        for _ in range(4):
+            self.leave_open(but)
+            only = [word for path in self.changed for word in ("--only", f"{self.crate.name}::{path}")]
+            words = [lib.RATTLE, "check", *self.crate.words(["--jobs", "1"], keeps=False), "--allow-holes", "--progress", *only]
+            how = {"cwd": self.room, "stdin": subprocess.DEVNULL, "stdout": subprocess.PIPE, "stderr": subprocess.STDOUT}
+            said = subprocess.run(words, text=True, errors="replace", **how).stdout
+            # (of a method without a body, or one whose name is another, there is no proof to leave open)
+            none = re.findall(r"^\./proofs/(\S+)/Proof\.antt: error: (?:rattle does not read|`\w+` has no function)", said, re.M)
+            if not none:
+                break
+            for path in none:
+                shutil.rmtree(self.room / "proofs" / path)
+                but.add(path.replace("/", "::"))
+        return said
 
 
-def tried(crates):
-    """Has rt try the edits beside the gate's of these crates, in a copy where they stand in place of the gate's."""
+# What a wrong body came to.
+REFUSED, PROVED, BY_NAME, UNREAD = "refused", "NOT REFUSED", "refused only because a proof file names what the edit took away", "it was not tried: the prover could not read it"
+
+
+def verdict(said, crate, path, is_alone):
+    """What the prover says of one function. Behind an edit that is alone it may refuse a lemma on which the function's proof stands."""
+    lines = said.split("\n")
+    line = next((it for it in lines if it.startswith(f"fn {crate}::{path}: ")), "")
+    told = line.partition(": ")[2]
+    if not told:
+        return UNREAD
+    if told.startswith(("no holes", "depends on a hole", "proved")):
+        return PROVED
+    own = f"proofs/{path.replace('::', '/')}/"
+    faults = [it for it in lines if it.startswith("./proofs/" if is_alone else "./" + own) and ": error" in it]
+    # (a goal whose name is another has lost its answer, and then that it was not found says nothing)
+    by_name = [it for it in faults if NAMES.search(it)]
+    is_false = any(f"of {own}" in it and " may be false: " in it for it in lines)
+    if is_false or len(by_name) < len(faults) or ("did not prove" in told and not by_name):
+        return REFUSED
+    return BY_NAME if by_name else PROVED
+
+
+def tried(lib, crate, edits, no_copies):
+    """Tries edits together, and returns what each came to, and what is left to try. Of the functions in no_copies no copy is made."""
     with tempfile.TemporaryDirectory(prefix="wrong-bodies-") as home:
-        folder = Path(home)
-        copied(folder)
-        for crate in crates:
-            place = folder / "crates" / crate / GATE
-            shutil.rmtree(place, ignore_errors=True)
-            place.mkdir()
-            for edit in files_of(crate, MORE)[0]:
-                shutil.copy2(edit, place)
-        return subprocess.run(["rt", "must-fail", *crates], cwd=folder).returncode
+        copy = Copy(crate, Path(home), no_copies)
+        left = [edit for edit in edits if not copy.take(edit)]
+        said = copy.check(lib)
+    if os.environ.get("WRONG_BODIES_LOG"):
+        Path(os.environ["WRONG_BODIES_LOG"], f"{crate.name}-{len(edits)}").write_text(said, encoding="utf-8")
+    told = lambda path: verdict(said, crate.name, path, copy.is_closed)
+    for path, same in copy.same.items():
+        if told(same) != PROVED:
+            # (its proof does not go along with another name: its edits are tried one after another)
+            no_copies.add(path)
+            again = [edit for edit, (one, *_) in copy.tried.items() if one.startswith(f"{path}_")]
+            left += again
+            copy.tried = {edit: paths for edit, paths in copy.tried.items() if edit not in again}
+    found = {}
+    for edit, paths in copy.tried.items():
+        came = [told(path) for path in paths]
+        found[edit] = next((it for it in (REFUSED, BY_NAME, UNREAD) if it in came), PROVED)
+    if UNREAD in found.values() and len(found) > 1:
+        # (one of them keeps the others from being read)
+        each = [tried(lib, crate, [edit], no_copies)[0] for edit in found]
+        return {edit: told for one in each for edit, told in one.items()}, left
+    for edit in found:
+        if found[edit] == UNREAD:
+            found[edit] += ": " + "\n    ".join([it for it in said.split("\n") if "error" in it][:4])
+    return found, left
+
+
+def tried_crate(lib, name):
+    """Tries all edits of a crate, and returns what to say, how many there were, and how many failed."""
+    begun, found = time.time(), {}
+    crate = lib.Crate(f"{TOP}/crates/{name}", str(TOP), {})
+    crate.out = open(os.devnull, "w")
+    left, no_copies = edits_of(name, TOGETHER), set()
+    while left:
+        told, left = tried(lib, crate, left, no_copies)
+        found.update(told)
+    bad = {it: told for it, told in found.items() if (told != PROVED if it.suffix == ".harmless" else told != REFUSED)}
+    wrong = [it for it in found if it.suffix == ".edit"]
+    lines = [f"{name}: {len(wrong) - sum(it in bad for it in wrong)} of {len(wrong)} wrong bodies refused in {time.time() - begun:.0f} s"]
+    lines += [f"  {it.name}: {told}" for it, told in bad.items()]
+    lines += [f"  (no copy of {it} is proved, so its wrong bodies were tried one after another)" for it in sorted(no_copies)]
+    return "\n".join(lines), len(wrong), len(bad), len(found) - len(wrong)
+
+
+def kit():
+    """The kit's rtlib.py, which knows the words of a check."""
+    page = subprocess.run(["rt", "doc"], stdout=subprocess.PIPE, text=True, check=True).stdout.split()[-1]
+    sys.dont_write_bytecode = True
+    loader = importlib.machinery.SourceFileLoader("rtlib", str(Path(page).parent / "bin/rtlib.py"))
+    made = importlib.util.module_from_spec(importlib.util.spec_from_loader("rtlib", loader))
+    sys.modules["rtlib"] = made
+    loader.exec_module(made)
+    return made
 
 
 def changed_since(revision):
-    """The names of the crates whose code or definitions differ, in the working tree, from those of a revision."""
+    """The names of the crates whose code, definitions or proofs differ, in the working tree, from those of a revision."""
     listed = subprocess.run(["git", "diff", "--name-only", revision, "--", "crates"], cwd=TOP, stdout=subprocess.PIPE, text=True)
     if listed.returncode:
         sys.exit(f"wrong_bodies.py: {revision} names no revision")
     parts = [name.split("/") for name in listed.stdout.splitlines()]
-    return {part[1] for part in parts if len(part) > 3 and part[2] in ("src", "specs")}
-
-
-def asked_for(words, more):
-    """The crates that the words name."""
-    if words == ["--all"]:
-        return more
-    if len(words) == 2 and words[0] == "--since":
-        return sorted(changed_since(words[1]) & set(more))
-    return words
+    return {part[1] for part in parts if len(part) > 3 and part[2] in (*PARTS, TOGETHER)}
 
 
 def main():
-    more = crates_with(MORE)
-    crates = asked_for(sys.argv[1:], more)
-    without = [name for name in crates if name not in more]
+    words, every = sys.argv[1:], sorted(it.parent.name for it in TOP.glob(f"crates/*/{TOGETHER}"))
+    crates = words or every
+    if words == ["--apply"]:
+        crates = []
+    elif words[:1] == ["--since"] and len(words) == 2:
+        crates = sorted(changed_since(words[1]) & set(every))
+    without = [name for name in crates if name not in every]
     if without:
-        sys.exit(f"wrong_bodies.py: there is no folder crates/{without[0]}/{MORE}")
-    (gate, stale), (beside, stale_beside) = seen(GATE), seen(MORE)
-    wrong = stale + stale_beside
-    for one in wrong:
-        print(one)
-    print(f"wrong bodies: {gate} of the gate and {beside} beside them, {len(wrong)} do not apply", flush=True)
-    sys.exit(1 if wrong else tried(crates) if crates else 0)
+        sys.exit(f"wrong_bodies.py: there is no folder crates/{without[0]}/{TOGETHER}")
+    count, wrong = stale()
+    print("\n".join([*wrong, f"wrong bodies: {count[BY_RT]} that rt tries, {count[TOGETHER]} that are tried together, {len(wrong)} do not apply"]), flush=True)
+    if wrong or not crates:
+        return 1 if wrong else 0
+    lib, jobs = kit(), os.environ.get("RT_JOBS", "")
+    total, failed, harmless = 0, 0, 0
+    # (the largest first)
+    crates.sort(key=lambda it: -sum(path.stat().st_size for path in (TOP / "crates" / it).glob("src/**/*.rt")))
+    with ThreadPoolExecutor(int(jobs) if jobs.isdigit() and int(jobs) else len(os.sched_getaffinity(0))) as pool:
+        for said, count_of, bad, kept in pool.map(lambda it: tried_crate(lib, it), crates):
+            total, failed, harmless = total + count_of, failed + bad, harmless + kept
+            print(said, flush=True)
+    print(f"wrong bodies: {total} tried together and {harmless} harmless edits beside them, {failed} not as they must be")
+    return 1 if failed else 0
 
 
 if __name__ == "__main__":
-    main()
+    sys.exit(main())
