@@ -24,10 +24,12 @@ RT_JOBS says how many crates are tried side by side (all processors). Uses the s
 words of a check.
 """
 
+import functools
 import importlib.machinery
 import importlib.util
 import os
 import re
+import resource
 import shutil
 import subprocess
 import sys
@@ -95,10 +97,24 @@ def body_of(lines, head, indent):
     return None
 
 
-def places(file, text):
-    """The functions with a body in the text of a file of src/, as rustfmt lays it out."""
-    module = [it for it in Path(file).with_suffix("").parts[1:] if it not in ("lib", "main", "mod")]
-    lines, owner, found = text.split("\n"), None, []
+def module_of(file):
+    """The path of the module that a file of src/ is."""
+    return [it for it in Path(file).with_suffix("").parts[1:] if it not in ("lib", "main", "mod")]
+
+
+@functools.lru_cache(maxsize=None)
+def homes(folder):
+    """Where each type of a crate is declared: rattle names its own methods by that module, wherever they stand."""
+    found = {}
+    for file in sorted(Path(folder).glob("src/**/*.rt")):
+        for name in re.findall(r"^(?:pub(?:\([a-z]+\))? )?(?:struct|enum) (\w+)", file.read_text(encoding="utf-8"), re.M):
+            found[name] = module_of(str(file.relative_to(folder)))
+    return found
+
+
+def places(folder, file, text):
+    """The functions with a body in the text of a file of src/ of a crate, as rustfmt lays it out."""
+    module, lines, owner, found = module_of(file), text.split("\n"), None, []
     for at, line in enumerate(lines):
         if re.match(r"(?:pub(?:\([a-z]+\))? )?(?:unsafe )?(?:impl|trait)\b", line):
             owner = owner_of(" ".join(it.strip() for it in lines[at : at + 12]))
@@ -111,8 +127,8 @@ def places(file, text):
         first = at
         while first and re.match(r" *(///|#\[)", lines[first - 1]):
             first -= 1
-        own = [owner] if head[1] and owner else []
-        found.append(Place("::".join([*module, *own, head[2]]), head[2], head[1], first, at, last))
+        own = [*homes(folder).get(owner, module), owner] if head[1] and owner else module
+        found.append(Place("::".join([*own, head[2]]), head[2], head[1], first, at, last))
     return found
 
 
@@ -152,7 +168,7 @@ def applied(folder, edit):
         if texts[file].count(old) != 1:
             raise Stale(f"an old text is in {file} {texts[file].count(old)} times, and not once")
         row = texts[file][: texts[file].index(old)].count("\n")
-        around = [it for it in places(file, texts[file]) if it.head < row <= it.last] if file.startswith("src/") else []
+        around = [it for it in places(folder, file, texts[file]) if it.head < row <= it.last] if file.startswith("src/") else []
         inside.update({around[-1].path: file} if around else {})
         apart = apart and bool(around)
         texts[file] = texts[file].replace(old, new)
@@ -220,10 +236,9 @@ class Copy:
             self.changed[first] = True
         return bool(first)
 
-    @staticmethod
-    def lines_of(file, text, path):
-        """The lines of a function, and where they begin and end."""
-        place = next(it for it in places(file, text) if it.path == path)
+    def lines_of(self, file, text, path):
+        """Where a function stands, and its lines."""
+        place = next(it for it in places(Path(self.crate.folder), file, text) if it.path == path)
         return place, text.split("\n")[place.first : place.last + 1]
 
     def put_in_place(self, file, before, text, now, path):
@@ -274,10 +289,11 @@ class Copy:
         for source in sorted((self.room / "src").rglob("*.rt")):
             text = source.read_text(encoding="utf-8")
             lines = text.split("\n")
-            for place in places(str(source.relative_to(self.room)), text):
+            for place in places(Path(self.crate.folder), str(source.relative_to(self.room)), text):
                 calls = rf"(?:self\.|Self::){place.name}\(" if place.indent else rf"(?<![\w:.]){place.name}\("
                 is_cycle = any("#[cycle" in it for it in lines[place.first : place.head]) or re.search(calls, "\n".join(lines[place.head + 1 : place.last]))
-                if is_cycle or place.path in self.changed or place.path in but:
+                # (of impls of From, rattle's names say from what, too)
+                if is_cycle or place.path in self.changed or place.path in but or place.path.endswith("From::from"):
                     continue
                 folder = self.room / "proofs" / Path(*place.path.split("::"))
                 for name in ("Invariants.antt", "Answers.antt"):
@@ -300,6 +316,8 @@ class Copy:
             how = {"cwd": self.room, "stdin": subprocess.DEVNULL, "stdout": subprocess.PIPE, "stderr": subprocess.STDOUT}
             said = subprocess.run(words, text=True, errors="replace", **how).stdout
             # (of a method without a body, or one whose name is another, there is no proof to leave open)
+            if os.environ.get("WRONG_BODIES_LOG"):
+                Path(os.environ["WRONG_BODIES_LOG"], f"{self.crate.name}-{len(self.tried)}-{len(but)}").write_text(said, encoding="utf-8")
             none = re.findall(r"^\./proofs/(\S+)/Proof\.antt: error: (?:rattle does not read|`\w+` has no function)", said, re.M)
             if not none:
                 break
@@ -338,8 +356,6 @@ def tried(lib, crate, edits, no_copies):
         copy = Copy(crate, Path(home), no_copies)
         left = [edit for edit in edits if not copy.take(edit)]
         said = copy.check(lib)
-    if os.environ.get("WRONG_BODIES_LOG"):
-        Path(os.environ["WRONG_BODIES_LOG"], f"{crate.name}-{len(edits)}").write_text(said, encoding="utf-8")
     told = lambda path: verdict(said, crate.name, path, copy.is_closed)
     for path, same in copy.same.items():
         if told(same) != PROVED:
@@ -421,7 +437,8 @@ def main():
         for said, count_of, bad, kept in pool.map(lambda it: tried_crate(lib, it), crates):
             total, failed, harmless = total + count_of, failed + bad, harmless + kept
             print(said, flush=True)
-    print(f"wrong bodies: {total} tried together and {harmless} harmless edits beside them, {failed} not as they must be")
+    used = sum(resource.getrusage(resource.RUSAGE_CHILDREN)[:2])
+    print(f"wrong bodies: {total} tried together and {harmless} harmless edits beside them, {failed} not as they must be; {used / 60:.0f} processor minutes")
     return 1 if failed else 0
 
 
