@@ -24,7 +24,7 @@ CONNECTIONS = 10_000
 MESSAGES = 100_000
 AT_ONCE = 20_000  # messages in one event text, which has a greatest length
 BOUND = 300  # seconds
-TABLE = os.path.join(TOP, "crates", "dns_tests", "src", "wire.rt")
+ROWS = os.path.join(TOP, "crates", "dns_vectors", "stdin")
 SOA = "z. 1 IN SOA ns.z. admin.z. 7 1 1 1 1"
 
 
@@ -62,12 +62,12 @@ def report(title, seconds, count, unit):
 
 
 def messages():
-    """The messages of the tests of the wire format, each as a request: with QR clear, so that it is read and answered."""
-    with open(TABLE, encoding="utf-8") as text:
-        table = re.search(r'const MESSAGES: &str = "\\\n(.*?)"', text.read(), re.S).group(1)
-    for row in table.splitlines():
-        hexed = row.split()[1]
-        if len(hexed) >= 24:
+    """The messages of the rows of the wire format, each as a request: with QR clear, so that it is read and answered."""
+    with open(ROWS, encoding="utf-8") as text:
+        rows = text.read().splitlines()
+    for row in rows:
+        kind, hexed = row.split("|")[:2]
+        if kind == "message" and len(hexed) >= 24:
             message = bytearray.fromhex(hexed)
             message[2] &= 0x7F
             yield message.hex()

@@ -1,5 +1,5 @@
 #!/usr/bin/env python3
-"""Checks that the table in the tests of the ticket world is what its plain model (ticket_model.py) prints, so that what the tests
+"""Checks that the rows of the ticket world (crates/dns_vectors) are what its plain model (ticket_model.py) prints, so that what they
 expect comes from the model alone; and that the model itself keeps the world's facts on many more lists.
 
   tickets.py [COUNT]   that many lists by the model alone, or 5,000
@@ -7,26 +7,24 @@ expect comes from the model alone; and that the model itself keeps the world's f
 Uses the standard library alone.
 """
 
-import re
 import sys
 from pathlib import Path
 
 import ticket_model
 
-TESTS = Path(__file__).resolve().parent.parent / "crates" / "dns_tests" / "src" / "tickets.rt"
+ROWS = Path(__file__).resolve().parent.parent / "crates" / "dns_vectors" / "stdin"
+KIND, WORKED = "tickets|", 2  # so many worked lists stand in front of the model's
 LISTS = 5_000
-TABLE = re.compile(r'const LISTS: &str =\s*"([^"]*)";')
 
 
 def main():
-    text = TESTS.read_text(encoding="utf-8")
-    found = TABLE.search(text)
-    table = found[1].split("\n") if found else []
+    rows = [row.removeprefix(KIND) for row in ROWS.read_text(encoding="utf-8").splitlines() if row.startswith(KIND)]
+    table = [row.replace("|", ";") for row in rows[WORKED:]]
     if table != ticket_model.table():
-        sys.exit(f"tickets: the table of {TESTS.name} is not what ticket_model.py prints")
+        sys.exit(f"tickets: the rows of {ROWS.parent.name} are not what ticket_model.py prints")
     count = int(sys.argv[1]) if len(sys.argv) > 1 else LISTS
     ticket_model.table(count, ticket_model.SEED + 1)
-    print(f"tickets: the table of {len(table)} lists is the model's, which keeps the world's facts on {count} more lists")
+    print(f"tickets: the {len(table)} lists are the model's, which keeps the world's facts on {count} more lists")
 
 
 if __name__ == "__main__":

@@ -1,9 +1,8 @@
-//! Tests of dns_io, dns_name, dns_wire, dns_frames, dns_counts, dns_ports and dns_ticket_world by their public calls.
+//! Tests of dns_ports over the operating system's sockets, which wait and are stopped by another thread. What needs neither is a row of
+//! dns_vectors.
 #![tactic(auto)]
 
 #[cfg(test)]
-mod messages;
+mod sockets;
 #[cfg(test)]
-mod ports;
-#[cfg(test)]
-mod tickets;
+mod stops;

@@ -1,6 +1,6 @@
 //! Ports of the operating system that wait in one thread, and are stopped by another.
 
-use crate::ports::sockets::LOOPBACK;
+use crate::sockets::LOOPBACK;
 use dns_ports::{Hub, SocketHub, StopToken, TcpPort, UdpPort};
 use std::test::Fail;
 use std::thread::{self, join_mut};
