@@ -1,12 +1,15 @@
 //! The traits of a runtime, by one in memory.
 
+use crate::steps::{Steps, all_steps};
+use crate::words::{numbers, put, put_bytes, show, two};
 use dns_io::{IoFault, Ip, MemorySink, MemorySource, Octets, Peer, Sink, Source};
 use dns_runtime::{
     DnsTcpStream, DnsUdpSocket, LastTask, MemorySocket, MemoryTime, RuntimeProvider, Spawn, Time,
 };
+use dns_transport::Address;
 use std::alloc::Global;
 use std::collections::LinkedList;
-use std::process::Abort;
+use std::test::Fail;
 
 /// Who sends here.
 const HERE: Peer = Peer {
@@ -14,43 +17,64 @@ const HERE: Peer = Peer {
     port: 53,
 };
 
-/// Another datagram that is to come.
-fn comes(rt: &impl Abort, alloc: Global, coming: &mut LinkedList<(Octets, Peer)>, bytes: &[u8]) {
-    let bytes = Octets::from_slice(alloc, bytes).expect(rt, "ample memory");
-    coming.push_back((bytes, HERE)).expect(rt, "ample memory");
+/// A socket to which datagrams of these bytes come, parted by blanks, the numbers of its calls that fail, and its steps.
+pub fn socket(alloc: Global, fields: &str, answer: &mut String) -> Result<(), Fail> {
+    let (datagrams, fields) = two(fields);
+    let (failing, steps) = two(fields);
+    let coming = datagrams_of(alloc, datagrams)?;
+    let mut socket = MemorySocket::new(alloc, coming, numbers(alloc, failing)?);
+    all_steps(alloc, &mut socket, steps, answer)
 }
 
-/// A socket: a datagram that fits, one that is cut, the end, and what it sends.
-#[test]
-fn datagrams_of_a_socket(rt: HostRuntime) {
-    let mut coming = LinkedList::new(rt.alloc());
-    comes(&rt, rt.alloc(), &mut coming, b"ab");
-    comes(&rt, rt.alloc(), &mut coming, b"cdef");
-    let failing = Vec::from_slice(rt.alloc(), &[2, 5]).expect(&rt, "ample memory");
-    let mut socket = MemorySocket::new(rt.alloc(), coming, failing);
-    use_socket(&rt, &mut socket);
-    was_sent(&rt, socket.sent());
+/// Datagrams of these bytes.
+fn datagrams_of(alloc: Global, words: &str) -> Result<LinkedList<(Octets, Peer)>, Fail> {
+    let mut coming = LinkedList::new(alloc);
+    for word in words.split(' ') {
+        let bytes = Octets::from_slice(alloc, word.as_bytes())?;
+        coming.push_back((bytes, HERE))?;
+    }
+    Ok(coming)
 }
 
-/// What comes of the calls of a socket whose second and fifth call fail.
-fn use_socket(rt: &impl Abort, socket: &mut MemorySocket) {
-    let here = HERE;
+/// Receives into room for three bytes, sends, or tells what was sent.
+impl Steps for MemorySocket {
+    fn step(
+        &mut self,
+        _alloc: Global,
+        word: &str,
+        with: &str,
+        answer: &mut String,
+    ) -> Result<(), Fail> {
+        match word {
+            "receive" => receive(self, answer),
+            "send" => put(answer, self.send_to(with.as_bytes(), HERE)),
+            _ => put_sent(self.sent(), answer),
+        }
+    }
+}
+
+fn receive(socket: &mut MemorySocket, answer: &mut String) -> Result<(), Fail> {
     let mut room = [0u8; 3];
-    assert_eq!(rt; socket.recv_from(&mut room), Ok((2, here)));
-    assert_eq!(rt; socket.recv_from(&mut room), Err(IoFault::Failed));
-    assert_eq!(rt; socket.recv_from(&mut room), Ok((3, here)));
-    assert_eq!(rt; room.as_slice(), b"cde".as_slice());
-    assert_eq!(rt; socket.send_to(b"xyz", here), Ok(3));
-    assert_eq!(rt; socket.send_to(b"xyz", here), Err(IoFault::Failed));
-    assert_eq!(rt; socket.recv_from(&mut room), Err(IoFault::Failed));
+    match socket.recv_from(&mut room) {
+        Ok((count, from)) => put_came(&room, count, from, answer),
+        Err(fault) => put(answer, fault),
+    }
 }
 
-/// One datagram was sent.
-fn was_sent(rt: &impl Abort, sent: &[(Octets, Peer)]) {
-    assert_eq!(rt; sent.len(), 1);
-    let (bytes, to) = &sent[0];
-    assert_eq!(rt; bytes.as_slice(), b"xyz".as_slice());
-    assert_eq!(rt; *to, HERE);
+/// Adds so many bytes of the room, how many there are, and who sent them.
+fn put_came(room: &[u8], count: usize, from: Peer, answer: &mut String) -> Result<(), Fail> {
+    put_bytes(answer, room.get(..count).unwrap_or(&[]))?;
+    Ok(write!(answer, " {count} {}", Address(from))?)
+}
+
+/// Adds each datagram that was sent, and its receiver.
+fn put_sent(sent: &[(Octets, Peer)], answer: &mut String) -> Result<(), Fail> {
+    for (bytes, to) in sent {
+        put_bytes(answer, bytes.as_slice())?;
+        answer.push(' ')?;
+        show(answer, Address(*to))?;
+    }
+    Ok(())
 }
 
 /// A connection over memory.
@@ -141,35 +165,36 @@ impl RuntimeProvider for MemoryRuntime {
     }
 }
 
-/// Uses any runtime: reads a byte of a connection, writes it back, binds a socket, and hands the byte over as a task.
+/// Uses any runtime: a connection, and a socket.
 fn use_runtime<P: RuntimeProvider>(provider: &mut P, server: Peer) -> Result<usize, IoFault>
 where
     P::Tcp: Drop,
     P::Udp: Drop,
 {
     let mut connection = provider.connect_tcp(server, None, Some(5))?;
-    let mut room = [0u8; 4];
-    let count = connection.read(&mut room)?;
-    connection.write(&room)?;
-    connection.flush()?;
+    let count = use_connection(&mut connection)?;
     let _socket = provider.bind_udp(server, server)?;
     Ok(count)
 }
 
-#[test]
-fn runtime_in_memory(rt: HostRuntime) {
-    let mut provider = MemoryRuntime { alloc: rt.alloc() };
-    let server = Peer {
-        ip: Ip::V4(0xc000_0201),
-        port: 53,
-    };
-    assert_eq!(rt; use_runtime(&mut provider, server), Ok(1));
+/// Reads a byte of a connection, and writes it back.
+fn use_connection<C: DnsTcpStream>(connection: &mut C) -> Result<usize, IoFault> {
+    let mut room = [0u8; 4];
+    let count = connection.read(&mut room)?;
+    connection.write(&room)?;
+    connection.flush()?;
+    Ok(count)
+}
+
+/// The bytes that a runtime's connection gave, the last of two tasks that were handed over, and a time.
+pub fn runtime(alloc: Global, answer: &mut String) -> Result<(), Fail> {
+    let mut provider = MemoryRuntime { alloc };
+    let count = use_runtime(&mut provider, HERE);
     let mut handle = provider.create_handle();
     handle.spawn_bg(4);
     handle.spawn_bg(5);
-    assert_eq!(rt; handle.last, Some(5));
     let timer = MemoryTime {
         seconds: 1_700_000_000,
     };
-    assert_eq!(rt; timer.current_time(), 1_700_000_000);
+    put(answer, (count, handle.last, timer.current_time()))
 }

@@ -5,6 +5,7 @@ ghost use Rattle.std.specs.Prelude.{◌≤◌, length};
 use dns_io::OutOfMemory;
 use dns_server_core::{AccessControl, Ask, ReplyBytes, RequestHandler, Settled, SettledInto};
 use dns_wire::Protocol;
+use std::test::Fail;
 
 /// How many messages came, and by which protocol and for which client the last one.
 #[derive(Drop)]
@@ -21,6 +22,15 @@ impl Echo {
             protocol: None,
             client: 9,
         }
+    }
+
+    /// Adds how many messages came, by which protocol, and for which client.
+    pub(crate) fn tell(&self, answer: &mut String) -> Result<(), Fail> {
+        Ok(write!(
+            answer,
+            " {} {:?} {}",
+            self.messages, self.protocol, self.client
+        )?)
     }
 }
 

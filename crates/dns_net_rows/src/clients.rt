@@ -1,0 +1,179 @@
+//! Clients over QUIC, and the streams that the other side opens.
+
+ghost use Rattle.std.specs.Prelude.{IfOk};
+ghost use Rattle.dns_quic.specs.Memory.{AreFresh};
+
+use crate::halves::{send_of, taking};
+use crate::quic::put_received;
+use crate::steps::{Steps, all_steps};
+use crate::words::{numbers, put, put_bytes, say, show, two};
+use dns_io::{Ip, Peer};
+use dns_quic::{
+    MemoryRecv, MemorySend, MemoryStreams, QuicClientStream, QuicStream, QuicStreams, StreamCall,
+};
+use dns_transport::NetError;
+use dns_wire::Message;
+use std::alloc::Global;
+use std::collections::LinkedList;
+use std::test::Fail;
+
+/// The query for www.example.com A.
+const QUERY: &[u8] = b"\x12\x34\x01\x00\0\x01\0\0\0\0\0\0\x03www\x07example\x03com\0\0\x01\0\x01";
+
+/// The reply to it from the example zone behind its length.
+const REPLY: &[u8] =
+    b"\0\x40\0\0\x85\0\0\x01\0\x01\0\0\0\0\x03www\x07example\x03com\0\0\x01\0\x01\x03www\x07example\x03com\0\0\x01\0\x01\0\0\x0e\x10\0\x04\xc0\0\x02\x01";
+
+/// The query.
+pub fn query(alloc: Global) -> Result<Message, Fail> {
+    Ok(Message::from_vec(alloc, QUERY)?)
+}
+
+/// One stream on which the reply comes, with the numbers of the calls of its sending half that fail, and of its receiving half.
+fn streams_of(
+    alloc: Global,
+    sends: &str,
+    reads: &str,
+) -> Result<LinkedList<(MemorySend, MemoryRecv)>, Fail>
+    ensures { IfOk result AreFresh }
+{
+    let send = send_of(alloc, 0, sends)?;
+    let recv = taking(alloc, REPLY, 7, reads)?;
+    let mut streams = LinkedList::new(alloc);
+    streams.push_back((send, recv))?;
+    Ok(streams)
+}
+
+/// A client with this stream and a limit of five seconds, and the numbers of the openings that fail and that are late.
+fn client_of(
+    alloc: Global,
+    streams: LinkedList<(MemorySend, MemoryRecv)>,
+    calls: &str,
+) -> Result<QuicClientStream<MemoryStreams>, Fail>
+    requires { AreFresh streams }
+{
+    let (failing, late) = two(calls);
+    let failing = numbers(alloc, failing)?;
+    let late = numbers(alloc, late)?;
+    let none = LinkedList::new(alloc);
+    let opener = MemoryStreams::new(alloc, streams, none, failing, late, Vec::new(alloc));
+    let mut builder = QuicClientStream::<MemoryStreams>::builder();
+    builder.request_timeout(5000);
+    let address = Peer {
+        ip: Ip::V4(0xc000_0201),
+        port: 853,
+    };
+    Ok(builder.build(opener, address, String::from_str(alloc, "ns.example.com")?))
+}
+
+/// What is done with a client: `FAILING SENDS|FAILING READS|FAILING OPENINGS|LATE OPENINGS|STEPS`.
+pub fn quic_client(alloc: Global, fields: &str, answer: &mut String) -> Result<(), Fail> {
+    let (setup, steps) = fields.rsplit_once('|').unwrap_or((fields, ""));
+    let (sends, rest) = two(setup);
+    let (reads, calls) = two(rest);
+    let mut client = client_of(alloc, streams_of(alloc, sends, reads)?, calls)?;
+    all_steps(alloc, &mut client, steps, answer)
+}
+
+impl Steps for QuicClientStream<MemoryStreams> {
+    fn step(
+        &mut self,
+        alloc: Global,
+        word: &str,
+        _with: &str,
+        answer: &mut String,
+    ) -> Result<(), Fail> {
+        match word {
+            "send" => {
+                let query = query(alloc)?;
+                say(answer, self.send_message(alloc, &query), "a message")
+            }
+            "ask" => {
+                let query = query(alloc)?;
+                put_received(alloc, self.send_message(alloc, &query), answer)
+            }
+            "poll" => put(answer, self.poll_next()),
+            "shut" => {
+                self.shutdown();
+                put(answer, self.is_shutdown())
+            }
+            "show" => show(answer, &*self),
+            _ => tell(self.opener(), word, answer),
+        }
+    }
+}
+
+/// Tells what a connection tells.
+fn tell(opener: &MemoryStreams, word: &str, answer: &mut String) -> Result<(), Fail> {
+    match word {
+        "calls" => put(answer, opener.calls().len()),
+        "closed" => put(answer, opener.closed()),
+        "told" => put_calls(opener.calls(), answer),
+        _ => put(answer, opener.faults()),
+    }
+}
+
+/// Adds each call: the limit of an opening, or what the sending half of a stream took, and how it was ended.
+fn put_calls(
+    calls: &[StreamCall<MemorySend, MemoryRecv>],
+    answer: &mut String,
+) -> Result<(), Fail> {
+    for call in calls {
+        match call {
+            StreamCall::Opened(limit) => put(answer, *limit)?,
+            StreamCall::Returned(send, _) => put_half(send, answer)?,
+        }
+    }
+    Ok(())
+}
+
+pub fn put_half(send: &MemorySend, answer: &mut String) -> Result<(), Fail> {
+    put_bytes(answer, send.taken().as_slice())?;
+    put(answer, send.ends())
+}
+
+/// The streams that the other side opens, of whose acceptings these fail.
+pub fn accepted(alloc: Global, fields: &str, answer: &mut String) -> Result<(), Fail> {
+    let (failing, steps) = two(fields);
+    let coming = streams_of(alloc, "", "")?;
+    let failing = numbers(alloc, failing)?;
+    let none = LinkedList::new(alloc);
+    let opener = MemoryStreams::new(
+        alloc,
+        none,
+        coming,
+        Vec::new(alloc),
+        Vec::new(alloc),
+        failing,
+    );
+    let mut streams = QuicStreams::new(opener);
+    all_steps(alloc, &mut streams, steps, answer)
+}
+
+impl Steps for QuicStreams<MemoryStreams> {
+    fn step(
+        &mut self,
+        alloc: Global,
+        word: &str,
+        _with: &str,
+        answer: &mut String,
+    ) -> Result<(), Fail> {
+        match word {
+            "next" => put_next(alloc, self.next(), answer),
+            _ => put(answer, self.opener().faults()),
+        }
+    }
+}
+
+/// Adds the message of a stream, or why there is none.
+fn put_next(
+    alloc: Global,
+    next: Option<Result<QuicStream<MemorySend, MemoryRecv>, NetError>>,
+    answer: &mut String,
+) -> Result<(), Fail> {
+    match next {
+        None => Ok(answer.push_str("end")?),
+        Some(Err(fault)) => show(answer, fault),
+        Some(Ok(mut stream)) => put_received(alloc, stream.receive(alloc), answer),
+    }
+}
