@@ -312,7 +312,7 @@ class Copy:
         for _ in range(4):
             self.leave_open(but)
             only = [word for path in self.changed for word in ("--only", f"{self.crate.name}::{path}")]
-            words = [lib.RATTLE, "check", *self.crate.words(["--jobs", "1"], keeps=False), "--allow-holes", "--progress", *only]
+            words = [*lib.guarded(), lib.RATTLE, "check", *self.crate.words(["--jobs", "1"], keeps=False), "--allow-holes", "--progress", *only]
             how = {"cwd": self.room, "stdin": subprocess.DEVNULL, "stdout": subprocess.PIPE, "stderr": subprocess.STDOUT}
             said = subprocess.run(words, text=True, errors="replace", **how).stdout
             # (of a method without a body, or one whose name is another, there is no proof to leave open)
@@ -430,6 +430,8 @@ def main():
     if wrong or not crates:
         return 1 if wrong else 0
     lib, jobs = kit(), os.environ.get("RT_JOBS", "")
+    # (what it starts ends when this ends; its first call sets a signal's handler, which only the main thread may)
+    lib.guarded()
     total, failed, harmless = 0, 0, 0
     # (the largest first)
     crates.sort(key=lambda it: -sum(path.stat().st_size for path in (TOP / "crates" / it).glob("src/**/*.rt")))
