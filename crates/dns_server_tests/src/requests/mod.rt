@@ -1,8 +1,0 @@
-//! Tests of dns_requests by its public calls.
-
-mod clock;
-mod connections;
-mod cuts;
-mod polls;
-mod responses;
-mod scribe;
