@@ -35,7 +35,7 @@ import subprocess
 import sys
 import tempfile
 import time
-from concurrent.futures import ThreadPoolExecutor
+from concurrent.futures import ThreadPoolExecutor, as_completed
 from pathlib import Path
 
 TOP = Path(__file__).resolve().parent.parent
@@ -336,7 +336,7 @@ def verdict(said, crate, path, is_alone):
     lines = said.split("\n")
     line = next((it for it in lines if it.startswith(f"fn {crate}::{path}: ")), "")
     told = line.partition(": ")[2]
-    if not told:
+    if not told or "does not cover this function" in told or "is not made yet" in told:
         return UNREAD
     if told.startswith(("no holes", "depends on a hole", "proved")):
         return PROVED
@@ -368,10 +368,12 @@ def tried(lib, crate, edits, no_copies):
     for edit, paths in copy.tried.items():
         came = [told(path) for path in paths]
         found[edit] = next((it for it in (REFUSED, BY_NAME, UNREAD) if it in came), PROVED)
-    if UNREAD in found.values() and len(found) > 1:
-        # (one of them keeps the others from being read)
-        each = [tried(lib, crate, [edit], no_copies)[0] for edit in found]
-        return {edit: told for one in each for edit, told in one.items()}, left
+    unread = [edit for edit in found if found[edit] == UNREAD]
+    if unread and len(found) > 1:
+        # (one of them may keep the others from being read)
+        for edit in unread:
+            found.update(tried(lib, crate, [edit], no_copies)[0])
+        return found, left
     for edit in found:
         if found[edit] == UNREAD:
             found[edit] += ": " + "\n    ".join([it for it in said.split("\n") if "error" in it][:4])
@@ -436,7 +438,8 @@ def main():
     # (the largest first)
     crates.sort(key=lambda it: -sum(path.stat().st_size for path in (TOP / "crates" / it).glob("src/**/*.rt")))
     with ThreadPoolExecutor(int(jobs) if jobs.isdigit() and int(jobs) else len(os.sched_getaffinity(0))) as pool:
-        for said, count_of, bad, kept in pool.map(lambda it: tried_crate(lib, it), crates):
+        for one in as_completed([pool.submit(tried_crate, lib, it) for it in crates]):
+            said, count_of, bad, kept = one.result()
             total, failed, harmless = total + count_of, failed + bad, harmless + kept
             print(said, flush=True)
     used = sum(resource.getrusage(resource.RUSAGE_CHILDREN)[:2])
