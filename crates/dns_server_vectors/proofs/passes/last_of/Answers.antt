@@ -1,5 +1,5 @@
-use Rattle.dns_server_rows.proofs.Ordered.{left_order, last_facts}
-use Rattle.dns_server_rows.proofs.passes.last_of.Goals as goal
+use Rattle.dns_server_vectors.proofs.Ordered.{left_order, last_facts}
+use Rattle.dns_server_vectors.proofs.passes.last_of.Goals as goal
 
 pub returns-clause-left : goal.returns-clause-left
 returns-clause-left c = left_order c.args.book.now.id c.args.passes.now.items c.pop.new.self.items c.pop.result c.pop.ensures.items c.requires

@@ -1,7 +1,7 @@
 use Rattle.std.proofs.Common.{◌≡◌, List, [], ◌∷◌, ◌++◌, sym, ap, subst, ◌∙◌}
 use Rattle.dns_ticket_lock.specs.Passes.{PassSeen, AreAll}
-use Rattle.dns_server_rows.proofs.Ordered.{both_are_all}
-use Rattle.dns_server_rows.proofs.two_seats.both.Goals as goal
+use Rattle.dns_server_vectors.proofs.Ordered.{both_are_all}
+use Rattle.dns_server_vectors.proofs.two_seats.both.Goals as goal
 
 pub returns : goal.returns
 returns c =
