@@ -20,7 +20,7 @@ it proves each crate once more for; these here are the others, and those of a cr
 - what ends in .harmless in the same folder is an edit that keeps the meaning: it is tried with the others, and has to stay proved.
 
 An edit is as rt's: a line 'file: PATH', then pairs of lines 'old: TEXT' and 'new: TEXT', where the old text stands exactly once in that file.
-RT_JOBS says how many crates are tried side by side (all processors). Uses the standard library, and the kit's own rtlib.py for the
+RT_JOBS says how many crates are tried side by side (all processors), and WRONG_BODIES_LOG names a folder for what the prover says. Uses the standard library, and the kit's own rtlib.py for the
 words of a check.
 """
 
@@ -315,11 +315,11 @@ class Copy:
             words = [*lib.guarded(), lib.RATTLE, "check", *self.crate.words(["--jobs", "1"], keeps=False), "--allow-holes", "--progress", *only]
             how = {"cwd": self.room, "stdin": subprocess.DEVNULL, "stdout": subprocess.PIPE, "stderr": subprocess.STDOUT}
             said = subprocess.run(words, text=True, errors="replace", **how).stdout
-            # (of a method without a body, or one whose name is another, there is no proof to leave open)
             if os.environ.get("WRONG_BODIES_LOG"):
-                Path(os.environ["WRONG_BODIES_LOG"], f"{self.crate.name}-{len(self.tried)}-{len(but)}").write_text(said, encoding="utf-8")
+                Path(os.environ["WRONG_BODIES_LOG"], f"{self.crate.name}-{len(self.tried)}").write_text(said, encoding="utf-8")
+            # (where rattle knows no function of that name it may say so before it checks any)
             none = re.findall(r"^\./proofs/(\S+)/Proof\.antt: error: (?:rattle does not read|`\w+` has no function)", said, re.M)
-            if not none:
+            if not none or re.search(r"^only=\d+ ", said, re.M):
                 break
             for path in none:
                 shutil.rmtree(self.room / "proofs" / path)
