@@ -79,7 +79,10 @@ def owner_of(line):
             text = text[at + 1 :]
             break
     first, _, second = text.partition(" for ")
-    return bare(second) + bare(first) if second else bare(first)
+    source = re.fullmatch(r"\s*From<([\w:]+)(?:<.*>)?>\s*", first)
+    # (of From it says from what, as in FaultFromIoError)
+    kind = "From" + "".join(it[:1].upper() + it[1:] for it in source[1].split("::")) if source else bare(first)
+    return bare(second)[:1].upper() + bare(second)[1:] + kind if second else bare(first)
 
 
 def body_of(lines, head, indent):
@@ -292,8 +295,7 @@ class Copy:
             for place in places(Path(self.crate.folder), str(source.relative_to(self.room)), text):
                 calls = rf"(?:self\.|Self::){place.name}\(" if place.indent else rf"(?<![\w:.]){place.name}\("
                 is_cycle = any("#[cycle" in it for it in lines[place.first : place.head]) or re.search(calls, "\n".join(lines[place.head + 1 : place.last]))
-                # (of impls of From, rattle's names say from what, too)
-                if is_cycle or place.path in self.changed or place.path in but or place.path.endswith("From::from"):
+                if is_cycle or place.path in self.changed or place.path in but:
                     continue
                 folder = self.room / "proofs" / Path(*place.path.split("::"))
                 for name in ("Invariants.antt", "Answers.antt"):
@@ -368,10 +370,10 @@ def tried(lib, crate, edits, no_copies):
     for edit, paths in copy.tried.items():
         came = [told(path) for path in paths]
         found[edit] = next((it for it in (REFUSED, BY_NAME, UNREAD) if it in came), PROVED)
-    unread = [edit for edit in found if found[edit] == UNREAD]
-    if unread and len(found) > 1:
-        # (one of them may keep the others from being read)
-        for edit in unread:
+    unsure = [edit for edit in found if found[edit] == UNREAD or found[edit] == PROVED and edit.suffix == ".edit"]
+    if unsure and len(found) > 1:
+        # (one of them may keep the others from being read, and what calls a wrong function may not be looked at to its end)
+        for edit in unsure:
             found.update(tried(lib, crate, [edit], no_copies)[0])
         return found, left
     for edit in found:
