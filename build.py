@@ -7,8 +7,6 @@ A line for each library goes to standard error, and what the prover says to crat
 and the kit's own rtlib.py, as rt does.
 """
 
-import importlib.machinery
-import importlib.util
 import os
 import subprocess
 import sys
@@ -17,17 +15,9 @@ from concurrent.futures import FIRST_COMPLETED, ThreadPoolExecutor, wait
 from pathlib import Path
 
 TOP = Path(__file__).resolve().parent
+sys.path.insert(0, str(TOP / "checks"))
 
-
-def kit():
-    """The kit's rtlib.py, which knows how a library is built."""
-    page = subprocess.run(["rt", "doc"], stdout=subprocess.PIPE, text=True, check=True).stdout.split()[-1]
-    sys.dont_write_bytecode = True
-    loader = importlib.machinery.SourceFileLoader("rtlib", str(Path(page).parent / "bin/rtlib.py"))
-    made = importlib.util.module_from_spec(importlib.util.spec_from_loader("rtlib", loader))
-    sys.modules["rtlib"] = made
-    loader.exec_module(made)
-    return made
+import kit  # noqa: E402
 
 
 def lines_of(folder):
@@ -79,7 +69,7 @@ def libraries(top, lanes, log):
 def main():
     if len(sys.argv) != 2:
         sys.exit("usage: build.py CRATE")
-    begun, lib, number = time.time(), kit(), os.environ.get("RT_JOBS", "")
+    begun, lib, number = time.time(), kit.rtlib(), os.environ.get("RT_JOBS", "")
     folder = TOP / "crates" / sys.argv[1]
     log = folder / "out/build.log"
     log.parent.mkdir(exist_ok=True)

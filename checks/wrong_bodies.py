@@ -25,8 +25,6 @@ words of a check.
 """
 
 import functools
-import importlib.machinery
-import importlib.util
 import os
 import re
 import resource
@@ -37,6 +35,8 @@ import tempfile
 import time
 from concurrent.futures import ThreadPoolExecutor, as_completed
 from pathlib import Path
+
+import kit
 
 TOP = Path(__file__).resolve().parent.parent
 BY_RT, TOGETHER = "must-fail", "must-fail-together"
@@ -399,17 +399,6 @@ def tried_crate(lib, name):
     return "\n".join(lines), len(wrong), len(bad), len(found) - len(wrong)
 
 
-def kit():
-    """The kit's rtlib.py, which knows the words of a check."""
-    page = subprocess.run(["rt", "doc"], stdout=subprocess.PIPE, text=True, check=True).stdout.split()[-1]
-    sys.dont_write_bytecode = True
-    loader = importlib.machinery.SourceFileLoader("rtlib", str(Path(page).parent / "bin/rtlib.py"))
-    made = importlib.util.module_from_spec(importlib.util.spec_from_loader("rtlib", loader))
-    sys.modules["rtlib"] = made
-    loader.exec_module(made)
-    return made
-
-
 def changed_since(revision):
     """The names of the crates whose code, definitions or proofs differ, in the working tree, from those of a revision."""
     listed = subprocess.run(["git", "diff", "--name-only", revision, "--", "crates"], cwd=TOP, stdout=subprocess.PIPE, text=True)
@@ -433,7 +422,7 @@ def main():
     print("\n".join([*wrong, f"wrong bodies: {count[BY_RT]} that rt tries, {count[TOGETHER]} that are tried together, {len(wrong)} do not apply"]), flush=True)
     if wrong or not crates:
         return 1 if wrong else 0
-    lib, jobs = kit(), os.environ.get("RT_JOBS", "")
+    lib, jobs = kit.rtlib(), os.environ.get("RT_JOBS", "")
     # (what it starts ends when this ends; its first call sets a signal's handler, which only the main thread may)
     lib.guarded()
     total, failed, harmless = 0, 0, 0

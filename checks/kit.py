@@ -1,0 +1,23 @@
+"""The kit's own rtlib.py, which knows the words of a check and how a library is built; build.py, bench/unproved.py and wrong_bodies.py use it."""
+
+import importlib.machinery
+import importlib.util
+import subprocess
+import sys
+from pathlib import Path
+
+
+def home():
+    """The kit's folder."""
+    page = subprocess.run(["rt", "doc"], stdout=subprocess.PIPE, text=True, check=True).stdout.split()[-1]
+    return Path(page).parent
+
+
+def rtlib():
+    """The kit's rtlib.py, as a module."""
+    sys.dont_write_bytecode = True
+    loader = importlib.machinery.SourceFileLoader("rtlib", str(home() / "bin/rtlib.py"))
+    made = importlib.util.module_from_spec(importlib.util.spec_from_loader("rtlib", loader))
+    sys.modules["rtlib"] = made
+    loader.exec_module(made)
+    return made
