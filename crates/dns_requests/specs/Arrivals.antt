@@ -46,8 +46,8 @@ IsPiece piece = (0 < length piece) × (length piece ≤ room)
 -- made, in this order, and no other
 abbrev pub Listens : {S C : Type 0} → SourceOf S → ClockOf C → S → C → List Arrival → S → C → Type 0
 Listens source clock s c [] heard ticked = (heard ≡ s) × (ticked ≡ c)
-Listens {S} {C} source clock s c (a ∷ as) heard ticked =
-    (next : S) × (later : C) × source.reads s room (Ok a.piece) next × clock.ticks c a.at later × Listens source clock next later as heard ticked
+Listens {S} {C} source clock s c (a ∷ later) heard ticked =
+    (next : S) × (read : C) × source.reads s room (Ok a.piece) next × clock.ticks c a.at read × Listens source clock next read later heard ticked
 
 -- what was read, each read in time: the first reading of the clock, and then the reads, a reading behind each of them. However
 -- their bytes were cut, the messages are the frames of all of them

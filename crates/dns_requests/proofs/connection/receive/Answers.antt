@@ -17,12 +17,15 @@ returns-in-Ok-clause-ok g c =
     let size : length room ≡ c.make_room.new.unread.len = omega (arith, c.read_behind.auto.room, c.as_mut_slice.ensures.len) in
     let kept : take c.len-start.result c.make_room.new.unread.items ≡ c.args.unread.now.items = rw start c.in_ok-make_room.ensures.kept in
     let most : c.len-start.result + c.in-Ok.count ≤ length room = c.in-Ok.ensures.count in
+    let four = fits _ _ c.len-start.result (omega (arith, c.in_ok-make_room.ensures.size, c.make_room.new.unread.ok, c.as_mut_slice.ensures.len, start)) in
     record {
       piece = take c.in-Ok.count (drop c.len-start.result room);
       size = length-take-le c.in-Ok.count (drop c.len-start.result room) (omega (arith, most, length-drop c.len-start.result room));
       most = omega (arith, most, size, c.make_room.new.unread.ok, c.in_ok-make_room.ensures.size, start);
+      made = rw four at c.in-Ok.ensures.made;
       taken = c.in-Ok.ensures.given;
       end = c.in-Ok.ensures.end;
+      calm = c.in-Ok.ensures.cause.counts;
       is = behind c.args.unread.now.items c.make_room.new.unread.items c.as_mut_slice.result.now room c.truncate.new.self.items c.len-start.result c.make_room.new.unread.len c.in-Ok.count
           c.truncate.ensures.items size c.in-Ok.ensures.before c.as_mut_slice.ensures.value kept;
     }
