@@ -112,7 +112,7 @@ module _ {S C : Type 0} (source : SourceOf S) (clock : ClockOf C) where
   Listens-more s0 s1 s2 c0 c1 c2 [] a h r t =
       let P : S → Type 0 = λ x. source.reads x room (Ok a.piece) s2 in
       let Q : C → Type 0 = λ x. clock.ticks x a.at c2 in
-      (s2, c2, subst P h.0 r, subst Q h.1 t, refl, refl)
+      (s2, c2, subst P h.0 r, subst Q h.1 t, (refl, refl))
   Listens-more s0 s1 s2 c0 c1 c2 (x ∷ ps) a h r t = (h.0, h.1, h.2, h.3, Listens-more h.0 s1 s2 h.1 c1 c2 ps a h.4 r t)
 
   abbrev pub Hears-none : (peer : Peer) (limit : ℕ) (s : S) (a b : C) (began : ℕ) → clock.ticks a began b → Hears source clock peer limit s a s b

@@ -4,7 +4,8 @@ use crate::readings::Readings;
 use crate::scribe::Scribe;
 use crate::words::{bytes_of, hex_of, number, numbers_of, size, two};
 use crate::zones::book;
-use dns_io::{IoFault, Ip, MemorySink, MemorySource, Octets, Peer, Source};
+use dns_edges::{MemorySink, MemorySource, Source};
+use dns_io::{IoFault, Ip, Octets, Peer};
 use dns_requests::{ServeFault, serve_connection};
 use dns_server_core::{AccessControl, RequestHandler};
 use std::alloc::Global;
@@ -95,9 +96,7 @@ struct Cuts {
 impl Source for Cuts {
     ghost use Rattle.std.specs.Prelude.{None};
 
-    ghost left = { λ c. None };
-
-    ghost faults = { λ c. 0 };
+    ghost source = { record { told = λ c. record { left = None; faults = 0 }; reads = λ before room given after. Unit {0} } };
 
     fn read(&mut self, room: &mut [u8]) -> Result<usize, IoFault> {
         let size = match self.sizes.get(self.reads) {

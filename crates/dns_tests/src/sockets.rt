@@ -1,6 +1,7 @@
 //! Ports of the operating system, over loopback.
 
-use dns_io::{Ip, Peer, Sink, Source};
+use dns_edges::{Sink, Source};
+use dns_io::{Ip, Peer};
 use dns_ports::{Hub, SocketHub, StopToken, TcpPort, UdpPort};
 use std::io::{Read, Write};
 use std::net::{IpAddr, Ipv4Addr, SocketAddr, TcpStream, UdpSocket};
