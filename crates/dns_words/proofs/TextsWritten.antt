@@ -1,10 +1,10 @@
 -- Texts that are written one after another.
-use Rattle.std.proofs.Common.{ℕ, List, [], ◌++◌, Option, Result, Ok, Err, OnOk, refl, sym, ap, ◌∙◌, append_assoc, append-nil, arith}
+use Rattle.std.proofs.Common.{◌≡◌, ℕ, List, [], ◌++◌, Result, Ok, Err, OnOk, refl, sym, ap, ◌∙◌, append_assoc, append-nil, arith}
 use Rattle.dns_io.specs.declared.edge.IoFault.{IoFault}
-use Rattle.dns_io.specs.declared.edge.IoFault.TheVariants.{Failed, OutOfMemory}
+use Rattle.dns_io.specs.declared.edge.IoFault.TheVariants.{OutOfMemory}
 use Rattle.dns_io.specs.Edge.{Keeps, IsHandedOn}
 use Rattle.dns_io.proofs.ToldContents.{Grows-nothing, Grows-more, Grows-Keeps, Grows-GrowsByPrefix}
-use Rattle.dns_edges.specs.Edges.{Around, HasCause, CountsBy, SinkTold}
+use Rattle.dns_edges.specs.Edges.{Around, HasCause, SinkTold}
 use Rattle.dns_words.specs.Writing.{Writes, WritesWhole}
 
 -- a sink before and after
@@ -12,11 +12,11 @@ abbrev pub sink_of : SinkTold → SinkTold → Around SinkTold
 sink_of a b = record { before = a; after = b }
 
 -- no call was made
-pub Cause-nothing : (T : Type 0) (n : ℕ) → HasCause {T} n n (Err OutOfMemory)
-Cause-nothing T n = record { later = omega arith; counts = refl }
+pub Cause-nothing : {T : Type 0} (n : ℕ) → HasCause {T = T} n n (Err OutOfMemory)
+Cause-nothing n = record { later = omega arith; counts = refl }
 
-pub Cause-done : (T : Type 0) (n : ℕ) (value : T) → HasCause n n (Ok value)
-Cause-done T n value = record { later = omega arith; counts = refl }
+pub Cause-done : {T : Type 0} (n : ℕ) (value : T) → HasCause n n (Ok value)
+Cause-done n value = record { later = omega arith; counts = refl }
 
 -- the count stood still, and then a call was made
 pub Cause-then : {T : Type 0} (n m k : ℕ) (r : Result T IoFault) → m ≡ n → HasCause m k r → HasCause n k r
@@ -27,11 +27,11 @@ pub Writes-nothing : (a : SinkTold) (text : List ℕ) → Writes (sink_of a a) t
 Writes-nothing a text = record {
   ok = tt;
   err = (text, record { front = []; parts = refl; grown = Grows-nothing a.taken });
-  cause = Cause-nothing _ a.faults;
+  cause = Cause-nothing a.faults;
 }
 
 pub Writes-empty : (a : SinkTold) → Writes (sink_of a a) [] (Ok tt)
-Writes-empty a = record { ok = Grows-nothing a.taken; err = tt; cause = Cause-done _ a.faults tt }
+Writes-empty a = record { ok = Grows-nothing a.taken; err = tt; cause = Cause-done a.faults tt }
 
 -- a text was not written to its end, nor was what was to follow
 pub Writes-stop : (sink : Around SinkTold) (xs ys : List ℕ) (fault : IoFault) → Writes sink xs (Err fault) → Writes sink (xs ++ ys) (Err fault)
