@@ -1,5 +1,5 @@
 -- What the ports over the operating system count, what an error of a call means to them, and how long they wait.
-use Rattle.std.specs.Prelude.{◌≡◌, ◌<◌, ◌≤◌, ◌+◌, ◌-◌, ◌*◌, ◌^◌, ◌×◌, ℕ, zero, suc, nat_eq, if◌then◌else◌, min, List, length, None, Option, Result, Ok, Err}
+use Rattle.std.specs.Prelude.{◌≡◌, ◌<◌, ◌≤◌, ◌+◌, ◌-◌, ◌*◌, ◌^◌, ℕ, nat_eq, if◌then◌else◌, min, List, length, None, Option, Result, Ok, Err}
 use Rattle.std.specs.Io.KnownBytes.{ReadConsumes, Keeps as KeepsKnown}
 use Rattle.std.specs.declared.io.ErrorKind.{ErrorKind}
 use Rattle.std.specs.declared.io.ErrorKind.TheVariants as kind
@@ -23,14 +23,15 @@ pub record HubCounts : Type 0 where
   pub lent_tcp : ℕ
   pub faults : ℕ
 
--- what is told of one of them: its counts alone
+-- what is told of a socket, which is its count of faults, and of the others: their counts alone. The two directions of a connection are
+-- their counts, and its clock is its last reading
 abbrev pub untold_socket : ℕ → UdpTold
 untold_socket faults = record { left = None; received = None; taken = None; faults = faults }
 
-abbrev pub untold_listener : {In Out Time : Type 0} → ListenerCounts → TcpTold In Out Time
+abbrev pub untold_listener : ListenerCounts → TcpTold ℕ ℕ ℕ
 untold_listener p = record { left = None; accepted = None; ended = None; lent = p.lent; faults = p.faults }
 
-abbrev pub untold_hub : {Udp Tcp : Type 0} → HubCounts → HubTold Udp Tcp
+abbrev pub untold_hub : HubCounts → HubTold ℕ ListenerCounts
 untold_hub h = record { openings = None; closed_udp = None; closed_tcp = None; lent_udp = h.lent_udp; lent_tcp = h.lent_tcp; faults = h.faults }
 
 abbrev pub untold_input : ℕ → SourceTold
@@ -97,7 +98,7 @@ IfCame (Stopped seen) P = Unit {0}
 -- what a read of a connection did, which waited for a byte: it gave some, or none at the end; or the token was stopped, or it failed,
 -- and nothing was read
 abbrev pub ReadsWaiting : Option (List ℕ) → Option (List ℕ) → Result (Waited ℕ) IoFault → List ℕ → Type 0
-ReadsWaiting before after (Ok (Came count)) room = (count ≤ length room) × ReadConsumes {IoFault} before after (Ok count) room
+ReadsWaiting before after (Ok (Came count)) room = (count ≤ length room) × ReadConsumes {E = IoFault} before after (Ok count) room
 ReadsWaiting before after (Ok (Stopped seen)) room = KeepsKnown before after
 ReadsWaiting before after (Err fault) room = KeepsKnown before after
 
