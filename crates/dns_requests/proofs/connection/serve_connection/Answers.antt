@@ -1,11 +1,10 @@
 -- From read to read, and how it ends.
-use Rattle.std.proofs.Common.{◌∙◌, ◌+◌, ◌≤◌, ℕ, List, length, map, Err, refl, sym, ap, subst, arith, length-append}
+use Rattle.std.proofs.Common.{◌∙◌, ◌+◌, ◌≤◌, ℕ, List, length, map, refl, sym, ap, subst, arith, length-append}
 use Rattle.std.proofs.lemmas.Result.{err_from_is_err_and}
 use Rattle.dns_io.proofs.ToldContents.{Keeps-same, Keeps-more}
 use Rattle.dns_io.specs.declared.peer.Protocol.TheVariants.{Tcp}
 use Rattle.dns_book.specs.declared.ask.Ask.{Ask}
 use Rattle.dns_frames.specs.Frames.{frames}
-use Rattle.dns_requests.specs.declared.serve_fault.ServeFault.{ServeFault}
 use Rattle.dns_requests.specs.Ends.{Parts, Terms}
 use Rattle.dns_server_core.specs.FrameRuns.{Adds, Halts}
 use Rattle.dns_requests.proofs.MoreArrivals.{ask_stays}
