@@ -79,7 +79,8 @@ fn scribed<S: Source>(alloc: Global, source: &mut S, words: &str) -> Result<Stri
 pub fn book_stream(alloc: Global, given: &str) -> Result<String, Fail> {
     let (digits, rest) = two(given);
     let (step, rest) = two(rest);
-    let mut source = source_of(alloc, digits, step, "0")?;
+    let (reads, rest) = two(rest);
+    let mut source = source_of(alloc, digits, step, reads)?;
     let mut book = book(alloc, "seven yes 0 0")?;
     let answer = served(alloc, &mut book, &mut source, rest)?;
     Ok(answer)
