@@ -15,8 +15,8 @@ use Rattle.dns_update_client.specs.Writing.{after_writing, EndsWriting, EndsRefu
 -- a text was written, or was not written to its end
 whole : (w : World) (text : List ℕ) (meant : UpdateStatus) (result : Result (Unit {0}) IoFault)
     → (IsWritten w.out text → Ends w meant) → (TookFront w text → IsCut w) → WritesWhole w.out text result → Ends w (after_writing meant result)
-whole w text meant (Ok done) good cut v = good (record { taken = v.written.ok; flushed = v.flushed })
-whole w text meant (Err Failed) good cut v = with_write_fault (v.written.cause.failed refl) (cut v.written.err)
+whole w text meant (Ok done) good cut v = good (record { taken = v.written.ok; flushed = v.flushed; faults = v.written.cause.counts })
+whole w text meant (Err Failed) good cut v = with_write_fault v.written.cause.counts (cut v.written.err)
 whole w text meant (Err OutOfMemory) good cut v = cut_for_memory (cut v.written.err)
 
 -- a refusal
