@@ -11,14 +11,13 @@ use Rattle.dns_update_client.specs.declared.status.UpdateStatus.{UpdateStatus}
 use Rattle.dns_update_client.specs.declared.status.UpdateStatus.TheVariants as status
 use Rattle.dns_update_client.specs.declared.submit_fault.SubmitFault.{SubmitFault}
 use Rattle.dns_update_client.specs.declared.submit_fault.SubmitFault.TheVariants as submit
-use Rattle.dns_update_client.specs.Settings.{settings_of}
 use Rattle.dns_update_client.specs.Status.{submit_status}
 use Rattle.dns_update_client.specs.Framed.{frames_of}
 use Rattle.dns_update_client.specs.Exchange.{Answers, StopsAt, IsDecided}
 use Rattle.dns_update_client.specs.World.{World}
 use Rattle.dns_update_client.specs.Steps.{script_bound, LoadsScript, LoadsNoScript, script_unread, script_too_long, script_refused, script_without_memory, SubmitsNot, IsRefused, at_words, at_script, at_messages, at_submit}
 use Rattle.dns_update_client.specs.Ends.{Ends, with_lines, with_refusal, without_line, with_write_fault, cut_for_memory}
-use Rattle.dns_update_client.specs.Completeness.{HasReplies, IsSound, Completes}
+use Rattle.dns_update_client.specs.Completeness.{IsSound, Completes}
 use Rattle.dns_update_client.proofs.Unique.{Answers-not}
 
 abbrev value_or : {A E : Type 0} → A → Result A E → A

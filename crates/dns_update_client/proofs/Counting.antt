@@ -1,5 +1,6 @@
 -- Which counts of faults rose, by how the program ended.
 use Rattle.std.proofs.Common.{◌≡◌, ◌⊎◌, inl, inr, ℕ, List, true, false, Result, Ok, Err, refl, sym, ap, subst, ◌∙◌}
+use Rattle.std.specs.Result.{IsErrOf}
 use Rattle.dns_io.specs.declared.edge.IoFault.{IoFault}
 use Rattle.dns_io.specs.declared.edge.IoFault.TheVariants.{Failed, OutOfMemory}
 use Rattle.dns_io.specs.Edge.{Rose, BreaksOff}
@@ -137,7 +138,7 @@ module _ {O : Type 0} (sink : SinkOf O) (before after : O) where
 
 -- a write that wanted memory
 pub wanted_write : {O : Type 0} (sink : SinkOf O) (before : O) (text : List ℕ) (f : IoFault) (after : O) → BreaksOff sink.writes before text f after
-    → Err {T = Unit {0}} f ≡ Err OutOfMemory → WantedMemory sink before text after
+    → IsErrOf {T = Unit {0}} (Err f) OutOfMemory → WantedMemory sink before text after
 wanted_write sink before text Failed after broke is = absurd cc
 wanted_write sink before text OutOfMemory after broke is = in_write broke
 

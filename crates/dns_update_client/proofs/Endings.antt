@@ -1,5 +1,5 @@
 -- How the program ends, by what its parts did.
-use Rattle.std.proofs.Common.{◌≡◌, ℕ, List, Result, Ok, Err, refl, sym, subst}
+use Rattle.std.proofs.Common.{ℕ, List, Result, Ok, Err, refl, sym, subst}
 use Rattle.dns_io.specs.declared.edge.IoFault.{IoFault}
 use Rattle.dns_io.specs.declared.edge.IoFault.TheVariants.{Failed, OutOfMemory}
 use Rattle.dns_words.specs.Writing.{WritesWhole, IsWritten}

@@ -1,12 +1,12 @@
 -- The frames of messages are read as the messages.
-use Rattle.std.proofs.Common.{◌≡◌, ℕ, ◌+◌, ◌*◌, ◌/◌, ◌%◌, ◌≤◌, List, [], ◌∷◌, ◌++◌, length, map, take, drop, refl, sym, ap, ◌∙◌, append_assoc, arith, length-append}
+use Rattle.std.proofs.Common.{◌≡◌, ℕ, ◌+◌, ◌*◌, ◌/◌, ◌%◌, ◌≤◌, List, [], ◌∷◌, ◌++◌, length, map, refl, ap, ◌∙◌, append_assoc, arith, length-append}
 use Rattle.std.proofs.lemmas.List.{take_at, drop_at}
 use Rattle.std.specs.List.{AllByRecursion}
-use Rattle.dns_frames.specs.Frames.{Cut, behind, ahead, frames}
+use Rattle.dns_frames.specs.Frames.{behind, ahead, frames}
 use Rattle.dns_frames.proofs.Cutting.{frames-whole}
 use Rattle.dns_wire.specs.declared.message.Message.{Message}
 use Rattle.dns_wire.specs.MessageBytes.{message_bytes}
-use Rattle.dns_update_client.specs.Exchange.{message_frame, message_frames, Exchanges}
+use Rattle.dns_update_client.specs.Exchange.{message_frames, Exchanges}
 use Rattle.dns_update_client.specs.Framed.{frame, frames_of}
 use Rattle.dns_update_client.proofs.Framing.{message_frame-is}
 use Rattle.dns_update_client.proofs.FrameParts.{said}

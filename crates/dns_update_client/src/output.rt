@@ -29,7 +29,10 @@ pub(crate) fn refuse<O: Sink>(alloc: Global, status: UpdateStatus, out: &mut O) 
     match status {
         UpdateStatus::OutOfMemory => UpdateStatus::OutOfMemory,
         UpdateStatus::WriteFault => UpdateStatus::WriteFault,
-        UpdateStatus::ReadFault => after_writing(UpdateStatus::ReadFault, put_whole(READ_FAULT, out)),
+        UpdateStatus::ReadFault => after_writing(
+            UpdateStatus::ReadFault,
+            put_whole(READ_FAULT, out),
+        ),
         status => after_writing(status, put_refusal(alloc, &status, out)),
     }
 }

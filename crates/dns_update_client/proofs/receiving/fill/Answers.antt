@@ -4,7 +4,7 @@ use Rattle.std.proofs.lemmas.List.{length-take-le}
 use Rattle.std.proofs.lemmas.Result.{err_from_is_err_and}
 use Rattle.dns_io.proofs.ToldContents.{Takes-Keeps, Takes-more}
 use Rattle.dns_update_client.proofs.NotSent.{on-err}
-use Rattle.dns_update_client.proofs.Causes.{read-done, read-err, read-then}
+use Rattle.dns_update_client.proofs.Causes.{read-err, read-then}
 use Rattle.dns_update_client.proofs.receiving.fill.Goals as goal
 
 pub returns-in_err-count-clause-part : goal.returns-in_err-count-clause-part
