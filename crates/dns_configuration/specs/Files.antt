@@ -2,7 +2,7 @@
 use Rattle.std.specs.Prelude.{◌≡◌, ℕ, List, [], ◌∷◌, if◌then◌else◌, Option, Some, None, Result, Err, MatchBool, MatchResult}
 use Rattle.std.specs.Str.{bytes_eq}
 use Rattle.dns_io.specs.Edge.{one_more}
-use Rattle.dns_io.specs.Memory.{next_fails}
+use Rattle.dns_edges.specs.Memory.{next_fails}
 use Rattle.dns_keeper.specs.declared.keeper.KeepFault.{KeepFault}
 use Rattle.dns_keeper.specs.declared.keeper.KeepFault.TheVariants.{Failed, OutOfMemory}
 
