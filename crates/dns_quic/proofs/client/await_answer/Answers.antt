@@ -10,7 +10,7 @@ returns-in-Ok-clause-cause g c =
     record {
       later_send = omega (arith, send, c.receive.ensures.later);
       later_recv = omega (arith, recv, c.receive.ensures.cause.later);
-      failed = λ io. inr (subst (λ count. Rose count _) recv (c.receive.ensures.cause.failed io));
+      failed = λ io. inr (subst (λ count. Rose count (g.R.RecvHalf.told c.receive.new.self.recv).faults) recv (c.receive.ensures.cause.failed io));
       calm_send = λ io id. c.receive.ensures.calm_send id ∙ send;
       calm_recv = λ io. c.receive.ensures.cause.calm io ∙ recv;
     }
