@@ -1,5 +1,5 @@
 -- How the calls that read a body go on, and how they end.
-use Rattle.std.proofs.Common.{◌≡◌, ℕ, ◌+◌, ◌<◌, ◌≤◌, List, [], ◌++◌, length, Option, Some, None, refl, subst, inl, inr, arith}
+use Rattle.std.proofs.Common.{◌≡◌, ℕ, ◌+◌, ◌≤◌, List, [], length, Option, Some, refl, subst, inl, inr, arith}
 use Rattle.std.specs.Prelude.{Result, Ok, Err}
 use Rattle.dns_io.specs.declared.edge.IoFault.{IoFault}
 use Rattle.dns_io.specs.declared.edge.IoFault.TheVariants as io
@@ -7,7 +7,7 @@ use Rattle.dns_transport.specs.Faults.{of_io}
 use Rattle.dns_transport.specs.Pieces.{BodyTold}
 use Rattle.dns_transport.specs.declared.error.NetError.{NetError}
 use Rattle.dns_transport.specs.declared.error.NetError.TheVariants.{OutOfMemory}
-use Rattle.dns_net.specs.Bodies.{AsksNext, ReadsUpTo, begun, went_on, IsReadOnce, is_said}
+use Rattle.dns_net.specs.Bodies.{AsksNext, ReadsUpTo, begun, IsReadOnce}
 
 -- what a body tells
 module _ {B : Type 0} (told : B → BodyTold) where

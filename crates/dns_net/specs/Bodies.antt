@@ -1,5 +1,5 @@
 -- What comes of fetching the body of a request or a response.
-use Rattle.std.specs.Prelude.{◌≡◌, ◌⊎◌, ℕ, ◌+◌, ◌<◌, ◌≤◌, ◌==◌, nat_lt, Bool, true, false, if◌then◌else◌, List, [], ◌∷◌, ◌++◌, length, Option, Some, None, IsSome, Result, Ok, Err, IsErrOf}
+use Rattle.std.specs.Prelude.{◌≡◌, ◌⊎◌, ℕ, ◌+◌, ◌<◌, ◌≤◌, ◌==◌, nat_lt, Bool, true, false, if◌then◌else◌, List, [], ◌∷◌, ◌++◌, length, Option, Some, None, IsSome, Result, Ok, Err}
 use Rattle.dns_io.specs.declared.edge.IoFault.{IoFault}
 use Rattle.dns_io.specs.declared.edge.IoFault.TheVariants.{Failed, OutOfMemory as NoMemory}
 use Rattle.dns_transport.specs.Pieces.{BodyTold, GivesPiece, joined}
