@@ -24,5 +24,5 @@ returns-clause-all g c =
     let T = g.row.T.Denot in
     let sockets = their_passes s.sockets.items in
     let listeners = their_passes s.listeners.items in
-    rw (← append_assoc s.free.items sockets listeners) (are_all U T s.book s.access ((s.free.items ++ sockets) ++ listeners)
+    rw (← c.self.view_is, ← append_assoc s.free.items sockets listeners) (are_all U T s.book s.access ((s.free.items ++ sockets) ++ listeners)
     (whole_listeners U T s.book s.access (s.free.items ++ sockets) [] s.listeners.items (whole_sockets U T s.book s.access s.free.items s.sockets.items s.listeners.items c.self.invariant.0)))

@@ -25,7 +25,7 @@ returns-clause-answer g c =
     c.run_while-reading.ensures.ended)
 
 pub returns-clause-until : goal.returns-clause-until
-returns-clause-until g c = rw c.or_reading.ensures (reading_ended c.answer.result _ c.run_while-reading.result c.run_while-reading.ensures.ended)
+returns-clause-until g c = rw c.or_reading.ensures (reading_ended c.answer.result (around g.E.Source.source.told c.args.until.now c.run_while-reading.new.until) c.run_while-reading.result c.run_while-reading.ensures.ended)
 
 pub returns-clause-reading : goal.returns-clause-reading
 returns-clause-reading g c = record {
