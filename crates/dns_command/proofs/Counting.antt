@@ -1,6 +1,6 @@
 -- Which counts of faults rose, by how a list of events ended.
 use Rattle.std.proofs.Common.{◌≡◌, ◌⊎◌, List, ℕ, Option, Some, None, MatchOption, inl, inr, refl, sym, ap, subst}
-use Rattle.dns_io.specs.Edge.{Rose}
+use Rattle.dns_io.specs.Told.{Rose}
 use Rattle.dns_edges.specs.Edges.{Around, SourceTold, SinkTold}
 use Rattle.dns_keeper.specs.declared.row.Row.{Row}
 use Rattle.dns_server_core.specs.declared.event.Event.{Event}

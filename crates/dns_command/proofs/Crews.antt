@@ -1,7 +1,7 @@
 -- Workers that are taken on, and ports that are opened and handed back.
 use Rattle.std.proofs.Common.{◌≡◌, ℕ, suc, ◌+◌, ◌≤◌, ◌<◌, List, [], ◌∷◌, ◌++◌, inl, inr, length, Option, Some, None, Ok, refl, sym, ap, subst, ◌∙◌, append-nil, append_assoc, length-append, arith}
 use Rattle.std.specs.List.{AllByRecursion}
-use Rattle.dns_io.specs.Edge.{Rose, Keeps, Grows}
+use Rattle.dns_io.specs.Told.{Rose, Keeps, Grows}
 use Rattle.dns_io.proofs.ToldContents.{Keeps-more, Grows-more}
 use Rattle.dns_edges.specs.Edges.{Around}
 use Rattle.dns_ports.specs.declared.hub.Opening.{Opening}

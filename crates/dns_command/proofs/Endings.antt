@@ -2,9 +2,9 @@
 use Rattle.std.proofs.Common.{◌≡◌, ℕ, ◌≤◌, List, Option, Some, None, IfSome, MatchOption, Result, Ok, Err, refl, sym, ap, subst, arith, take, length}
 use Rattle.dns_edges.specs.Edges.{Around, SourceTold, SinkTold}
 use Rattle.std.specs.Result.{IsErrOf}
-use Rattle.dns_io.specs.Edge.{NeverBegins, Keeps, Rose}
-use Rattle.dns_io.specs.declared.edge.IoFault.{IoFault}
-use Rattle.dns_io.specs.declared.edge.IoFault.TheVariants.{Failed, OutOfMemory}
+use Rattle.dns_io.specs.Told.{NeverBegins, Keeps, Rose}
+use Rattle.dns_io.specs.declared.io_fault.IoFault.{IoFault}
+use Rattle.dns_io.specs.declared.io_fault.IoFault.TheVariants.{Failed, OutOfMemory}
 use Rattle.dns_io.proofs.ToldContents.{Keeps-more}
 use Rattle.dns_keeper.specs.declared.row.Row.{Row}
 use Rattle.dns_keeper.specs.declared.keeper.KeepFault.{KeepFault}

@@ -3,9 +3,9 @@ use Rattle.std.proofs.Common.{◌≡◌, ◌⊎◌, ℕ, ◌+◌, ◌≤◌, Lis
 use Rattle.std.proofs.lemmas.Option.{same_Some}
 use Rattle.dns_edges.specs.Edges.{Around, SourceTold, SinkTold}
 use Rattle.dns_ports.specs.Ports.{HubTold}
-use Rattle.dns_io.specs.Edge.{Keeps, Rose}
-use Rattle.dns_io.specs.declared.edge.IoFault.{IoFault}
-use Rattle.dns_io.specs.declared.edge.IoFault.TheVariants.{Failed, OutOfMemory}
+use Rattle.dns_io.specs.Told.{Keeps, Rose}
+use Rattle.dns_io.specs.declared.io_fault.IoFault.{IoFault}
+use Rattle.dns_io.specs.declared.io_fault.IoFault.TheVariants.{Failed, OutOfMemory}
 use Rattle.dns_io.proofs.ToldContents.{Keeps-more}
 use Rattle.dns_keeper.specs.declared.row.Row.{Row}
 use Rattle.dns_zone_map.specs.Zone.{serial_of}

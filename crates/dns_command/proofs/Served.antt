@@ -1,7 +1,7 @@
 -- What serving comes to, by what its parts did.
 use Rattle.std.proofs.Common.{◌≡◌, ◌⊎◌, ℕ, suc, ◌+◌, ◌≤◌, ◌<◌, List, [], ◌∷◌, ◌++◌, inl, inr, length, Option, Some, None, refl, sym, ap, subst, ◌∙◌, append-nil, append_assoc, arith}
 use Rattle.std.specs.List.{AllByRecursion}
-use Rattle.dns_io.specs.Edge.{Rose, Grows}
+use Rattle.dns_io.specs.Told.{Rose, Grows}
 use Rattle.dns_io.proofs.ToldContents.{Keeps-more, Grows-more, Grows-Keeps, Keeps-Grows}
 use Rattle.dns_edges.specs.Edges.{Around, SourceTold}
 use Rattle.dns_keeper.specs.declared.row.Row.{Row}

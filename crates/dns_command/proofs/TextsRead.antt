@@ -2,7 +2,7 @@
 use Rattle.std.proofs.Common.{◌≡◌, ◌⊎◌, ℕ, List, Result, Ok, Err, inl, inr, refl}
 use Rattle.std.specs.Result.{IsErrOf}
 use Rattle.dns_edges.specs.Edges.{Around, SourceTold}
-use Rattle.dns_io.specs.Edge.{Rose, WasLonger}
+use Rattle.dns_io.specs.Told.{Rose, WasLonger}
 use Rattle.dns_edges.specs.declared.to_end.ReadFault.{ReadFault}
 use Rattle.dns_edges.specs.declared.to_end.ReadFault.TheVariants as read
 use Rattle.dns_command.specs.World.{IsStill}

@@ -1,6 +1,6 @@
 -- Which counts of faults rose in the top call: those alone of which its status tells, or the work that it tells of.
 use Rattle.std.specs.Prelude.{◌≡◌, ◌⊎◌, List, Some}
-use Rattle.dns_io.specs.Edge.{Grows, Rose}
+use Rattle.dns_io.specs.Told.{Grows, Rose}
 use Rattle.dns_edges.specs.Edges.{Around, SourceTold}
 use Rattle.dns_ports.specs.Ports.{HubTold}
 use Rattle.dns_command.specs.declared.status.Status.{Status}

@@ -1,7 +1,7 @@
 -- What the program does: the replies owed, and no other bytes.
 use Rattle.std.specs.Prelude.{◌≡◌, ◌≢◌, ℕ, List, length, take, Option, Some, None}
 use Rattle.dns_keeper.specs.declared.row.Row.{Row}
-use Rattle.dns_io.specs.Edge.{Keeps, Rose, GrowsByPrefix}
+use Rattle.dns_io.specs.Told.{Keeps, Rose, GrowsByPrefix}
 use Rattle.dns_zone_map.specs.Zone.{serial_of}
 use Rattle.dns_server_core.specs.declared.event.Event.{Event}
 use Rattle.dns_server_core.specs.declared.event.Out.{Out}

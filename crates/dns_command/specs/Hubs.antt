@@ -1,6 +1,6 @@
 -- What is known of the objects of the top call, and what became of a hub.
 use Rattle.std.specs.Prelude.{◌≡◌, ◌⊎◌, ◌<◌, ℕ, List, [], ◌∷◌, ◌++◌, Option}
-use Rattle.dns_io.specs.Edge.{Told}
+use Rattle.dns_io.specs.Told.{Told}
 use Rattle.dns_keeper.specs.declared.row.Row.{Row}
 use Rattle.dns_edges.specs.Edges.{Around}
 use Rattle.dns_ports.specs.Ports.{UdpTold, ListenerOf, HubTold}

@@ -1,6 +1,6 @@
 -- How the top call ends: that of `serve`, and that of any other words.
 use Rattle.std.specs.Prelude.{◌≡◌, ◌≢◌, ◌⊎◌, ℕ, List, Option, Some, None, IsSome}
-use Rattle.dns_io.specs.Edge.{Rose}
+use Rattle.dns_io.specs.Told.{Rose}
 use Rattle.dns_edges.specs.Edges.{Around}
 use Rattle.dns_keeper.specs.declared.row.Row.{Row}
 use Rattle.dns_ports.specs.Ports.{HubTold}

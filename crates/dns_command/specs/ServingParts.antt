@@ -1,9 +1,9 @@
 -- What the parts of serving do.
 use Rattle.std.specs.Prelude.{◌≡◌, ◌≤◌, ◌⊎◌, ℕ, ◌+◌, List, [], ◌++◌, length, Option, Result, Ok, Err}
 use Rattle.std.specs.List.{AllByRecursion}
-use Rattle.dns_io.specs.Edge.{Keeps, Grows, Rose}
-use Rattle.dns_io.specs.declared.edge.IoFault.{IoFault}
-use Rattle.dns_io.specs.declared.edge.IoFault.TheVariants.{Failed, OutOfMemory as NoMemory}
+use Rattle.dns_io.specs.Told.{Keeps, Grows, Rose}
+use Rattle.dns_io.specs.declared.io_fault.IoFault.{IoFault}
+use Rattle.dns_io.specs.declared.io_fault.IoFault.TheVariants.{Failed, OutOfMemory as NoMemory}
 use Rattle.dns_edges.specs.Edges.{Around, SourceTold, around}
 use Rattle.dns_keeper.specs.declared.row.Row.{Row}
 use Rattle.dns_book.specs.Book.{SeenOf}

@@ -2,7 +2,7 @@
 use Rattle.std.specs.Prelude.{◌≡◌, ◌≤◌, ℕ, ℤ, List, length, Option, Some, None, IsSome, MatchOption, Ok, Err}
 use Rattle.dns_keeper.specs.declared.row.Row.{Row}
 use Rattle.dns_edges.specs.Edges.{Around, SourceTold}
-use Rattle.dns_io.specs.Edge.{Rose, WasRead, WasLonger}
+use Rattle.dns_io.specs.Told.{Rose, WasRead, WasLonger}
 use Rattle.dns_zone_map.specs.Zone.{Contents}
 use Rattle.dns_zone.specs.ZoneText.{zone_of}
 use Rattle.dns_zone.specs.declared.zone_text.ZoneTextKind.{ZoneTextKind}

@@ -1,7 +1,7 @@
 //! The ports of the command `serve`: they are opened, served, and handed back.
 
 ghost use Rattle.std.specs.Prelude.{◌≡◌, ◌⊎◌, ◌<◌, ◌≤◌, ◌+◌, ◌^◌, [], ◌++◌, length, All, Some, None, IsSome, IfSome, OnOk, IfErr, true, false};
-ghost use Rattle.dns_io.specs.Edge.{Keeps, Grows, Rose};
+ghost use Rattle.dns_io.specs.Told.{Keeps, Grows, Rose};
 ghost use Rattle.dns_edges.specs.Edges.{around};
 ghost use Rattle.dns_ports.specs.Ports.{IsFreshSocket, IsFreshListener, listener_of};
 ghost use Rattle.dns_command.specs.declared.status.Status.TheVariants as status;

@@ -2,7 +2,7 @@
 
 ghost use Rattle.std.specs.Prelude.{◌≡◌, ◌<◌, ◌≤◌, ◌^◌, ℕ, Option, None, length, IsSome, IfSome, IfOk, IfErr, map, string_bytes};
 ghost use Rattle.dns_edges.specs.Edges.{around};
-ghost use Rattle.dns_io.specs.Edge.{Keeps};
+ghost use Rattle.dns_io.specs.Told.{Keeps};
 ghost use Rattle.dns_zone_map.specs.Zone.{serial_of};
 ghost use Rattle.dns_command.specs.declared.status.Status.TheVariants as status;
 ghost use Rattle.dns_command.specs.Lines.{lines_by};

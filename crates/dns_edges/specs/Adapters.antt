@@ -3,9 +3,9 @@ use Rattle.std.specs.Prelude.{◌≡◌, ◌≤◌, ℕ, List, [], Option, Some,
 use Rattle.std.specs.IoError.{error_kind}
 use Rattle.std.specs.Io.KnownBytes.{ReadConsumes, WriteAppends}
 use Rattle.std.specs.declared.io.Error.{Error}
-use Rattle.dns_io.specs.declared.edge.IoFault.{IoFault}
-use Rattle.dns_io.specs.Edge.{counted}
-use Rattle.dns_io.specs.Adapters.{fault_of}
+use Rattle.dns_io.specs.declared.io_fault.IoFault.{IoFault}
+use Rattle.dns_io.specs.Told.{counted}
+use Rattle.dns_io.specs.Faults.{fault_of}
 use Rattle.dns_edges.specs.Edges.{SourceTold, SinkTold}
 use Rattle.dns_edges.specs.declared.adapters.Opened.{Opened}
 use Rattle.dns_edges.specs.declared.adapters.Opened.TheVariants.{Reader, Empty, Refused}

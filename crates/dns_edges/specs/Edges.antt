@@ -1,8 +1,8 @@
 -- What sources, sinks and clocks tell of themselves, and what a call of one does to that.
 use Rattle.std.specs.Prelude.{◌≡◌, ℕ, ◌≤◌, ◌<◌, List, length, take, Option, Result, Ok, Err, IfOk, OnOk, OnErr}
-use Rattle.dns_io.specs.declared.edge.IoFault.{IoFault}
-use Rattle.dns_io.specs.declared.edge.IoFault.TheVariants.{Failed, OutOfMemory}
-use Rattle.dns_io.specs.Edge.{Rose, NeverBegins, Keeps, Takes, EndsAt, Grows, IsHandedOn}
+use Rattle.dns_io.specs.declared.io_fault.IoFault.{IoFault}
+use Rattle.dns_io.specs.declared.io_fault.IoFault.TheVariants.{Failed, OutOfMemory}
+use Rattle.dns_io.specs.Told.{Rose, NeverBegins, Keeps, Takes, EndsAt, Grows, IsHandedOn}
 
 -- what a call did to a count of faults, by its answer: it rose where the call failed, and stood still where it did not
 abbrev pub CountsBy : {T : Type 0} → ℕ → ℕ → Result T IoFault → Type 0

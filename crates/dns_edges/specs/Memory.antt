@@ -1,10 +1,10 @@
 -- What the source, the sink and the clock in memory do at each call.
 use Rattle.std.specs.Prelude.{◌≡◌, ℕ, min, Bool, nat_eq, List, [], ◌∷◌, ◌++◌, length, take, drop, Some, Result, Ok, Err, MatchBool, MatchResult}
 use Rattle.std.specs.List.{list_any}
-use Rattle.dns_io.specs.Edge.{one_more}
+use Rattle.dns_io.specs.Told.{one_more}
 use Rattle.dns_edges.specs.Edges.{SourceTold, SinkTold}
-use Rattle.dns_io.specs.declared.edge.IoFault.{IoFault}
-use Rattle.dns_io.specs.declared.edge.IoFault.TheVariants.{Failed, OutOfMemory}
+use Rattle.dns_io.specs.declared.io_fault.IoFault.{IoFault}
+use Rattle.dns_io.specs.declared.io_fault.IoFault.TheVariants.{Failed, OutOfMemory}
 
 -- whether the next call fails, after this number of calls, where those fail whose numbers, from 1, are listed
 abbrev pub next_fails : List ℕ → ℕ → Bool

@@ -5,7 +5,7 @@ ghost use Rattle.std.specs.Prelude.{◌≡◌, ◌≢◌, ◌≤◌, ◌<◌, �
 ghost use Rattle.std.specs.Io.{ReadsAtMost, WritesAtMost};
 ghost use Rattle.std.specs.Io.KnownBytes.{Keeps as KeepsKnown, ReadConsumes, WriteAppends};
 ghost use Rattle.std.specs.IoError.{error_kind};
-ghost use Rattle.dns_io.specs.Edge.{counted};
+ghost use Rattle.dns_io.specs.Told.{counted};
 ghost use Rattle.dns_edges.specs.Edges.{Reads, Writes, Flushes, HasCause, given_by};
 ghost use Rattle.dns_edges.specs.Adapters.{opened_of, file_told, untold_source, untold_sink, ReadsCounting, WritesCounting, ReadsOpened, RisesTo};
 

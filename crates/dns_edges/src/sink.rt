@@ -1,7 +1,7 @@
 //! Bytes that are written.
 
 ghost use Rattle.std.specs.Prelude.{◌≡◌, ◌<◌, ℕ, List, [], length, IfErr, OnOk, OnErr};
-ghost use Rattle.dns_io.specs.Edge.{Grows, GrowsByPrefix, Keeps, WritesUpTo, BreaksOff};
+ghost use Rattle.dns_io.specs.Told.{Grows, GrowsByPrefix, Keeps, WritesUpTo, BreaksOff};
 ghost use Rattle.dns_edges.specs.Edges.{SinkOf, Writes, Flushes, HasCause};
 
 use dns_io::IoFault;

@@ -1,7 +1,7 @@
 //! A source that is read to its end, or up to a bound.
 
 ghost use Rattle.std.specs.Prelude.{◌≡◌, ◌⊎◌, ◌<◌, ◌≤◌, ◌+◌, length, take, drop, ◌^◌, vec_len, IfOk, IfErr, OnOk, OnErr, IsErrOf};
-ghost use Rattle.dns_io.specs.Edge.{Rose, Keeps, Takes, EndsAt, WasRead, WasLonger, TakesFront};
+ghost use Rattle.dns_io.specs.Told.{Rose, Keeps, Takes, EndsAt, WasRead, WasLonger, TakesFront};
 ghost use Rattle.dns_edges.specs.Edges.{HasCause};
 ghost use Rattle.dns_edges.specs.declared.to_end.ReadFault.TheVariants.{OutOfMemory as NoMemory};
 

@@ -4,7 +4,7 @@ use Rattle.http.specs.Request.{head_of, body_of}
 use Rattle.http.specs.Response.{head_of as response_head_of}
 use Rattle.http.specs.declared.request.Request.{Request}
 use Rattle.http.specs.declared.response.Response.{Response}
-use Rattle.dns_io.specs.Edge.{Told}
+use Rattle.dns_io.specs.Told.{Told}
 use Rattle.dns_book.specs.declared.ask.Ask.{Ask}
 use Rattle.dns_book.specs.declared.ask.Settled.{Settled}
 use Rattle.dns_net.specs.Bodies.{AsksNext, Fetches, FetchesBytes, IsFetched, IsReadOnce}

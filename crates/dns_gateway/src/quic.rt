@@ -1,7 +1,7 @@
 //! One message on a stream of QUIC (RFC 9250 4.2).
 
 ghost use Rattle.std.specs.Prelude.{◌≡◌, ◌≤◌, ◌<◌, ◌^◌, length, Some, IsErrOf};
-ghost use Rattle.dns_io.specs.Edge.{Rose};
+ghost use Rattle.dns_io.specs.Told.{Rose};
 ghost use Rattle.dns_io.specs.declared.peer.Protocol.TheVariants as protocol;
 ghost use Rattle.dns_gateway.specs.Asks.{ask_of};
 ghost use Rattle.dns_quic.specs.Connections.{HasStreamCause};

@@ -1,8 +1,8 @@
 -- What is answered where there may be nothing yet.
 use Rattle.std.specs.Prelude.{◌≡◌, ◌⊎◌, ◌≤◌, ℕ, List, [], ◌∷◌, Option, Some, None, Result, Ok, Err}
-use Rattle.dns_io.specs.Edge.{Told, Keeps, Takes, Rose}
-use Rattle.dns_io.specs.declared.edge.IoFault.{IoFault}
-use Rattle.dns_io.specs.declared.edge.IoFault.TheVariants.{Failed, OutOfMemory}
+use Rattle.dns_io.specs.Told.{Told, Keeps, Takes, Rose}
+use Rattle.dns_io.specs.declared.io_fault.IoFault.{IoFault}
+use Rattle.dns_io.specs.declared.io_fault.IoFault.TheVariants.{Failed, OutOfMemory}
 use Rattle.dns_edges.specs.Edges.{HasCause}
 use Rattle.dns_multicast.specs.declared.packet.Packet.{Packet}
 use Rattle.dns_transport.specs.Faults.{of_io}

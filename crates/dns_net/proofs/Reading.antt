@@ -1,8 +1,8 @@
 -- How the calls that read a body go on, and how they end.
 use Rattle.std.proofs.Common.{◌≡◌, ℕ, ◌+◌, ◌≤◌, List, [], length, Option, Some, refl, subst, inl, inr, arith}
 use Rattle.std.specs.Prelude.{Result, Ok, Err}
-use Rattle.dns_io.specs.declared.edge.IoFault.{IoFault}
-use Rattle.dns_io.specs.declared.edge.IoFault.TheVariants as io
+use Rattle.dns_io.specs.declared.io_fault.IoFault.{IoFault}
+use Rattle.dns_io.specs.declared.io_fault.IoFault.TheVariants as io
 use Rattle.dns_transport.specs.Faults.{of_io}
 use Rattle.dns_transport.specs.Pieces.{BodyTold}
 use Rattle.dns_transport.specs.declared.error.NetError.{NetError}

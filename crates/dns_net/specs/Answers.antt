@@ -7,7 +7,7 @@ use Rattle.http.specs.declared.response.Response.{Response}
 use Rattle.http.specs.declared.response.Parts.{Parts}
 use Rattle.http_header.specs.HeaderMap.{Entries, get}
 use Rattle.http_header.specs.FieldValue.{FieldValue}
-use Rattle.dns_io.specs.Edge.{Told, Rose, Grows}
+use Rattle.dns_io.specs.Told.{Told, Rose, Grows}
 use Rattle.dns_name.specs.declared.fault.ProtoError.{ProtoError}
 use Rattle.dns_wire.specs.declared.message.Message.{Message}
 use Rattle.dns_wire.specs.MessageBytes.{message_bytes, TellsTooLong}

@@ -2,7 +2,7 @@
 use Rattle.std.specs.Prelude.{◌≡◌, ℕ, ◌+◌, List, [], ◌∷◌, Option, Result, Err, OnOk, OnErr}
 use Rattle.http.specs.declared.request.Request.{Request}
 use Rattle.http.specs.declared.response.Response.{Response}
-use Rattle.dns_io.specs.Edge.{Keeps, Grows}
+use Rattle.dns_io.specs.Told.{Keeps, Grows}
 use Rattle.dns_transport.specs.Faults.{HasLinkCause, CountsReturned}
 use Rattle.dns_transport.specs.declared.error.LinkFault.{LinkFault}
 use Rattle.dns_transport.specs.declared.error.LinkFault.TheVariants.{OutOfMemory}

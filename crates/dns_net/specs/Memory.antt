@@ -4,10 +4,10 @@ use Rattle.std.specs.List.{list_any}
 use Rattle.http.specs.Response.{body_of}
 use Rattle.http.specs.declared.request.Request.{Request}
 use Rattle.http.specs.declared.response.Response.{Response}
-use Rattle.dns_io.specs.Edge.{one_more}
+use Rattle.dns_io.specs.Told.{one_more}
 use Rattle.dns_edges.specs.Memory.{next_fails}
-use Rattle.dns_io.specs.declared.edge.IoFault.{IoFault}
-use Rattle.dns_io.specs.declared.edge.IoFault.TheVariants.{Failed}
+use Rattle.dns_io.specs.declared.io_fault.IoFault.{IoFault}
+use Rattle.dns_io.specs.declared.io_fault.IoFault.TheVariants.{Failed}
 use Rattle.dns_transport.specs.declared.error.LinkFault.{LinkFault}
 use Rattle.dns_transport.specs.declared.error.LinkFault.TheVariants.{Failed as LinkFailed, Late, OutOfMemory as NoMemory}
 use Rattle.dns_net.specs.declared.link.LinkCall.{LinkCall}

@@ -1,7 +1,7 @@
 //! A body, fetched piece by piece.
 
 ghost use Rattle.std.specs.Prelude.{◌≡◌, min, unwrap_or};
-ghost use Rattle.dns_io.specs.Edge.{Told};
+ghost use Rattle.dns_io.specs.Told.{Told};
 ghost use Rattle.dns_net.specs.Bodies.{AsksNext, Fetches, FetchesBytes, IsFetched, IsReadOnce, is_said};
 ghost use Rattle.dns_transport.specs.Faults.{HasCause};
 

@@ -2,7 +2,7 @@
 
 ghost use Rattle.std.specs.Prelude.{◌≡◌, Err, IfOk, IfErr, option_copied};
 ghost use Rattle.http.specs.Request.{head_of, body_of};
-ghost use Rattle.dns_io.specs.Edge.{Told};
+ghost use Rattle.dns_io.specs.Told.{Told};
 ghost use Rattle.dns_net.specs.Bodies.{AsksNext, Fetches, FetchesBytes, IsFetched, IsReadOnce};
 ghost use Rattle.dns_net.specs.Checks.{verdict, taken};
 ghost use Rattle.dns_transport.specs.Faults.{HasCause, IsBadRequest};

@@ -1,9 +1,9 @@
 -- What the socket, the listener and the hub in memory do at each call.
 use Rattle.std.specs.Prelude.{◌≡◌, ◌≤◌, ◌<◌, ◌^◌, ◌+◌, ◌-◌, ℕ, zero, suc, nat_eq, if◌then◌else◌, List, [], ◌∷◌, ◌++◌, length, drop, Option, Some, None, Result, Err, MatchBool, MatchResult}
-use Rattle.dns_io.specs.Edge.{one_more}
+use Rattle.dns_io.specs.Told.{one_more}
 use Rattle.dns_edges.specs.Memory.{SourceState, SinkState, ClockState, next_fails}
-use Rattle.dns_io.specs.declared.edge.IoFault.{IoFault}
-use Rattle.dns_io.specs.declared.edge.IoFault.TheVariants.{Failed, OutOfMemory}
+use Rattle.dns_io.specs.declared.io_fault.IoFault.{IoFault}
+use Rattle.dns_io.specs.declared.io_fault.IoFault.TheVariants.{Failed, OutOfMemory}
 use Rattle.dns_io.specs.declared.peer.Peer.{Peer}
 use Rattle.dns_ports.specs.Ports.{Datagram, Reply, UdpTold, TcpTold, HubTold, IsFreshSocket, IsFreshListener, came_into}
 use Rattle.dns_ports.specs.declared.hub.Opening.{Opening}

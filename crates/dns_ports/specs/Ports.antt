@@ -1,7 +1,7 @@
 -- What arrives at a port, and what a call of a port or a hub does to what it tells of itself.
 use Rattle.std.specs.Prelude.{◌≡◌, ◌≤◌, ◌<◌, ◌+◌, ◌^◌, ℕ, List, [], ◌∷◌, take, Option, Some, None, IfSome, Result, Ok, Err, IfOk, OnOk, OnErr}
-use Rattle.dns_io.specs.declared.edge.IoFault.{IoFault}
-use Rattle.dns_io.specs.Edge.{Told, Keeps, Takes, Grows, Rose}
+use Rattle.dns_io.specs.declared.io_fault.IoFault.{IoFault}
+use Rattle.dns_io.specs.Told.{Told, Keeps, Takes, Grows, Rose}
 use Rattle.dns_io.specs.declared.peer.Peer.{Peer}
 use Rattle.dns_edges.specs.Edges.{SourceOf, SinkOf, ClockOf, HasCause}
 use Rattle.dns_ports.specs.declared.port.Accepted.{Accepted}

@@ -3,10 +3,10 @@ use Rattle.std.specs.Prelude.{◌≡◌, ◌<◌, ◌≤◌, ◌+◌, ◌-◌, �
 use Rattle.std.specs.Io.KnownBytes.{ReadConsumes, Keeps as KeepsKnown}
 use Rattle.std.specs.declared.io.ErrorKind.{ErrorKind}
 use Rattle.std.specs.declared.io.ErrorKind.TheVariants as kind
-use Rattle.dns_io.specs.declared.edge.IoFault.{IoFault}
-use Rattle.dns_io.specs.declared.edge.IoFault.TheVariants.{Failed}
-use Rattle.dns_io.specs.Edge.{counted}
-use Rattle.dns_io.specs.Adapters.{fault_of}
+use Rattle.dns_io.specs.declared.io_fault.IoFault.{IoFault}
+use Rattle.dns_io.specs.declared.io_fault.IoFault.TheVariants.{Failed}
+use Rattle.dns_io.specs.Told.{counted}
+use Rattle.dns_io.specs.Faults.{fault_of}
 use Rattle.dns_edges.specs.Edges.{SourceTold, SinkTold}
 use Rattle.dns_ports.specs.Ports.{UdpTold, TcpTold, HubTold}
 use Rattle.dns_ports.specs.declared.stop_token.Waited.{Waited}

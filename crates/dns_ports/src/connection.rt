@@ -2,7 +2,7 @@
 
 ghost use Rattle.std.specs.Prelude.{◌≡◌, ◌<◌, ◌≤◌, length, IfOk};
 ghost use Rattle.std.specs.Io.KnownBytes.{WriteAppends};
-ghost use Rattle.dns_io.specs.Edge.{counted};
+ghost use Rattle.dns_io.specs.Told.{counted};
 ghost use Rattle.dns_edges.specs.Edges.{Reads, Flushes, given_by};
 ghost use Rattle.dns_ports.specs.Sockets.{untold_input, untold_output, ReadsCounted, WritesCounted, ReadsWaiting, heard};
 

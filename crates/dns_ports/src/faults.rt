@@ -1,7 +1,7 @@
 //! What an error of the operating system means, and how faults are counted.
 
 ghost use Rattle.std.specs.Prelude.{◌≡◌};
-ghost use Rattle.dns_io.specs.Edge.{counted};
+ghost use Rattle.dns_io.specs.Told.{counted};
 ghost use Rattle.dns_edges.specs.Edges.{HasCause};
 ghost use Rattle.dns_ports.specs.Ports.{CountsPort};
 ghost use Rattle.dns_ports.specs.Memory.{faults_behind};

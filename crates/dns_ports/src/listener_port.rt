@@ -1,7 +1,7 @@
 //! A listener of the operating system.
 
 ghost use Rattle.std.specs.Prelude.{◌≡◌, ◌<◌, ◌≤◌, ◌+◌, All, length, IfOk, vec_len, vec_capacity};
-ghost use Rattle.dns_io.specs.Edge.{counted};
+ghost use Rattle.dns_io.specs.Told.{counted};
 ghost use Rattle.dns_ports.specs.Ports.{Accepts, TakesBack};
 ghost use Rattle.dns_ports.specs.Sockets.{untold_listener};
 

@@ -1,7 +1,7 @@
 //! A hub over the operating system.
 
 ghost use Rattle.std.specs.Prelude.{◌≡◌, ◌<◌, All, length, IfOk};
-ghost use Rattle.dns_io.specs.Edge.{counted};
+ghost use Rattle.dns_io.specs.Told.{counted};
 ghost use Rattle.dns_ports.specs.Ports.{IsFreshSocket, IsFreshListener, Opens, ClosesSocket, ClosesListener};
 ghost use Rattle.dns_ports.specs.Memory.{faults_behind};
 ghost use Rattle.dns_ports.specs.Sockets.{untold_hub, untold_socket, untold_listener};

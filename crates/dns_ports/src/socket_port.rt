@@ -1,7 +1,7 @@
 //! A socket of datagrams of the operating system.
 
 ghost use Rattle.std.specs.Prelude.{◌≡◌, ◌≤◌, length, IfOk};
-ghost use Rattle.dns_io.specs.Edge.{counted};
+ghost use Rattle.dns_io.specs.Told.{counted};
 ghost use Rattle.dns_ports.specs.Ports.{Receives, Answers};
 ghost use Rattle.dns_ports.specs.Sockets.{untold_socket, IfCame};
 

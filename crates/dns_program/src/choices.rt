@@ -9,10 +9,7 @@ use dns_io::OutOfMemory;
 use std::alloc::Global;
 
 /// The path of the journal's file: the one that the words of a command name. For words that are no command no file is opened.
-pub fn journal_path<'a>(
-    alloc: Global,
-    words: &'a [String],
-) -> Result<Option<&'a str>, OutOfMemory>
+pub fn journal_path<'a>(alloc: Global, words: &'a [String]) -> Result<Option<&'a str>, OutOfMemory>
     ensures { IfOk result (λ path. option_map (λ p. p.now) path ≡ journal_path (map string_bytes words.now)) }
 {
     let Some(path) = path_of(words, JOURNAL) else {

@@ -4,7 +4,7 @@ ghost use Rattle.std.specs.Prelude.{◌≡◌, ◌<◌, ◌^◌, neg_ℤ, pos, l
 ghost use Rattle.dns_keeper.specs.declared.keeper.KeepFault.TheVariants.{OutOfMemory as NoMemory};
 ghost use Rattle.dns_keeper.specs.Keeping.{GrowsByBatch, TellsAscending, IsRowFrom, IsFirstRow, HasCause};
 ghost use Rattle.dns_keeper.specs.Crash.{LeavesTold, LeavesNoOther, LeavesWhole};
-ghost use Rattle.dns_io.specs.Edge.{Keeps};
+ghost use Rattle.dns_io.specs.Told.{Keeps};
 ghost use Rattle.dns_journal.specs.Opening.{IsOpenFault};
 ghost use Rattle.dns_program.specs.HostFiles.{file_rows, file_may_leave};
 ghost use Rattle.dns_wire.specs.WireFormat.{AreShort};

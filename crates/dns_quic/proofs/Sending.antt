@@ -3,9 +3,9 @@ use Rattle.std.proofs.Common.{◌≡◌, ℕ, List, [], ◌++◌, Option, Some, 
 use Rattle.std.proofs.lemmas.List.{append_assoc, append-nil}
 use Rattle.std.proofs.lemmas.Bool.Decides.{nat_tests}
 use Rattle.std.specs.Prelude.{◌==◌}
-use Rattle.dns_io.specs.declared.edge.IoFault.{IoFault}
-use Rattle.dns_io.specs.declared.edge.IoFault.TheVariants as io
-use Rattle.dns_io.specs.Edge.{Grows, GrowsByPrefix}
+use Rattle.dns_io.specs.declared.io_fault.IoFault.{IoFault}
+use Rattle.dns_io.specs.declared.io_fault.IoFault.TheVariants as io
+use Rattle.dns_io.specs.Told.{Grows, GrowsByPrefix}
 use Rattle.dns_io.proofs.ToldContents.{Grows-more, Grows-GrowsByPrefix}
 use Rattle.dns_transport.specs.Faults.{of_io}
 use Rattle.dns_transport.specs.declared.error.NetError.{NetError}

@@ -1,7 +1,7 @@
 -- What a connection tells of its calls, and what a client does with a stream that it opens.
 use Rattle.std.specs.Prelude.{◌≡◌, ◌⊎◌, ℕ, ◌+◌, ◌≤◌, ◌<◌, List, [], ◌∷◌, Bool, false, Option, Some, None, Result, Ok, Err, IsErrOf, IfOk, OnOk, OnErr, MatchBool, MatchOption, MatchResult, unwrap_or}
-use Rattle.dns_io.specs.Edge.{Told, Keeps, Rose, Takes, Grows}
-use Rattle.dns_io.specs.declared.edge.IoFault.{IoFault}
+use Rattle.dns_io.specs.Told.{Told, Keeps, Rose, Takes, Grows}
+use Rattle.dns_io.specs.declared.io_fault.IoFault.{IoFault}
 use Rattle.dns_wire.specs.declared.message.Message.{Message}
 use Rattle.dns_edges.specs.Edges.{HasCause as HasIoCause}
 use Rattle.dns_transport.specs.Faults.{HasCause, HasLinkCause, of_link}

@@ -1,7 +1,7 @@
 -- What the halves of a stream tell of themselves, and what a call of one does to that.
 use Rattle.std.specs.Prelude.{ℕ, ◌<◌, ◌≤◌, List, [], ◌∷◌, length, Option, Some, None, Result, IfOk, OnOk, OnErr}
-use Rattle.dns_io.specs.Edge.{Keeps, Grows, GrowsByPrefix}
-use Rattle.dns_io.specs.declared.edge.IoFault.{IoFault}
+use Rattle.dns_io.specs.Told.{Keeps, Grows, GrowsByPrefix}
+use Rattle.dns_io.specs.declared.io_fault.IoFault.{IoFault}
 use Rattle.dns_edges.specs.Edges.{HasCause}
 use Rattle.dns_transport.specs.Pieces.{GivesBytes}
 use Rattle.dns_quic.specs.declared.halves.StreamEnd.{StreamEnd}

@@ -1,10 +1,10 @@
 -- What the halves and the connection in memory do at each call.
 use Rattle.std.specs.Prelude.{◌≡◌, ◌⊎◌, ℕ, ◌+◌, ◌-◌, min, nat_lt, nat_eq, ◌==◌, ◌||◌, if◌then◌else◌, List, [], ◌∷◌, ◌++◌, length, take, drop, Option, Some, None, Result, Ok, Err, MatchBool, MatchResult, IsOkAnd}
 use Rattle.std.specs.List.{list_any}
-use Rattle.dns_io.specs.Edge.{one_more}
+use Rattle.dns_io.specs.Told.{one_more}
 use Rattle.dns_edges.specs.Memory.{next_fails}
-use Rattle.dns_io.specs.declared.edge.IoFault.{IoFault}
-use Rattle.dns_io.specs.declared.edge.IoFault.TheVariants.{Failed, OutOfMemory}
+use Rattle.dns_io.specs.declared.io_fault.IoFault.{IoFault}
+use Rattle.dns_io.specs.declared.io_fault.IoFault.TheVariants.{Failed, OutOfMemory}
 use Rattle.dns_transport.specs.declared.error.LinkFault.{LinkFault}
 use Rattle.dns_transport.specs.declared.error.LinkFault.TheVariants.{Failed as LinkFailed, Late, OutOfMemory as NoMemory}
 use Rattle.dns_quic.specs.declared.halves.StreamEnd.{StreamEnd}

@@ -1,8 +1,8 @@
 -- Messages on a stream, each behind its length (RFC 9250 4.2, RFC 1035 4.2.2).
 use Rattle.std.specs.Prelude.{◌≡◌, ℕ, ◌+◌, ◌*◌, ◌<◌, ◌≤◌, ◌==◌, nat_lt, true, List, [], ◌∷◌, ◌++◌, length, Option, Result, Ok, Err, MatchBool, MatchResult}
 use Rattle.std.specs.Int.{w16, to_be_bytes}
-use Rattle.dns_io.specs.Edge.{Told, Keeps, Grows, GrowsByPrefix}
-use Rattle.dns_io.specs.declared.edge.IoFault.{IoFault}
+use Rattle.dns_io.specs.Told.{Told, Keeps, Grows, GrowsByPrefix}
+use Rattle.dns_io.specs.declared.io_fault.IoFault.{IoFault}
 use Rattle.dns_name.specs.declared.fault.ProtoError.{ProtoError}
 use Rattle.dns_wire.specs.declared.message.Message.{Message}
 use Rattle.dns_wire.specs.MessageBytes.{message_bytes, TellsTooLong}

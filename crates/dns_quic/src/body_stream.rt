@@ -1,7 +1,7 @@
 //! The receiving half of a stream as the body of a message.
 
 ghost use Rattle.std.specs.Prelude.{◌≡◌, None, IfOk, OnErr};
-ghost use Rattle.dns_io.specs.Edge.{Keeps};
+ghost use Rattle.dns_io.specs.Told.{Keeps};
 ghost use Rattle.dns_edges.specs.Edges.{HasCause};
 ghost use Rattle.dns_quic.specs.BodyStreams.{left_behind, body_told};
 ghost use Rattle.dns_transport.specs.Pieces.{GivesBytes, GivesPiece, HasBytes};

@@ -3,7 +3,7 @@
 
 ghost use Rattle.std.specs.Prelude.{◌≡◌, ◌⊎◌, ◌<◌, ◌≤◌, ◌++◌, [], List, ℕ, Some, length, min, take};
 ghost use Rattle.dns_edges.specs.Edges.{HasCause};
-ghost use Rattle.dns_io.specs.Edge.{GrowsByPrefix};
+ghost use Rattle.dns_io.specs.Told.{GrowsByPrefix};
 ghost use Rattle.dns_quic.specs.Halves.{Writes, Finishes, Reads, StopsBy};
 ghost use Rattle.dns_quic.specs.Memory.{WriteNext, EndNext, ReadNext, StopNext, send_told, recv_told};
 ghost use Rattle.dns_quic.specs.declared.halves.StreamEnd.TheVariants.{Finished, Reset};

@@ -2,7 +2,7 @@
 
 ghost use Rattle.std.specs.Prelude.{◌≡◌, ◌≤◌, ◌++◌, ℕ, List, false, length, IsErrOf, IfErr};
 ghost use Rattle.std.specs.Int.{w16, to_be_bytes};
-ghost use Rattle.dns_io.specs.Edge.{Keeps};
+ghost use Rattle.dns_io.specs.Told.{Keeps};
 ghost use Rattle.dns_quic.specs.Codes.{number_of};
 ghost use Rattle.dns_quic.specs.Streams.{ChecksId, Ends, EndsSo, Encodes, IsOtherId, ReceivesBytes, ReadsChecked, ReceivesMessage, SendsBytes, SendsMessage, Stops, TakesBytes, frame_bytes};
 ghost use Rattle.dns_quic.specs.declared.halves.StreamEnd.TheVariants.{Finished, Reset};

@@ -1,7 +1,7 @@
 //! How the bytes of one message are received.
 
 ghost use Rattle.std.specs.Prelude.{◌≡◌, ◌≤◌, ◌<◌, ◌+◌, ◌*◌, ◌++◌, ℕ, length, get_or, IfOk, IfErr, IfSome, IfNone, OnErr};
-ghost use Rattle.dns_io.specs.Edge.{Keeps, Told, TakesFront};
+ghost use Rattle.dns_io.specs.Told.{Keeps, Told, TakesFront};
 ghost use Rattle.dns_quic.specs.Receiving.{GivesUpTo};
 ghost use Rattle.dns_quic.specs.Streams.{IsIoFault, IsReceived, ReceivesFrame};
 ghost use Rattle.dns_transport.specs.Faults.{HasCause};

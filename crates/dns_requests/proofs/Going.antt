@@ -1,7 +1,7 @@
 -- A connection that is served, from read to read, and how it ends.
 use Rattle.std.proofs.Common.{◌≡◌, ◌≢◌, ◌≤◌, ◌<◌, ◌+◌, ◌*◌, ◌∙◌, ℕ, List, [], ◌∷◌, ◌++◌, length, map, true, false, Option, Some, None, Ok, Err, refl, sym, ap, subst, inl, arith, length-append}
 use Rattle.std.proofs.lemmas.List.{append-nil, append_assoc, length-map}
-use Rattle.dns_io.specs.Edge.{EndsAt, Grows, GrowsByPrefix, Keeps, Rose, Takes}
+use Rattle.dns_io.specs.Told.{EndsAt, Grows, GrowsByPrefix, Keeps, Rose, Takes}
 use Rattle.dns_io.proofs.ToldContents.{Keeps-same, Grows-more, Grows-nothing, Grows-GrowsByPrefix}
 use Rattle.dns_edges.specs.Edges.{SourceOf, SinkOf, ClockOf}
 use Rattle.dns_book.specs.declared.ask.Ask.{Ask}

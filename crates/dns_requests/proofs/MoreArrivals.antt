@@ -7,7 +7,7 @@ use Rattle.std.specs.List.{AllByRecursion}
 use Rattle.dns_io.specs.declared.peer.Peer.{Peer}
 use Rattle.dns_io.specs.declared.peer.Protocol.TheVariants.{Tcp}
 use Rattle.dns_book.specs.declared.ask.Ask.{Ask}
-use Rattle.dns_io.specs.Edge.{Takes}
+use Rattle.dns_io.specs.Told.{Takes}
 use Rattle.dns_edges.specs.Edges.{SourceOf, ClockOf}
 use Rattle.dns_io.proofs.ToldContents.{Told-same, Takes-more}
 use Rattle.dns_frames.specs.Frames.{Cut, frames, frames_by}

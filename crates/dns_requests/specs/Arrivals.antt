@@ -3,8 +3,8 @@ use Rattle.std.specs.Prelude.{◌≡◌, ◌⊎◌, ℕ, ◌<◌, ◌≤◌, zer
 use Rattle.std.specs.List.{AllByRecursion, flat_map}
 use Rattle.dns_io.specs.declared.peer.Peer.{Peer}
 use Rattle.dns_io.specs.declared.peer.Protocol.TheVariants.{Tcp}
-use Rattle.dns_io.specs.declared.edge.IoFault.TheVariants as io
-use Rattle.dns_io.specs.Edge.{Takes, EndsAt, Rose}
+use Rattle.dns_io.specs.declared.io_fault.IoFault.TheVariants as io
+use Rattle.dns_io.specs.Told.{Takes, EndsAt, Rose}
 use Rattle.dns_edges.specs.Edges.{SourceOf, ClockOf}
 use Rattle.dns_book.specs.declared.ask.Ask.{Ask}
 use Rattle.dns_frames.specs.Frames.{frames}

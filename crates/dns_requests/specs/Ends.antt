@@ -1,8 +1,8 @@
 -- How serving a connection ends.
 use Rattle.std.specs.Prelude.{◌≡◌, ◌⊎◌, ℕ, ◌+◌, ◌<◌, ◌≤◌, List, [], length, Option, IfSome, Result, Ok, Err}
 use Rattle.dns_io.specs.declared.peer.Peer.{Peer}
-use Rattle.dns_io.specs.declared.edge.IoFault.TheVariants as io
-use Rattle.dns_io.specs.Edge.{Keeps, Takes, Rose}
+use Rattle.dns_io.specs.declared.io_fault.IoFault.TheVariants as io
+use Rattle.dns_io.specs.Told.{Keeps, Takes, Rose}
 use Rattle.dns_edges.specs.Edges.{SourceOf, SinkOf, ClockOf}
 use Rattle.dns_book.specs.declared.ask.Ask.{Ask}
 use Rattle.dns_book.specs.declared.ask.Settled.{Settled}

@@ -3,7 +3,7 @@ use Rattle.std.specs.Prelude.{◌≡◌, ◌⊎◌, ℕ, ◌≤◌, List, Option
 use Rattle.dns_io.specs.declared.peer.Peer.{Peer}
 use Rattle.dns_io.specs.declared.peer.Protocol.{Protocol}
 use Rattle.dns_io.specs.declared.peer.Protocol.TheVariants.{Udp, Tcp, Tls, Https, Quic, H3}
-use Rattle.dns_io.specs.Edge.{Keeps, Grows, GrowsByPrefix, Rose}
+use Rattle.dns_io.specs.Told.{Keeps, Grows, GrowsByPrefix, Rose}
 use Rattle.dns_edges.specs.Edges.{SinkOf}
 use Rattle.dns_wire.specs.declared.reply.Reply.{Reply}
 use Rattle.dns_wire.specs.Standing.{word_at}

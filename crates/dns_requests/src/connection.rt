@@ -1,7 +1,7 @@
 //! One connection, served until its source ends (RFC 7766 6.2, 8).
 
 ghost use Rattle.std.specs.Prelude.{◌≡◌, ◌≤◌, ◌<◌, ◌^◌, ◌+◌, ℕ, List, true, [], length, take, drop, IfOk, IfErr, OnOk, OnErr};
-ghost use Rattle.dns_io.specs.Edge.{EndsAt, Grows, GrowsByPrefix, Keeps, Takes};
+ghost use Rattle.dns_io.specs.Told.{EndsAt, Grows, GrowsByPrefix, Keeps, Takes};
 ghost use Rattle.dns_edges.specs.Edges.{HasCause, given_by};
 ghost use Rattle.dns_server_core.specs.Connections.{is_safe, is_within};
 ghost use Rattle.dns_requests.specs.Arrivals.{Receives, ReceivesNot};

@@ -1,7 +1,7 @@
 //! Replies that are sent one by one.
 
 ghost use Rattle.std.specs.Prelude.{◌≡◌, ◌+◌, ◌≤◌, length, set, IfOk, IfErr};
-ghost use Rattle.dns_io.specs.Edge.{Keeps};
+ghost use Rattle.dns_io.specs.Told.{Keeps};
 ghost use Rattle.dns_wire.specs.Standing.{word_at};
 ghost use Rattle.dns_wire.specs.Written.{Written};
 ghost use Rattle.dns_requests.specs.Responses.{BreaksOff, CountsSending, IsSent, info_of, sent_as, sent_reply};

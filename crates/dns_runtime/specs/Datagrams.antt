@@ -1,7 +1,7 @@
 -- What sockets of datagrams and runtimes tell of themselves, and what a call of one does to that.
 use Rattle.std.specs.Prelude.{◌≡◌, ℕ, ◌≤◌, List, [], ◌∷◌, length, take, Option, Result, IfOk, OnErr}
-use Rattle.dns_io.specs.Edge.{Told, Keeps, Grows}
-use Rattle.dns_io.specs.declared.edge.IoFault.{IoFault}
+use Rattle.dns_io.specs.Told.{Told, Keeps, Grows}
+use Rattle.dns_io.specs.declared.io_fault.IoFault.{IoFault}
 use Rattle.dns_io.specs.declared.peer.Peer.{Peer}
 use Rattle.dns_edges.specs.Edges.{HasCause}
 

@@ -1,9 +1,9 @@
 -- What the socket in memory does at each call.
 use Rattle.std.specs.Prelude.{◌≡◌, ℕ, List, [], ◌∷◌, ◌++◌, length, Some, Result, Err, MatchBool, MatchResult}
-use Rattle.dns_io.specs.Edge.{one_more}
+use Rattle.dns_io.specs.Told.{one_more}
 use Rattle.dns_edges.specs.Memory.{next_fails}
-use Rattle.dns_io.specs.declared.edge.IoFault.{IoFault}
-use Rattle.dns_io.specs.declared.edge.IoFault.TheVariants.{Failed, OutOfMemory}
+use Rattle.dns_io.specs.declared.io_fault.IoFault.{IoFault}
+use Rattle.dns_io.specs.declared.io_fault.IoFault.TheVariants.{Failed, OutOfMemory}
 use Rattle.dns_io.specs.declared.peer.Peer.{Peer}
 use Rattle.dns_runtime.specs.Datagrams.{SocketTold}
 

@@ -1,9 +1,9 @@
 -- What the worker of a listener does with the connections that come in (RFC 1035 4.2.2, RFC 7766).
 use Rattle.std.specs.Prelude.{◌≡◌, ℕ, Bool, ◌^◌, ◌≤◌, true, false, List, [], ◌∷◌, map, Option, None, Some, Result, Ok, Err}
 use Rattle.std.specs.List.{sum_by}
-use Rattle.dns_io.specs.declared.edge.IoFault.{IoFault}
-use Rattle.dns_io.specs.declared.edge.IoFault.TheVariants as io
-use Rattle.dns_io.specs.Edge.{Grows, Keeps, Rose, Takes}
+use Rattle.dns_io.specs.declared.io_fault.IoFault.{IoFault}
+use Rattle.dns_io.specs.declared.io_fault.IoFault.TheVariants as io
+use Rattle.dns_io.specs.Told.{Grows, Keeps, Rose, Takes}
 use Rattle.dns_edges.specs.Edges.{SourceOf, SinkOf, ClockOf}
 use Rattle.dns_book.specs.declared.ask.Ask.{Ask}
 use Rattle.dns_book.specs.declared.ask.Settled.{Settled}

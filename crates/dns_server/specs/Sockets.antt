@@ -1,11 +1,11 @@
 -- What the worker of a socket does with the datagrams that come in (RFC 1035 4.2.1).
 use Rattle.std.specs.Prelude.{◌≡◌, ◌⊎◌, ◌≤◌, ◌+◌, ℕ, Bool, true, false, List, [], ◌∷◌, map, Option, None, Some, IsSome, IfSome, Result, Ok, Err}
 use Rattle.std.specs.List.{flat_map, sum_by}
-use Rattle.dns_io.specs.declared.edge.IoFault.{IoFault}
-use Rattle.dns_io.specs.declared.edge.IoFault.TheVariants.{Failed, OutOfMemory}
+use Rattle.dns_io.specs.declared.io_fault.IoFault.{IoFault}
+use Rattle.dns_io.specs.declared.io_fault.IoFault.TheVariants.{Failed, OutOfMemory}
 use Rattle.dns_io.specs.declared.peer.Peer.{Peer}
 use Rattle.dns_io.specs.declared.peer.Protocol.TheVariants.{Udp}
-use Rattle.dns_io.specs.Edge.{Grows, Keeps, Takes}
+use Rattle.dns_io.specs.Told.{Grows, Keeps, Takes}
 use Rattle.dns_book.specs.declared.ask.Ask.{Ask}
 use Rattle.dns_book.specs.declared.ask.Settled.{Settled}
 use Rattle.dns_ports.specs.Ports.{Datagram, Reply, UdpTold}

@@ -2,7 +2,7 @@
 
 ghost use Rattle.std.specs.Prelude.{◌≡◌, ◌≤◌, ℕ, List, length, OnOk};
 ghost use Rattle.std.specs.List.{AllByRecursion};
-ghost use Rattle.dns_io.specs.Edge.{Takes};
+ghost use Rattle.dns_io.specs.Told.{Takes};
 ghost use Rattle.dns_edges.specs.Edges.{around};
 ghost use Rattle.dns_ports.specs.Ports.{listener_of};
 ghost use Rattle.dns_server.specs.Servers.{AnswersFor, EndsReading, IsOf, IsReadOut, IsServer, KeepsPasses, Matches, ServedListener, ServedSocket, ServesUntil, answer_of, as_net, first_fault, or_later, or_reading, their_passes};

@@ -1,7 +1,7 @@
 //! The worker of a socket.
 
 ghost use Rattle.std.specs.Prelude.{◌≡◌, ◌≤◌, ◌<◌, ◌^◌, length, take, true, false, if◌then◌else◌, OnOk, IfOk, OnErr, IsErrOf, Some, None};
-ghost use Rattle.dns_io.specs.Edge.{Grows, Keeps};
+ghost use Rattle.dns_io.specs.Told.{Grows, Keeps};
 ghost use Rattle.dns_edges.specs.Edges.{HasCause};
 ghost use Rattle.dns_server.specs.Sockets.{Ended, Handles, WorksSocket, answer_to, ask_for, found_memory};
 

@@ -1,7 +1,7 @@
 //! What a server serves until.
 
 ghost use Rattle.std.specs.Prelude.{◌≤◌, ℕ, List};
-ghost use Rattle.dns_io.specs.Edge.{Takes};
+ghost use Rattle.dns_io.specs.Told.{Takes};
 ghost use Rattle.dns_edges.specs.Edges.{around};
 ghost use Rattle.dns_server.specs.Servers.{EndsReading};
 

@@ -1,8 +1,8 @@
 -- What the faults of other calls become.
 use Rattle.std.specs.Prelude.{◌≡◌, ℕ, ◌≤◌, ◌<◌, Result, Ok, Err, IsErrOf}
-use Rattle.dns_io.specs.Edge.{Rose}
-use Rattle.dns_io.specs.declared.edge.IoFault.{IoFault}
-use Rattle.dns_io.specs.declared.edge.IoFault.TheVariants as io
+use Rattle.dns_io.specs.Told.{Rose}
+use Rattle.dns_io.specs.declared.io_fault.IoFault.{IoFault}
+use Rattle.dns_io.specs.declared.io_fault.IoFault.TheVariants as io
 use Rattle.dns_name.specs.declared.fault.ProtoError.{ProtoError}
 use Rattle.dns_name.specs.declared.fault.ProtoError.TheVariants as proto
 use Rattle.dns_transport.specs.declared.error.LinkFault.{LinkFault}

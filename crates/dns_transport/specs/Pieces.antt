@@ -1,7 +1,7 @@
 -- The bodies of messages, which come in pieces.
 use Rattle.std.specs.Prelude.{◌≡◌, ℕ, ◌<◌, List, [], ◌∷◌, ◌++◌, length, Option, Some, None, Result, IfOk, OnErr}
-use Rattle.dns_io.specs.Edge.{Told, Keeps, Takes}
-use Rattle.dns_io.specs.declared.edge.IoFault.{IoFault}
+use Rattle.dns_io.specs.Told.{Told, Keeps, Takes}
+use Rattle.dns_io.specs.declared.io_fault.IoFault.{IoFault}
 use Rattle.dns_edges.specs.Edges.{HasCause}
 
 -- all bytes of these pieces, one after another

@@ -1,7 +1,7 @@
 -- What the counts of the input and of the output did.
 use Rattle.std.proofs.Common.{◌≡◌, ℕ, List, Result, Ok, Err, IfErr, refl, sym, arith}
-use Rattle.dns_io.specs.declared.edge.IoFault.{IoFault}
-use Rattle.dns_io.specs.declared.edge.IoFault.TheVariants as io
+use Rattle.dns_io.specs.declared.io_fault.IoFault.{IoFault}
+use Rattle.dns_io.specs.declared.io_fault.IoFault.TheVariants as io
 use Rattle.dns_edges.specs.Edges.{HasCause}
 use Rattle.dns_name.specs.declared.fault.ProtoError.{ProtoError}
 use Rattle.dns_name.specs.declared.fault.ProtoError.TheVariants as proto

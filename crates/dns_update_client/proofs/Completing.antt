@@ -1,7 +1,7 @@
 -- Of what the program was given nothing is at fault: then it ends with the codes, or for want of memory.
 use Rattle.std.proofs.Common.{◌≡◌, ℕ, ◌≤◌, List, ◌++◌, inl, inr, length, Option, Some, None, IsSome, Result, Ok, Err, refl, sym, ap, subst, ◌∙◌, length-append, arith}
 use Rattle.std.proofs.lemmas.Option.{same_Some}
-use Rattle.dns_io.specs.Edge.{Told, WasLonger}
+use Rattle.dns_io.specs.Told.{Told, WasLonger}
 use Rattle.dns_wire.specs.declared.message.Message.{Message}
 use Rattle.dns_update_script.specs.declared.script.Sending.{Sending}
 use Rattle.dns_update_script.specs.Script.{script_of}

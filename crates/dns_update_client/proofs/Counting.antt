@@ -1,9 +1,9 @@
 -- Which counts of faults rose, by how the program ended.
 use Rattle.std.proofs.Common.{◌≡◌, ◌⊎◌, inl, inr, ℕ, List, true, false, Result, Ok, Err, refl, sym, ap, subst, ◌∙◌}
 use Rattle.std.specs.Result.{IsErrOf}
-use Rattle.dns_io.specs.declared.edge.IoFault.{IoFault}
-use Rattle.dns_io.specs.declared.edge.IoFault.TheVariants.{Failed, OutOfMemory}
-use Rattle.dns_io.specs.Edge.{Rose, BreaksOff}
+use Rattle.dns_io.specs.declared.io_fault.IoFault.{IoFault}
+use Rattle.dns_io.specs.declared.io_fault.IoFault.TheVariants.{Failed, OutOfMemory}
+use Rattle.dns_io.specs.Told.{Rose, BreaksOff}
 use Rattle.dns_edges.specs.Edges.{Around, around, SourceTold, SinkOf, SinkTold}
 use Rattle.dns_words.specs.Writing.{WritesWhole}
 use Rattle.dns_update_client.specs.declared.submit_fault.SubmitFault.{SubmitFault}

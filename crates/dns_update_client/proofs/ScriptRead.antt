@@ -1,7 +1,7 @@
 -- What came of reading a script to its end.
 use Rattle.std.proofs.Common.{◌≡◌, ◌⊎◌, inl, inr, ℕ, ◌≤◌, List, length, Ok, Err, refl}
 use Rattle.std.specs.Result.{IsErrOf}
-use Rattle.dns_io.specs.Edge.{Rose, WasRead, WasLonger}
+use Rattle.dns_io.specs.Told.{Rose, WasRead, WasLonger}
 use Rattle.dns_edges.specs.Edges.{Around, SourceTold}
 use Rattle.dns_edges.specs.declared.to_end.ReadFault.{ReadFault}
 use Rattle.dns_edges.specs.declared.to_end.ReadFault.TheVariants as read

@@ -1,7 +1,7 @@
 -- What came of sending the messages.
 use Rattle.std.proofs.Common.{ℕ, List, [], ◌∷◌}
 use Rattle.std.specs.List.{AllByRecursion}
-use Rattle.dns_io.specs.Edge.{IsHandedOn}
+use Rattle.dns_io.specs.Told.{IsHandedOn}
 use Rattle.dns_edges.specs.Edges.{Around, SourceTold, SinkTold}
 use Rattle.dns_wire.specs.declared.message.Message.{Message}
 use Rattle.dns_wire.specs.ReadBack.{IsMessage, IsPlain}

@@ -1,6 +1,6 @@
 -- What keeps the program from its work: nothing but a cause that is named above, and want of memory.
 use Rattle.std.specs.Prelude.{◌≡◌, ◌≤◌, ◌⊎◌, ℕ, List, ◌++◌, length, Some, IsSome, Ok}
-use Rattle.dns_io.specs.Edge.{Rose}
+use Rattle.dns_io.specs.Told.{Rose}
 use Rattle.dns_wire.specs.declared.message.Message.{Message}
 use Rattle.dns_update_script.specs.declared.script.Sending.{Sending}
 use Rattle.dns_update_script.specs.Script.{script_of}

@@ -1,7 +1,7 @@
 -- Which counts of faults rose in the top call: those alone of which its status tells.
 use Rattle.std.specs.Prelude.{◌≡◌, ◌⊎◌, ℕ, List}
-use Rattle.dns_io.specs.declared.edge.IoFault.TheVariants.{OutOfMemory}
-use Rattle.dns_io.specs.Edge.{Grows, Rose, BreaksOff}
+use Rattle.dns_io.specs.declared.io_fault.IoFault.TheVariants.{OutOfMemory}
+use Rattle.dns_io.specs.Told.{Grows, Rose, BreaksOff}
 use Rattle.dns_edges.specs.Edges.{Around, SourceTold, SinkOf, SinkTold}
 use Rattle.dns_update_client.specs.declared.status.UpdateStatus.{UpdateStatus}
 use Rattle.dns_update_client.specs.declared.status.UpdateStatus.TheVariants as status

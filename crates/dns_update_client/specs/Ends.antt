@@ -1,6 +1,6 @@
 -- What the program does: the messages of the script are sent, their replies are read, and a line is written for each.
 use Rattle.std.specs.Prelude.{◌≡◌, ℕ, List, true, false}
-use Rattle.dns_io.specs.Edge.{Rose, GrowsByPrefix}
+use Rattle.dns_io.specs.Told.{Rose, GrowsByPrefix}
 use Rattle.dns_words.specs.Writing.{IsUntouched, IsWritten}
 use Rattle.dns_update_client.specs.declared.status.UpdateStatus.{UpdateStatus}
 use Rattle.dns_update_client.specs.declared.status.UpdateStatus.TheVariants as status

@@ -1,7 +1,7 @@
 -- The steps of the program, in the order of the work, and the causes for which each of them is refused.
 use Rattle.std.specs.Prelude.{◌≡◌, ◌≤◌, ℕ, List, length, Some, None, Ok, Err}
 use Rattle.std.specs.List.{AllByRecursion}
-use Rattle.dns_io.specs.Edge.{Rose, WasRead, WasLonger, IsHandedOn}
+use Rattle.dns_io.specs.Told.{Rose, WasRead, WasLonger, IsHandedOn}
 use Rattle.dns_edges.specs.Edges.{Around, SourceTold, SinkTold}
 use Rattle.dns_wire.specs.declared.message.Message.{Message}
 use Rattle.dns_wire.specs.Messages.{MessageAt}

@@ -1,7 +1,7 @@
 -- Writing the output, and how the program ends by it.
 use Rattle.std.specs.Prelude.{◌≡◌, ℕ, List, true, false, Result, Ok, Err}
-use Rattle.dns_io.specs.declared.edge.IoFault.{IoFault}
-use Rattle.dns_io.specs.declared.edge.IoFault.TheVariants.{Failed, OutOfMemory}
+use Rattle.dns_io.specs.declared.io_fault.IoFault.{IoFault}
+use Rattle.dns_io.specs.declared.io_fault.IoFault.TheVariants.{Failed, OutOfMemory}
 use Rattle.dns_edges.specs.Edges.{Around, SinkTold}
 use Rattle.dns_words.specs.Writing.{IsUntouched, WritesWhole}
 use Rattle.dns_update_client.specs.declared.status.UpdateStatus.{UpdateStatus}

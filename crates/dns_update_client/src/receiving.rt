@@ -1,7 +1,7 @@
 //! How one frame is received.
 
 ghost use Rattle.std.specs.Prelude.{◌≡◌, ◌≤◌, ◌<◌, ◌+◌, ◌*◌, ℕ, List, length, get_or, take, drop, IfOk, IfErr, IfSome, IfNone, OnErr};
-ghost use Rattle.dns_io.specs.Edge.{EndsAt, Keeps, Takes};
+ghost use Rattle.dns_io.specs.Told.{EndsAt, Keeps, Takes};
 ghost use Rattle.dns_update_client.specs.Exchange.{IsInputFault, StopsReceiving, TakesUntil};
 ghost use Rattle.dns_update_client.specs.Faults.{HasReadCause};
 ghost use Rattle.dns_update_client.specs.Framed.{frame, GivesUpTo};

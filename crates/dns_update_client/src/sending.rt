@@ -1,7 +1,7 @@
 //! How one message is sent.
 
 ghost use Rattle.std.specs.Prelude.{◌≡◌, ◌≤◌, ◌++◌, ℕ, List, length, IfOk, IfErr, OnOk, OnErr};
-ghost use Rattle.dns_io.specs.Edge.{Grows, IsHandedOn};
+ghost use Rattle.dns_io.specs.Told.{Grows, IsHandedOn};
 ghost use Rattle.dns_edges.specs.Edges.{HasCause};
 ghost use Rattle.dns_update_client.specs.Exchange.{message_frame, IsSendable, StopsSending};
 ghost use Rattle.dns_update_client.specs.Faults.{HasWriteCause};

@@ -1,7 +1,7 @@
 //! Messages are sent one after another, and the reply to each is read before the next one is sent.
 
 ghost use Rattle.std.specs.Prelude.{◌≡◌, ◌≤◌, ◌+◌, ℕ, List, length, IfOk, IfErr, OnOk};
-ghost use Rattle.dns_io.specs.Edge.{Grows, IsHandedOn, Takes};
+ghost use Rattle.dns_io.specs.Told.{Grows, IsHandedOn, Takes};
 ghost use Rattle.dns_update_client.specs.Exchange.{message_frame, Answers, IsSendable, Replies, Stops, StopsAt, TakesUntil};
 ghost use Rattle.dns_update_client.specs.Faults.{HasReadCause, HasWriteCause};
 ghost use Rattle.dns_update_client.specs.Framed.{frame};

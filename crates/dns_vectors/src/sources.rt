@@ -1,7 +1,10 @@
 //! Sources, sinks and clocks: over std's readers and writers, which are interrupted and fail, and in memory.
 
 use crate::words::{number, two};
-use dns_edges::{Clock, FileSource, MemoryClock, MemorySink, MemorySource, read_to_end, Reading, Sink, Source, SystemClock, write_all, Writing};
+use dns_edges::{
+    Clock, FileSource, MemoryClock, MemorySink, MemorySource, Reading, Sink, Source, SystemClock,
+    Writing, read_to_end, write_all,
+};
 use dns_io::Octets;
 use std::alloc::Global;
 use std::cell::Cell;

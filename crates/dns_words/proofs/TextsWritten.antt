@@ -1,8 +1,8 @@
 -- Texts that are written one after another.
 use Rattle.std.proofs.Common.{◌≡◌, ℕ, List, [], ◌++◌, Result, Ok, Err, OnOk, refl, sym, ap, ◌∙◌, append_assoc, append-nil, arith}
-use Rattle.dns_io.specs.declared.edge.IoFault.{IoFault}
-use Rattle.dns_io.specs.declared.edge.IoFault.TheVariants.{OutOfMemory}
-use Rattle.dns_io.specs.Edge.{Keeps, IsHandedOn}
+use Rattle.dns_io.specs.declared.io_fault.IoFault.{IoFault}
+use Rattle.dns_io.specs.declared.io_fault.IoFault.TheVariants.{OutOfMemory}
+use Rattle.dns_io.specs.Told.{Keeps, IsHandedOn}
 use Rattle.dns_io.proofs.ToldContents.{Grows-nothing, Grows-more, Grows-Keeps, Grows-GrowsByPrefix}
 use Rattle.dns_edges.specs.Edges.{Around, HasCause, SinkTold}
 use Rattle.dns_words.specs.Writing.{Writes, WritesWhole}

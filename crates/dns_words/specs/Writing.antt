@@ -1,7 +1,7 @@
 -- What was done to objects that were handed in, and writing texts.
 use Rattle.std.specs.Prelude.{◌≡◌, ℕ, List, Result, OnOk, OnErr}
-use Rattle.dns_io.specs.Edge.{Grows, GrowsByPrefix, IsHandedOn}
-use Rattle.dns_io.specs.declared.edge.IoFault.{IoFault}
+use Rattle.dns_io.specs.Told.{Grows, GrowsByPrefix, IsHandedOn}
+use Rattle.dns_io.specs.declared.io_fault.IoFault.{IoFault}
 use Rattle.dns_edges.specs.Edges.{Around, HasCause, SinkTold}
 
 -- an object was not used: it tells what it told

@@ -1,6 +1,6 @@
 use Rattle.std.proofs.Common.{rules, ◌≡◌, ◌⊎◌, inl, ◌∷◌, [], List, refl, sym, ap, subst, ◌∙◌, length, length-append, arith}
 use Rattle.std.specs.Vec.Iter.{into_iter_items}
-use Rattle.dns_io.specs.Edge.{Grows}
+use Rattle.dns_io.specs.Told.{Grows}
 use Rattle.dns_io.proofs.ToldContents.{Keeps-same, Keeps-more, Grows-nothing, Grows-more}
 use Rattle.dns_command.specs.Hubs.{AnyFault}
 use Rattle.dns_command.proofs.Loops.{one_more, all_done, some_left, rose_more, calm_more}

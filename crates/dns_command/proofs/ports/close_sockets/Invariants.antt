@@ -1,7 +1,7 @@
 -- The first sockets were handed back.
 use Rattle.std.proofs.Common.{◌≡◌, ◌⊎◌, ◌≤◌, ◌+◌, ◌++◌, length}
 use Rattle.std.specs.Vec.Iter.{into_iter_items, into_iter_len}
-use Rattle.dns_io.specs.Edge.{Keeps, Grows, Rose}
+use Rattle.dns_io.specs.Told.{Keeps, Grows, Rose}
 use Rattle.dns_command.specs.Hubs.{AnyFault}
 use Rattle.dns_command.proofs.ports.close_sockets.Given as goal
 

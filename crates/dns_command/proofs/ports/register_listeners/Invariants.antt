@@ -1,7 +1,7 @@
 -- The first listeners are registered, or those from the first that was refused on were handed back.
 use Rattle.std.proofs.Common.{◌≡◌, ◌≤◌, ◌+◌, ◌++◌, false, length}
 use Rattle.std.specs.Vec.Iter.{into_iter_items, into_iter_len}
-use Rattle.dns_io.specs.Edge.{Keeps}
+use Rattle.dns_io.specs.Told.{Keeps}
 use Rattle.dns_edges.specs.Edges.{around}
 use Rattle.dns_command.specs.ServingParts.{IsManned, IsSameServer, IsCalm}
 use Rattle.dns_command.proofs.ports.register_listeners.Given as goal

@@ -1,5 +1,5 @@
 use Rattle.std.proofs.Common.{[], refl, ◌∙◌}
-use Rattle.dns_io.specs.Edge.{begun, went_on}
+use Rattle.dns_io.specs.Told.{begun, went_on}
 use Rattle.dns_io.proofs.ToldContents.{Keeps-same, Keeps-more, Grows-nothing, GrowsByPrefix-more}
 use Rattle.dns_edges.proofs.sink.write_all.Goals as goal
 

@@ -1,5 +1,5 @@
 use Rattle.std.proofs.Common.{◌≡◌, length}
-use Rattle.dns_io.specs.Edge.{Keeps, GrowsByPrefix, WritesUpTo}
+use Rattle.dns_io.specs.Told.{Keeps, GrowsByPrefix, WritesUpTo}
 use Rattle.dns_edges.proofs.sink.write_all.Given as goal
 
 abbrev pub invariant-loop-rest : goal.invariant-loop-rest

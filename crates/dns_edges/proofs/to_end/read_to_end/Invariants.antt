@@ -1,6 +1,6 @@
 -- The bytes so far were taken from the source, and at most one byte more than the bound is read.
 use Rattle.std.proofs.Common.{◌≡◌, ◌+◌, ◌-◌, ◌≤◌, take, vec_len}
-use Rattle.dns_io.specs.Edge.{Takes}
+use Rattle.dns_io.specs.Told.{Takes}
 use Rattle.dns_edges.proofs.to_end.read_to_end.Given as goal
 
 abbrev pub invariant-loop-count : goal.invariant-loop-count

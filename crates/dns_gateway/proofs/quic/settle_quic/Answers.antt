@@ -1,6 +1,6 @@
 -- Receiving leaves the sending half, and counts nothing where it went well; the answer leaves the receiving one.
 use Rattle.std.proofs.Common.{◌≡◌, ◌∙◌, inl, subst, rules, arith}
-use Rattle.dns_io.specs.Edge.{Rose}
+use Rattle.dns_io.specs.Told.{Rose}
 use Rattle.dns_gateway.proofs.quic.settle_quic.Goals as goal
 
 pub returns-in-Ok-clause-cause : goal.returns-in-Ok-clause-cause

@@ -1,5 +1,5 @@
 use Rattle.std.proofs.Common.{◌≡◌, ◌≤◌, ◌-◌, length}
-use Rattle.dns_io.specs.Edge.{Told, Takes}
+use Rattle.dns_io.specs.Told.{Told, Takes}
 use Rattle.dns_net.specs.Bodies.{AsksNext, ReadsUpTo}
 use Rattle.dns_net.proofs.Fetching.{TakesBytes}
 use Rattle.dns_net.proofs.fetch.fetch_body.Given as goal

@@ -1,6 +1,6 @@
 -- Ending the sending half leaves the receiving one, and counts nothing where it went well.
 use Rattle.std.proofs.Common.{◌≡◌, ◌∙◌, inr, subst, rules, arith}
-use Rattle.dns_io.specs.Edge.{Rose}
+use Rattle.dns_io.specs.Told.{Rose}
 use Rattle.dns_quic.proofs.client.await_answer.Goals as goal
 
 pub returns-in-Ok-clause-cause : goal.returns-in-Ok-clause-cause

@@ -1,6 +1,6 @@
 -- Sending leaves the receiving half, and counts nothing where it went well.
 use Rattle.std.proofs.Common.{◌≡◌, ◌∙◌, subst, rules, arith, ◌⊎◌}
-use Rattle.dns_io.specs.Edge.{Rose}
+use Rattle.dns_io.specs.Told.{Rose}
 use Rattle.dns_quic.proofs.client.talk.Goals as goal
 
 pub returns-in-Ok-clause-cause : goal.returns-in-Ok-clause-cause

@@ -1,6 +1,6 @@
 -- The bytes so far were taken from the half, and no call of it failed.
 use Rattle.std.proofs.Common.{◌≡◌, ◌≤◌, ◌-◌, length}
-use Rattle.dns_io.specs.Edge.{Keeps, Takes}
+use Rattle.dns_io.specs.Told.{Keeps, Takes}
 use Rattle.dns_quic.proofs.receiving.read_up_to.Given as goal
 
 abbrev pub invariant-loop-half : goal.invariant-loop-half

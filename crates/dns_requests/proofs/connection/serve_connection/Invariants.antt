@@ -1,7 +1,7 @@
 -- All messages so far were settled, and their replies written.
 use Rattle.std.proofs.Common.{◌≡◌, []}
 use Rattle.dns_io.specs.declared.peer.Protocol.TheVariants.{Tcp}
-use Rattle.dns_io.specs.Edge.{Keeps}
+use Rattle.dns_io.specs.Told.{Keeps}
 use Rattle.dns_requests.proofs.Going.{Going}
 use Rattle.dns_requests.proofs.connection.serve_connection.Given as goal
 

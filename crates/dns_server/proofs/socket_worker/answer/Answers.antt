@@ -1,5 +1,5 @@
 use Rattle.std.proofs.Common.{Some, None, Bool, if◌then◌else◌, sym, subst, OnOk}
-use Rattle.dns_io.specs.Edge.{Grows}
+use Rattle.dns_io.specs.Told.{Grows}
 use Rattle.dns_server.specs.Sockets.{answer_to}
 use Rattle.dns_server.proofs.socket_worker.answer.Goals as goal
 

@@ -1,7 +1,7 @@
 -- What became of a message.
 use Rattle.std.proofs.Common.{subst, Option, List, ℕ}
 use Rattle.std.specs.Prelude.{OnOk}
-use Rattle.dns_io.specs.Edge.{Grows}
+use Rattle.dns_io.specs.Told.{Grows}
 use Rattle.dns_book.proofs.IntoBuffer.{plain_reply, is_replied}
 use Rattle.dns_server.specs.Sockets.{answer_to}
 use Rattle.dns_server.proofs.Handling.{answered}

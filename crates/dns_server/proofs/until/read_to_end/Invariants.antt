@@ -1,6 +1,6 @@
 -- What was read so far.
 use Rattle.std.proofs.Common.{◌≡◌, ℕ, List}
-use Rattle.dns_io.specs.Edge.{Takes}
+use Rattle.dns_io.specs.Told.{Takes}
 use Rattle.dns_server.proofs.until.read_to_end.Given as goal
 
 abbrev pub invariant-loop : goal.invariant-loop

@@ -1,6 +1,6 @@
 -- The first bytes of the room were taken from the input.
 use Rattle.std.proofs.Common.{◌≡◌, ◌≤◌, ◌-◌, length, take}
-use Rattle.dns_io.specs.Edge.{Takes}
+use Rattle.dns_io.specs.Told.{Takes}
 use Rattle.dns_update_client.proofs.receiving.fill.Given as goal
 
 abbrev pub invariant-loop-filled : goal.invariant-loop-filled

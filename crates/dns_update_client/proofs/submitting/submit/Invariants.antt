@@ -1,6 +1,6 @@
 -- All messages so far were answered.
 use Rattle.std.proofs.Common.{◌≡◌, length, take}
-use Rattle.dns_io.specs.Edge.{IsHandedOn}
+use Rattle.dns_io.specs.Told.{IsHandedOn}
 use Rattle.dns_update_client.specs.Exchange.{Answers}
 use Rattle.dns_update_client.proofs.submitting.submit.Given as goal
 

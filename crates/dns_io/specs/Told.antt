@@ -1,8 +1,8 @@
--- What a call of a source or a sink does to what it tells of itself. An object that tells its content before a call may
+-- What a call of an object does to what it tells of itself. An object that tells its content before a call may
 -- stop telling it there, and one that does not never begins; so each fact speaks of what is told after the call.
-use Rattle.std.specs.Prelude.{◌≡◌, ◌↔◌, ℕ, ◌+◌, ◌-◌, ◌^◌, ◌≤◌, ◌<◌, min, List, [], ◌++◌, length, drop, Option, Some, None, Result, Ok, Err, IsErrOf}
-use Rattle.dns_io.specs.declared.edge.IoFault.{IoFault}
-use Rattle.dns_io.specs.declared.edge.IoFault.TheVariants.{Failed, OutOfMemory}
+use Rattle.std.specs.Prelude.{◌≡◌, ◌↔◌, ℕ, ◌+◌, ◌-◌, ◌^◌, ◌≤◌, ◌<◌, min, List, [], ◌++◌, length, drop, Option, Some, None, Result, Ok, Err}
+use Rattle.dns_io.specs.declared.io_fault.IoFault.{IoFault}
+use Rattle.dns_io.specs.declared.io_fault.IoFault.TheVariants.{Failed, OutOfMemory}
 
 -- one more, up to the greatest number of 64 bits
 abbrev pub one_more : ℕ → ℕ
@@ -11,11 +11,6 @@ one_more count = min (count + 1) (2 ^ 64 - 1)
 -- a count of faults rose, or stands at its last value
 abbrev pub Rose : ℕ → ℕ → Type 0
 Rose before now = one_more before ≤ now
-
--- a count of faults did not fall, and `Failed` was answered only where it rose
-pub record HasCause {T : Type 0} (before now : ℕ) (result : Result T IoFault) : Type 0 where
-  pub later : before ≤ now
-  pub failed : IsErrOf result Failed → Rose before now
 
 -- the count of faults after a call, where a failed call is counted once, and no other
 abbrev pub counted : {T : Type 0} → ℕ → Result T IoFault → ℕ

@@ -1,5 +1,5 @@
 use Rattle.dns_io.proofs.ToldContents.{Keeps-more, Takes-more, Keeps-Takes, Takes-Keeps, Grows-more, Keeps-Grows, Grows-Keeps, Grows-GrowsByPrefix}
-use Rattle.dns_io.proofs.edge.told_contents.Goals as goal
+use Rattle.dns_io.proofs.told.told_contents.Goals as goal
 
 pub returns : goal.returns
 returns c = record {
