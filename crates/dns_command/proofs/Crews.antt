@@ -1,5 +1,5 @@
 -- Workers that are taken on, and ports that are opened and handed back.
-use Rattle.std.proofs.Common.{◌≡◌, ℕ, suc, ◌+◌, ◌≤◌, ◌<◌, List, [], ◌∷◌, ◌++◌, inl, inr, length, Option, Some, None, Ok, refl, sym, ap, subst, ◌∙◌, append-nil, append_assoc, length-append, arith}
+use Rattle.std.proofs.Common.{◌≡◌, ◌⊎◌, ℕ, suc, ◌+◌, ◌≤◌, ◌<◌, List, [], ◌∷◌, ◌++◌, inl, inr, length, Option, Some, None, Ok, refl, sym, ap, subst, ◌∙◌, append-nil, append_assoc, length-append, arith}
 use Rattle.std.specs.List.{AllByRecursion}
 use Rattle.dns_io.specs.Edge.{Rose, Keeps, Grows}
 use Rattle.dns_io.proofs.ToldContents.{Keeps-more, Grows-more}
@@ -146,3 +146,13 @@ OpensAll-more a b c xs ys p q = record {
   listeners = Keeps-more a.closed_tcp b.closed_tcp c.closed_tcp p.listeners q.listeners;
   faults = q.faults ∙ p.faults;
 }
+
+-- counts of the sockets' hand-back and of the listeners' together
+pub all_raised : {X Y : Type 0} (a b c : ℕ) → (X → Rose a b) → (Y → Rose b c) → a ≤ b → b ≤ c → X ⊎ Y → Rose a c
+all_raised a b c first second h k (inl x) = let r = first x in omega (arith, r, k)
+all_raised a b c first second h k (inr y) = let r = second y in omega (arith, r, h)
+
+pub all_calm : {X Y : Type 0} (a b c : ℕ) → (b ≡ a) ⊎ X → (c ≡ b) ⊎ Y → (c ≡ a) ⊎ (X ⊎ Y)
+all_calm a b c (inr x) second = inr (inl x)
+all_calm a b c (inl p) (inl q) = inl (q ∙ p)
+all_calm a b c (inl p) (inr y) = inr (inr y)

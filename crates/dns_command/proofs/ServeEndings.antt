@@ -157,7 +157,7 @@ module _ {K U T R W C : Type 0} (m : Meanings K U T R W C) (w : World) (hub : Ar
     zone = elim so.zone [ inl still ↦ inl still | inr p ↦ inr (p.0, subst (λ (x : Status). ComesOf w x t) p.1 (comes with_line)) ];
     events = elim so.events [ inl still ↦ inl (inl still) | inr served ↦ inr served ];
     output = output;
-    hub = elim so.ports [
+    ports = elim so.ports [
       | inl calm ↦ inl calm
       | inr more ↦ inr (elim more [ inl p ↦ inl (p.0, subst (λ (x : Status). ComesOf w x t) p.1 (comes with_line)) | inr taken ↦ inr taken ])
     ];
@@ -172,7 +172,7 @@ module _ {K U T R W C : Type 0} (m : Meanings K U T R W C) (w : World) (hub : Ar
         zone = elim so.zone [ inl still ↦ inl still | inr p ↦ absurd (let x = p.1 in cc) ];
         events = elim so.events [ inl still ↦ inl (inl still) | inr served ↦ inr served ];
         output = output;
-        hub = elim so.ports [ inl calm ↦ inl calm | inr more ↦ elim more [ inl p ↦ absurd (let x = p.1 in cc) | inr taken ↦ inr (inr taken) ] ];
+        ports = elim so.ports [ inl calm ↦ inl calm | inr more ↦ elim more [ inl p ↦ absurd (let x = p.1 in cc) | inr taken ↦ inr (inr taken) ] ];
       }
 
   pub counts_serving : (s : Status) → Ending s → RunCounts m w hub s
@@ -210,7 +210,7 @@ module _ {K U T R W C : Type 0} (m : Meanings K U T R W C) (words : List (List �
       (at_opening service opening legal
       (Finds-on b (m.rows keeper) (m.rows left) fb (m.faults keeper) (m.faults left) z service.options.origin opening found (NeverBegins-told _ (m.rows keeper) (m.rows left) kept))
       (OpensNot-earlier b (m.rows keeper) (m.rows left) fb (m.faults keeper) (m.faults left) service.options.origin opening s not k later)
-      (Keeps-more b (m.rows keeper) (m.rows left) k kept) tt)
+      (Keeps-more b (m.rows keeper) (m.rows left) k kept) refl)
       unused untouched
 
   -- everything was served

@@ -58,7 +58,8 @@ pub fn run_list<Z: Source, E: Source, W: Sink, K: Keeper, C: Clock>(
     out: &mut W,
 ) -> Ended<K>
     ensures keeper { IsSome result.keeper }
-    ensures ends { IfSome result.keeper (λ left. (moment : Option ℕ) × IsAsked C.clock clock.old clock.new moment × ListTells K.rows K.faults (record {
+    ensures ends { IfSome result.keeper (λ left. (moment : Option ℕ) × IsAsked C.clock clock.old clock.new moment
+        × ListTells K.rows K.faults (record {
       words = map string_bytes words.now.items;
       zone = around Z.source.told zone.old zone.new;
       events = around E.source.told events.old events.new;
