@@ -5,7 +5,7 @@ use Rattle.dns_io.specs.Edge.{Rose, Keeps, Grows}
 use Rattle.dns_io.proofs.ToldContents.{Keeps-more, Grows-more}
 use Rattle.dns_edges.specs.Edges.{Around}
 use Rattle.dns_ports.specs.declared.hub.Opening.{Opening}
-use Rattle.dns_ports.specs.Ports.{UdpTold, TcpTold, HubTold, IsFreshSocket, IsFreshListener}
+use Rattle.dns_ports.specs.Ports.{UdpTold, TcpTold, HubTold, IsFreshSocket, IsFreshListener, ClosesSocket}
 use Rattle.dns_ticket_lock.specs.declared.view.Terms.{Terms}
 use Rattle.dns_ticket_lock.specs.Rule.{fresh}
 use Rattle.dns_ticket_lock.specs.Passes.{BookSeen, PassSeen, AreNew}
@@ -145,6 +145,18 @@ OpensAll-more a b c xs ys p q = record {
   sockets = Keeps-more a.closed_udp b.closed_udp c.closed_udp p.sockets q.sockets;
   listeners = Keeps-more a.closed_tcp b.closed_tcp c.closed_tcp p.listeners q.listeners;
   faults = q.faults ∙ p.faults;
+}
+
+-- a socket was opened, and taken back before it was used
+pub Registers-closed : {U T : Type 0} (a b c : HubTold U T) (s t : ServerSeen U T) (socket : U) (faults : ℕ) → IsSameServer s t → t ≡ s → Keeps a.closed_udp b.closed_udp → Keeps a.closed_tcp b.closed_tcp
+    → b.lent_udp ≡ a.lent_udp + 1 → b.lent_tcp ≡ a.lent_tcp + 0 → a.faults ≤ b.faults → ClosesSocket b c socket faults → Registers (over a c) s t
+Registers-closed {U} {T} a b c s t socket faults same is udp tcp udp_lent tcp_lent later closed = record {
+  same = same;
+  sockets = let x = ap (λ (r : ServerSeen U T). length r.sockets) is in let y = closed.udp_lent in omega (arith, x, y, udp_lent);
+  listeners = let x = ap (λ (r : ServerSeen U T). length r.listeners) is in let y = closed.tcp_lent in omega (arith, x, y, tcp_lent);
+  sockets_back = EndsWith-more a.closed_udp b.closed_udp c.closed_udp (EndsWith-kept a.closed_udp b.closed_udp udp) (EndsWith-grown b.closed_udp c.closed_udp (socket ∷ []) closed.grows);
+  listeners_back = EndsWith-kept a.closed_tcp c.closed_tcp (Keeps-more a.closed_tcp b.closed_tcp c.closed_tcp tcp closed.tcp_kept);
+  later = let x = closed.cause.later in omega (arith, later, x);
 }
 
 -- counts of the sockets' hand-back and of the listeners' together

@@ -64,13 +64,13 @@ where
     ensures keeper { IsSome result.keeper }
     ensures ends { IfSome result.keeper (λ left. (moment : Option ℕ) × IsAsked C.clock clock.old clock.new moment × RunTells
         (meanings K.rows K.faults H.Udp.told (listener_of H.Tcp.told H.Tcp.In.source H.Tcp.Out.sink H.Tcp.Time.clock)) (record {
-      words = map string_bytes words.now.items;
-      zone = around Z.source.told zone.old zone.new;
-      events = around E.source.told events.old events.new;
-      journal = around (journal_told K.rows K.faults) keeper left;
-      output = around W.sink.told out.old out.new;
-      moment = moment;
-    }) (around H.told hub.old hub.new) result.status) }
+          words = map string_bytes words.now.items;
+          zone = around Z.source.told zone.old zone.new;
+          events = around E.source.told events.old events.new;
+          journal = around (journal_told K.rows K.faults) keeper left;
+          output = around W.sink.told out.old out.new;
+          moment = moment;
+        }) (around H.told hub.old hub.new) result.status) }
     ensures back { HasAllBack (around H.told hub.old hub.new) }
     ensures later_zone { (Z.source.told zone.old).faults ≤ (Z.source.told zone.new).faults }
     ensures later_events { (E.source.told events.old).faults ≤ (E.source.told events.new).faults }
@@ -120,13 +120,13 @@ where
     ensures ends { IfSome result.keeper (λ left. (moment : Option ℕ) × IsAsked C.clock clock.old clock.new moment × ((words : List (List ℕ))
         → service_of words ≡ Some service → ServeEnds
         (meanings K.rows K.faults H.Udp.told (listener_of H.Tcp.told H.Tcp.In.source H.Tcp.Out.sink H.Tcp.Time.clock)) (record {
-      words = words;
-      zone = around Z.source.told zone.old zone.new;
-      events = around E.source.told until.old until.new;
-      journal = around (journal_told K.rows K.faults) keeper left;
-      output = around W.sink.told out.old out.new;
-      moment = moment;
-    }) (around H.told hub.old hub.new) result.status)) }
+          words = words;
+          zone = around Z.source.told zone.old zone.new;
+          events = around E.source.told until.old until.new;
+          journal = around (journal_told K.rows K.faults) keeper left;
+          output = around W.sink.told out.old out.new;
+          moment = moment;
+        }) (around H.told hub.old hub.new) result.status)) }
     ensures back { HasAllBack (around H.told hub.old hub.new) }
     ensures later_zone { (Z.source.told zone.old).faults ≤ (Z.source.told zone.new).faults }
     ensures later_events { (E.source.told until.old).faults ≤ (E.source.told until.new).faults }
