@@ -1,11 +1,11 @@
 -- Workers that are taken on, and ports that are opened and handed back.
-use Rattle.std.proofs.Common.{◌≡◌, ◌⊎◌, ℕ, suc, ◌+◌, ◌≤◌, ◌<◌, List, [], ◌∷◌, ◌++◌, inl, inr, length, Option, Some, None, Ok, refl, sym, ap, subst, ◌∙◌, append-nil, append_assoc, length-append, arith}
+use Rattle.std.proofs.Common.{◌≡◌, ◌⊎◌, ℕ, suc, ◌+◌, ◌≤◌, ◌<◌, List, [], ◌∷◌, ◌++◌, inl, inr, length, Option, Some, None, Result, Ok, Err, OnOk, refl, sym, ap, subst, ◌∙◌, append-nil, append_assoc, length-append, arith}
 use Rattle.std.specs.List.{AllByRecursion}
 use Rattle.dns_io.specs.Edge.{Rose, Keeps, Grows}
-use Rattle.dns_io.proofs.ToldContents.{Keeps-more, Grows-more}
+use Rattle.dns_io.proofs.ToldContents.{Keeps-same, Keeps-more, Grows-more}
 use Rattle.dns_edges.specs.Edges.{Around}
 use Rattle.dns_ports.specs.declared.hub.Opening.{Opening}
-use Rattle.dns_ports.specs.Ports.{UdpTold, TcpTold, HubTold, IsFreshSocket, IsFreshListener, ClosesSocket}
+use Rattle.dns_ports.specs.Ports.{UdpTold, TcpTold, HubTold, IsFreshSocket, IsFreshListener, ClosesSocket, ClosesListener}
 use Rattle.dns_ticket_lock.specs.declared.view.Terms.{Terms}
 use Rattle.dns_ticket_lock.specs.Rule.{fresh}
 use Rattle.dns_ticket_lock.specs.Passes.{BookSeen, PassSeen, AreNew}
@@ -13,7 +13,7 @@ use Rattle.dns_server.specs.declared.worker.Worker.{Worker}
 use Rattle.dns_server.specs.Servers.{ServerSeen, TakesOn, Matches, MatchesOnce, RoseAt, their_ports}
 use Rattle.dns_command.specs.Hubs.{EndsWith, AnyFault}
 use Rattle.dns_command.specs.Serving.{IsNewWorker}
-use Rattle.dns_command.specs.ServingParts.{IsManned, IsSameServer, Registers, OpensAll}
+use Rattle.dns_command.specs.ServingParts.{IsManned, IsSameServer, Registers, OpensAll, IsCalm}
 
 -- ---- workers
 
@@ -144,6 +144,38 @@ OpensAll-more a b c xs ys p q = record {
   opened = Grows-more a.openings b.openings c.openings xs ys p.opened q.opened;
   sockets = Keeps-more a.closed_udp b.closed_udp c.closed_udp p.sockets q.sockets;
   listeners = Keeps-more a.closed_tcp b.closed_tcp c.closed_tcp p.listeners q.listeners;
+  faults = q.faults ∙ p.faults;
+}
+
+pub OpensAll-on : {U T E : Type 0} (a b c : HubTold U T) (xs ys : List Opening) (r : Result (Unit {0}) E) → OpensAll (over a b) xs → OnOk r (OpensAll (over b c) ys) → OnOk r (OpensAll (over a c) (xs ++ ys))
+OpensAll-on a b c xs ys (Ok done) p q = OpensAll-more a b c xs ys p q
+OpensAll-on a b c xs ys (Err fault) p q = tt
+
+-- a listener without a fault was taken back
+pub IsCalm-closed : {U T : Type 0} (a b : HubTold U T) (listener : T) (faults : ℕ) → faults ≡ 0 → ClosesListener a b listener faults → IsCalm (over a b)
+IsCalm-closed a b listener faults none closed = record {
+  opened = closed.kept;
+  sockets = closed.udp_kept;
+  listeners = EndsWith-grown a.closed_tcp b.closed_tcp (listener ∷ []) closed.grows;
+  sockets_out = closed.udp_lent;
+  faults = closed.cause.calm none;
+}
+
+pub IsCalm-nothing : {U T : Type 0} (a : HubTold U T) → IsCalm (over a a)
+IsCalm-nothing a = record {
+  opened = Keeps-same a.openings;
+  sockets = Keeps-same a.closed_udp;
+  listeners = EndsWith-kept a.closed_tcp a.closed_tcp (Keeps-same a.closed_tcp);
+  sockets_out = refl;
+  faults = refl;
+}
+
+pub IsCalm-more : {U T : Type 0} (a b c : HubTold U T) → IsCalm (over a b) → IsCalm (over b c) → IsCalm (over a c)
+IsCalm-more a b c p q = record {
+  opened = Keeps-more a.openings b.openings c.openings p.opened q.opened;
+  sockets = Keeps-more a.closed_udp b.closed_udp c.closed_udp p.sockets q.sockets;
+  listeners = EndsWith-more a.closed_tcp b.closed_tcp c.closed_tcp p.listeners q.listeners;
+  sockets_out = q.sockets_out ∙ p.sockets_out;
   faults = q.faults ∙ p.faults;
 }
 
