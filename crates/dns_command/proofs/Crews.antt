@@ -1,11 +1,16 @@
 -- Workers that are taken on, and ports that are opened and handed back.
-use Rattle.std.proofs.Common.{◌≡◌, ℕ, suc, ◌+◌, ◌≤◌, ◌<◌, List, [], ◌∷◌, ◌++◌, inl, inr, length, Option, Some, None, Ok, refl, sym, ap, subst, ◌∙◌, append-nil, append_assoc, length-append, arith}
+use Rattle.std.proofs.Common.{◌≡◌, ◌⊎◌, ℕ, suc, ◌+◌, ◌≤◌, ◌<◌, List, [], ◌∷◌, ◌++◌, inl, inr, length, Option, Some, None, Result, Ok, Err, OnOk, refl, sym, ap, subst, ◌∙◌, append-nil, append_assoc, length-append, arith}
 use Rattle.std.specs.List.{AllByRecursion}
+<<<<<<< HEAD
 use Rattle.dns_io.specs.Told.{Rose, Keeps, Grows}
 use Rattle.dns_io.proofs.ToldContents.{Keeps-more, Grows-more}
+=======
+use Rattle.dns_io.specs.Told.{Rose, Keeps, Grows}
+use Rattle.dns_io.proofs.ToldContents.{Keeps-same, Keeps-more, Grows-more}
+>>>>>>> 737d4e11679030941fca1ebb4ef8d35517000543
 use Rattle.dns_edges.specs.Edges.{Around}
 use Rattle.dns_ports.specs.declared.hub.Opening.{Opening}
-use Rattle.dns_ports.specs.Ports.{UdpTold, TcpTold, HubTold, IsFreshSocket, IsFreshListener}
+use Rattle.dns_ports.specs.Ports.{UdpTold, TcpTold, HubTold, IsFreshSocket, IsFreshListener, ClosesSocket, ClosesListener}
 use Rattle.dns_ticket_lock.specs.declared.view.Terms.{Terms}
 use Rattle.dns_ticket_lock.specs.Rule.{fresh}
 use Rattle.dns_ticket_lock.specs.Passes.{BookSeen, PassSeen, AreNew}
@@ -13,7 +18,7 @@ use Rattle.dns_server.specs.declared.worker.Worker.{Worker}
 use Rattle.dns_server.specs.Servers.{ServerSeen, TakesOn, Matches, MatchesOnce, RoseAt, their_ports}
 use Rattle.dns_command.specs.Hubs.{EndsWith, AnyFault}
 use Rattle.dns_command.specs.Serving.{IsNewWorker}
-use Rattle.dns_command.specs.ServingParts.{IsManned, IsSameServer, Registers, OpensAll}
+use Rattle.dns_command.specs.ServingParts.{IsManned, IsSameServer, Registers, OpensAll, IsCalm}
 
 -- ---- workers
 
@@ -146,3 +151,57 @@ OpensAll-more a b c xs ys p q = record {
   listeners = Keeps-more a.closed_tcp b.closed_tcp c.closed_tcp p.listeners q.listeners;
   faults = q.faults ∙ p.faults;
 }
+
+pub OpensAll-on : {U T E : Type 0} (a b c : HubTold U T) (xs ys : List Opening) (r : Result (Unit {0}) E) → OpensAll (over a b) xs → OnOk r (OpensAll (over b c) ys) → OnOk r (OpensAll (over a c) (xs ++ ys))
+OpensAll-on a b c xs ys (Ok done) p q = OpensAll-more a b c xs ys p q
+OpensAll-on a b c xs ys (Err fault) p q = tt
+
+-- a listener without a fault was taken back
+pub IsCalm-closed : {U T : Type 0} (a b : HubTold U T) (listener : T) (faults : ℕ) → faults ≡ 0 → ClosesListener a b listener faults → IsCalm (over a b)
+IsCalm-closed a b listener faults none closed = record {
+  opened = closed.kept;
+  sockets = closed.udp_kept;
+  listeners = EndsWith-grown a.closed_tcp b.closed_tcp (listener ∷ []) closed.grows;
+  sockets_out = closed.udp_lent;
+  faults = closed.cause.calm none;
+}
+
+pub IsCalm-nothing : {U T : Type 0} (a : HubTold U T) → IsCalm (over a a)
+IsCalm-nothing a = record {
+  opened = Keeps-same a.openings;
+  sockets = Keeps-same a.closed_udp;
+  listeners = EndsWith-kept a.closed_tcp a.closed_tcp (Keeps-same a.closed_tcp);
+  sockets_out = refl;
+  faults = refl;
+}
+
+pub IsCalm-more : {U T : Type 0} (a b c : HubTold U T) → IsCalm (over a b) → IsCalm (over b c) → IsCalm (over a c)
+IsCalm-more a b c p q = record {
+  opened = Keeps-more a.openings b.openings c.openings p.opened q.opened;
+  sockets = Keeps-more a.closed_udp b.closed_udp c.closed_udp p.sockets q.sockets;
+  listeners = EndsWith-more a.closed_tcp b.closed_tcp c.closed_tcp p.listeners q.listeners;
+  sockets_out = q.sockets_out ∙ p.sockets_out;
+  faults = q.faults ∙ p.faults;
+}
+
+-- a socket was opened, and taken back before it was used
+pub Registers-closed : {U T : Type 0} (a b c : HubTold U T) (s t : ServerSeen U T) (socket : U) (faults : ℕ) → IsSameServer s t → t ≡ s → Keeps a.closed_udp b.closed_udp → Keeps a.closed_tcp b.closed_tcp
+    → b.lent_udp ≡ a.lent_udp + 1 → b.lent_tcp ≡ a.lent_tcp + 0 → a.faults ≤ b.faults → ClosesSocket b c socket faults → Registers (over a c) s t
+Registers-closed {U} {T} a b c s t socket faults same is udp tcp udp_lent tcp_lent later closed = record {
+  same = same;
+  sockets = let x = ap (λ (r : ServerSeen U T). length r.sockets) is in let y = closed.udp_lent in omega (arith, x, y, udp_lent);
+  listeners = let x = ap (λ (r : ServerSeen U T). length r.listeners) is in let y = closed.tcp_lent in omega (arith, x, y, tcp_lent);
+  sockets_back = EndsWith-more a.closed_udp b.closed_udp c.closed_udp (EndsWith-kept a.closed_udp b.closed_udp udp) (EndsWith-grown b.closed_udp c.closed_udp (socket ∷ []) closed.grows);
+  listeners_back = EndsWith-kept a.closed_tcp c.closed_tcp (Keeps-more a.closed_tcp b.closed_tcp c.closed_tcp tcp closed.tcp_kept);
+  later = let x = closed.cause.later in omega (arith, later, x);
+}
+
+-- counts of the sockets' hand-back and of the listeners' together
+pub all_raised : {X Y : Type 0} (a b c : ℕ) → (X → Rose a b) → (Y → Rose b c) → a ≤ b → b ≤ c → X ⊎ Y → Rose a c
+all_raised a b c first second h k (inl x) = let r = first x in omega (arith, r, k)
+all_raised a b c first second h k (inr y) = let r = second y in omega (arith, r, h)
+
+pub all_calm : {X Y : Type 0} (a b c : ℕ) → (b ≡ a) ⊎ X → (c ≡ b) ⊎ Y → (c ≡ a) ⊎ (X ⊎ Y)
+all_calm a b c (inr x) second = inr (inl x)
+all_calm a b c (inl p) (inl q) = inl (q ∙ p)
+all_calm a b c (inl p) (inr y) = inr (inr y)

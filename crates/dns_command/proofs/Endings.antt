@@ -224,7 +224,7 @@ module _ {K : Type 0} (rows : K → Option (List Row)) (faults : K → ℕ) (wor
   unopened_refused s t n keeps r = refused rows faults world s t (record {
     cause = at_opening inputs.options inputs.opening inputs.events.items p.legal
         (FindsBy-on b (rows keeper) (rows left) fb (faults keeper) (faults left) z inputs.options inputs.opening p.found (NeverBegins-told _ (rows keeper) (rows left) keeps)) p.heard
-        (OpensNot-earlier b (rows keeper) (rows left) fb (faults keeper) (faults left) inputs.options.origin inputs.opening s n k later) tt;
+        (OpensNot-earlier b (rows keeper) (rows left) fb (faults keeper) (faults left) inputs.options.origin inputs.opening s n k later) refl;
     kept = Keeps-more b (rows keeper) (rows left) k keeps;
   }) r
 

@@ -33,7 +33,7 @@ module _ {K U T R W C : Type 0} (m : Meanings K U T R W C) (w : World) (hub : Ar
       zone = tells.counts.zone;
       events = inl tells.counts.events;
       output = tells.counts.output;
-      hub = inl (ap (λ (h : HubTold U T). h.faults) unused);
+      ports = inl (ap (λ (h : HubTold U T). h.faults) unused);
     };
   }
 

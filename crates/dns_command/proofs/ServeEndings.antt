@@ -28,7 +28,7 @@ use Rattle.dns_command.specs.Writing.{after_writing, EndsWriting, EndsRefusing, 
 use Rattle.dns_command.specs.Parts.{OpensBook}
 use Rattle.dns_command.specs.Completeness.{HasZone}
 use Rattle.dns_server.specs.Servers.{their_ports}
-use Rattle.dns_command.specs.Serving.{IsPortCause, MayBeRead, BeginsServing, Serves, StopsServing, IsUnserved, without_memory, at_finding, at_opening, at_sharing, RefusesServing, unserved, stopped}
+use Rattle.dns_command.specs.Serving.{IsPortCause, MayBeRead, opening_journal, BeginsServing, Serves, StopsServing, IsUnserved, without_memory, at_finding, at_opening, at_sharing, RefusesServing, unserved, stopped}
 use Rattle.dns_command.specs.ServingParts.{ServesBook, ServesNot, unshared, closed, ServesNone, not_opened, not_served}
 use Rattle.dns_command.specs.ServeEnds.{IsCutServing, in_refusal, in_closing, ServeEnds, with_closing, with_refusal, with_write_fault, cut_for_memory, refused_for_memory, IsSoundServing}
 use Rattle.dns_command.specs.Counts.{ComesOf, with_line, cut_by_fault, cut_for_memory as cut_for_want, CountsWriting, HasServed, TakesSomeFaulty, RunCounts}
@@ -124,7 +124,7 @@ module _ {K U T R W C : Type 0} (m : Meanings K U T R W C) (w : World) (hub : Ar
   zone_unserved s (without_memory a b c) = inl (untouched w.zone a)
   zone_unserved s (at_finding service legal finds kept unasked) = of_unfound w.journal w.zone service.options.origin s finds
   zone_unserved s (at_opening service opening legal found opens kept asked) = inl (of_found w.journal w.zone service.options.origin opening found)
-  zone_unserved s (at_sharing service first begun is) = inl (of_found _ w.zone service.options.origin begun.opening begun.found)
+  zone_unserved s (at_sharing service first begun is) = inl (of_found (opening_journal m.rows m.faults w first) w.zone service.options.origin begun.opening begun.found)
 
   unused : IsUntouched hub → hub.after.faults ≡ hub.before.faults
   unused same = ap (λ (h : HubTold U T). h.faults) same
@@ -139,14 +139,14 @@ module _ {K U T R W C : Type 0} (m : Meanings K U T R W C) (w : World) (hub : Ar
   refusing_so_far : (s : Status) → Refusing s → SoFar s
   refusing_so_far s (unserved u same still) = record { zone = zone_unserved s u; events = inl (untouched w.events still); ports = inl (unused same) }
   refusing_so_far s (stopped r) = record {
-    zone = inl (of_found _ w.zone r.service.options.origin r.begun.opening r.begun.found);
+    zone = inl (of_found (opening_journal m.rows m.faults w r.first) w.zone r.service.options.origin r.begun.opening r.begun.found);
     events = read_stopped (s, r);
     ports = of_cause (their_ports r.crew.sockets) (their_ports r.crew.listeners) s r.cause;
   }
 
   served_so_far : (text : List ℕ) → Serves m w hub text → SoFar status.Ok
   served_so_far text a = record {
-    zone = inl (of_found _ w.zone a.service.options.origin a.begun.opening a.begun.found);
+    zone = inl (of_found (opening_journal m.rows m.faults w a.first) w.zone a.service.options.origin a.begun.opening a.begun.found);
     events = elim a.stopped [ inl end ↦ inl end.1 | inr rose ↦ inr (record { service = a.service; legal = a.begun.legal; opened = a.ports.opened }) ];
     ports = elim a.ports.counted [ inl calm ↦ inl calm | inr taken ↦ inr (inr (record { sockets = their_ports a.crew.sockets; listeners = their_ports a.crew.listeners; taken = taken })) ];
   }
@@ -157,7 +157,7 @@ module _ {K U T R W C : Type 0} (m : Meanings K U T R W C) (w : World) (hub : Ar
     zone = elim so.zone [ inl still ↦ inl still | inr p ↦ inr (p.0, subst (λ (x : Status). ComesOf w x t) p.1 (comes with_line)) ];
     events = elim so.events [ inl still ↦ inl (inl still) | inr served ↦ inr served ];
     output = output;
-    hub = elim so.ports [
+    ports = elim so.ports [
       | inl calm ↦ inl calm
       | inr more ↦ inr (elim more [ inl p ↦ inl (p.0, subst (λ (x : Status). ComesOf w x t) p.1 (comes with_line)) | inr taken ↦ inr taken ])
     ];
@@ -172,7 +172,7 @@ module _ {K U T R W C : Type 0} (m : Meanings K U T R W C) (w : World) (hub : Ar
         zone = elim so.zone [ inl still ↦ inl still | inr p ↦ absurd (let x = p.1 in cc) ];
         events = elim so.events [ inl still ↦ inl (inl still) | inr served ↦ inr served ];
         output = output;
-        hub = elim so.ports [ inl calm ↦ inl calm | inr more ↦ elim more [ inl p ↦ absurd (let x = p.1 in cc) | inr taken ↦ inr (inr taken) ] ];
+        ports = elim so.ports [ inl calm ↦ inl calm | inr more ↦ elim more [ inl p ↦ absurd (let x = p.1 in cc) | inr taken ↦ inr (inr taken) ] ];
       }
 
   pub counts_serving : (s : Status) → Ending s → RunCounts m w hub s
@@ -210,7 +210,7 @@ module _ {K U T R W C : Type 0} (m : Meanings K U T R W C) (words : List (List �
       (at_opening service opening legal
       (Finds-on b (m.rows keeper) (m.rows left) fb (m.faults keeper) (m.faults left) z service.options.origin opening found (NeverBegins-told _ (m.rows keeper) (m.rows left) kept))
       (OpensNot-earlier b (m.rows keeper) (m.rows left) fb (m.faults keeper) (m.faults left) service.options.origin opening s not k later)
-      (Keeps-more b (m.rows keeper) (m.rows left) k kept) tt)
+      (Keeps-more b (m.rows keeper) (m.rows left) k kept) refl)
       unused untouched
 
   -- everything was served

@@ -10,9 +10,9 @@ use Rattle.dns_command.specs.Status.{read_status}
 use Rattle.dns_command.specs.Steps.{zone_bound, event_bound, ReadsNoZone, zone_unread, zone_too_long, zone_without_memory, LoadsNoEvents, events_unread, events_too_long, events_without_memory}
 
 -- the count of a source that did not fail stood still
-pub still_read : {T : Type 0} (source : Around SourceTold) (value : T) → IsErrOf (Ok value) read.Failed ⊎ IsStill source → IsStill source
-still_read source value (inl failed) = absurd cc
-still_read source value (inr still) = still
+pub still_read : {T : Type 0} (before now : ℕ) (value : T) → IsErrOf (Ok value) read.Failed ⊎ (now ≡ before) → now ≡ before
+still_read before now value (inl failed) = absurd cc
+still_read before now value (inr still) = still
 
 still_unless : {T : Type 0} (source : Around SourceTold) (fault : ReadFault) → (fault ≡ read.Failed → ⊥) → IsErrOf {T = T} (Err fault) read.Failed ⊎ IsStill source → IsStill source
 still_unless source fault other (inl failed) = absurd (other (let f = failed in cc))

@@ -52,4 +52,4 @@ pub record RunCounts {K U T R W C : Type 0} (m : Meanings K U T R W C) (w : Worl
   pub zone : CountsReading w w.zone s
   pub events : CountsReading w w.events s ⊎ HasServed w hub
   pub output : CountsWriting w s
-  pub hub : (hub.after.faults ≡ hub.before.faults) ⊎ ((Rose hub.before.faults hub.after.faults × ComesOf w status.PortFault s) ⊎ TakesSomeFaulty m hub)
+  pub ports : (hub.after.faults ≡ hub.before.faults) ⊎ ((Rose hub.before.faults hub.after.faults × ComesOf w status.PortFault s) ⊎ TakesSomeFaulty m hub)

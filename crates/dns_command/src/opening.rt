@@ -172,7 +172,8 @@ pub fn open_book<K: Keeper>(
     requires moment { moment < 2 ^ 47 }
     requires ready { IsReady opening (K.rows keeper) }
     ensures ok { IfOk result (OpensBook K.rows K.faults keeper options.now opening moment) }
-    ensures err { IfErr result (λ fault. OpensNot (around (journal_told K.rows K.faults) keeper fault.keeper) options.now.origin opening fault.status) }
+    ensures err { IfErr result (λ fault. OpensNot
+        (around (journal_told K.rows K.faults) keeper fault.keeper) options.now.origin opening fault.status) }
     ensures kept { IfErr result (λ fault. Keeps (K.rows keeper) (K.rows fault.keeper)) }
 {
     let allow_update = options.allow_update;

@@ -43,12 +43,15 @@ where
     requires empty { (server.old.sockets ≡ []) × (server.old.listeners ≡ []) }
     requires seats { server.old.book.terms.seats ≡ seats_of listening.now }
     requires limit { listening.now.limit < 2 ^ 47 }
-    ensures ok { OnOk result (ServesWell (meanings K.rows K.faults H.Udp.told (listener_of H.Tcp.told H.Tcp.In.source H.Tcp.Out.sink H.Tcp.Time.clock))
+    ensures ok { OnOk result (ServesWell
+        (meanings K.rows K.faults H.Udp.told (listener_of H.Tcp.told H.Tcp.In.source H.Tcp.Out.sink H.Tcp.Time.clock))
         (around H.told hub.old hub.new) (around E.source.told until.old until.new) listening.now server.old server.new) }
-    ensures crew { HasCrew (meanings K.rows K.faults H.Udp.told (listener_of H.Tcp.told H.Tcp.In.source H.Tcp.Out.sink H.Tcp.Time.clock))
+    ensures crew { HasCrew
+        (meanings K.rows K.faults H.Udp.told (listener_of H.Tcp.told H.Tcp.In.source H.Tcp.Out.sink H.Tcp.Time.clock))
         listening.now.limit server.old server.new }
     ensures read { MayBeRead (around E.source.told until.old until.new) (around H.told hub.old hub.new) listening.now }
-    ensures err { IfErr result (IsCauseSoFar (H.told hub.old).faults (H.told hub.new).faults (HasFaultyPort H.Udp.told H.Tcp.told server.new)) }
+    ensures err { IfErr result (IsCauseSoFar
+        (H.told hub.old).faults (H.told hub.new).faults (HasFaultyPort H.Udp.told H.Tcp.told server.new)) }
     ensures registers { Registers (around H.told hub.old hub.new) server.old server.new }
     ensures later { (E.source.told until.old).faults ≤ (E.source.told until.new).faults }
 {
@@ -188,7 +191,8 @@ fn register_listeners<K: Keeper, H: Hub>(
     ensures same { IsSameServer server.old server.new }
     ensures sockets { server.new.sockets ≡ server.old.sockets }
     ensures listeners { OnOk result (length server.new.listeners ≡ length server.old.listeners + length listeners.items) }
-    ensures out { (H.told hub.new).lent_tcp + (length server.old.listeners + length listeners.items) ≡ (H.told hub.old).lent_tcp + length server.new.listeners }
+    ensures out { (H.told hub.new).lent_tcp + (length server.old.listeners + length listeners.items)
+        ≡ (H.told hub.old).lent_tcp + length server.new.listeners }
     ensures ok { OnOk result (Keeps (H.told hub.old).closed_tcp (H.told hub.new).closed_tcp) }
     ensures err { IfErr result (λ s. s ≡ status.OutOfMemory) }
     ensures calm { IsCalm (around H.told hub.old hub.new) }
@@ -220,7 +224,8 @@ fn register_listener<K: Keeper, H: Hub>(
     ensures manned { IsManned H.Udp.told H.Tcp.told limit server.new }
     ensures same { IsSameServer server.old server.new }
     ensures sockets { server.new.sockets ≡ server.old.sockets }
-    ensures yes { result ≡ true → (length server.new.listeners ≡ length server.old.listeners + 1) × (hub.new ≡ hub.old) × (is_refused ≡ false) }
+    ensures yes { result ≡ true → (length server.new.listeners ≡ length server.old.listeners + 1)
+        × (hub.new ≡ hub.old) × (is_refused ≡ false) }
     ensures no { result ≡ false → (server.new ≡ server.old) × ((H.told hub.new).lent_tcp + 1 ≡ (H.told hub.old).lent_tcp) }
     ensures calm { IsCalm (around H.told hub.old hub.new) }
 {
@@ -279,6 +284,7 @@ fn close_sockets<H: Hub>(hub: &mut H, sockets: Vec<H::Udp>)
     ensures listeners_out { (H.told hub.new).lent_tcp ≡ (H.told hub.old).lent_tcp }
     ensures later { (H.told hub.old).faults ≤ (H.told hub.new).faults }
     ensures raised { AnyFault (λ port. (H.Udp.told port).faults) sockets.items → Rose (H.told hub.old).faults (H.told hub.new).faults }
+    ensures calm { ((H.told hub.new).faults ≡ (H.told hub.old).faults) ⊎ AnyFault (λ port. (H.Udp.told port).faults) sockets.items }
 {
     for socket in sockets {
         hub.close_udp(socket);
@@ -295,6 +301,7 @@ fn close_listeners<H: Hub>(hub: &mut H, listeners: Vec<H::Tcp>)
     ensures sockets_out { (H.told hub.new).lent_udp ≡ (H.told hub.old).lent_udp }
     ensures later { (H.told hub.old).faults ≤ (H.told hub.new).faults }
     ensures raised { AnyFault (λ port. (H.Tcp.told port).faults) listeners.items → Rose (H.told hub.old).faults (H.told hub.new).faults }
+    ensures calm { ((H.told hub.new).faults ≡ (H.told hub.old).faults) ⊎ AnyFault (λ port. (H.Tcp.told port).faults) listeners.items }
 {
     for listener in listeners {
         hub.close_tcp(listener);

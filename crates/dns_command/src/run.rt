@@ -118,7 +118,12 @@ where
     requires some { 0 < seats_of service.listening }
     ensures keeper { IsSome result.keeper }
     ensures ends { IfSome result.keeper (λ left. (moment : Option ℕ) × IsAsked C.clock clock.old clock.new moment × ((words : List (List ℕ))
+<<<<<<< HEAD
         → service_of words ≡ Some service → ServeEnds (meanings K.rows K.faults H.Udp.told (listener_of H.Tcp.told H.Tcp.In.source H.Tcp.Out.sink H.Tcp.Time.clock)) (record {
+=======
+        → service_of words ≡ Some service → ServeEnds
+        (meanings K.rows K.faults H.Udp.told (listener_of H.Tcp.told H.Tcp.In.source H.Tcp.Out.sink H.Tcp.Time.clock)) (record {
+>>>>>>> 737d4e11679030941fca1ebb4ef8d35517000543
           words = words;
           zone = around Z.source.told zone.old zone.new;
           events = around E.source.told until.old until.new;
@@ -175,10 +180,13 @@ where
     requires limit { service.listening.limit < 2 ^ 47 }
     requires workers { (0 < service.listening.workers) × (service.listening.workers ≤ 64) }
     requires some { 0 < seats_of service.listening }
-    ensures ok { IfOk result (ServesOpened (meanings K.rows K.faults H.Udp.told (listener_of H.Tcp.told H.Tcp.In.source H.Tcp.Out.sink H.Tcp.Time.clock))
+    ensures ok { IfOk result (ServesOpened
+        (meanings K.rows K.faults H.Udp.told (listener_of H.Tcp.told H.Tcp.In.source H.Tcp.Out.sink H.Tcp.Time.clock))
         (around H.told hub.old hub.new) (around E.source.told until.old until.new) keeper service opening moment) }
-    ensures err { IfErr result (λ refusal. ServesNone (meanings K.rows K.faults H.Udp.told (listener_of H.Tcp.told H.Tcp.In.source H.Tcp.Out.sink H.Tcp.Time.clock))
-        (around H.told hub.old hub.new) (around E.source.told until.old until.new) keeper service opening moment refusal.status refusal.keeper) }
+    ensures err { IfErr result (λ refusal. ServesNone
+        (meanings K.rows K.faults H.Udp.told (listener_of H.Tcp.told H.Tcp.In.source H.Tcp.Out.sink H.Tcp.Time.clock))
+        (around H.told hub.old hub.new) (around E.source.told until.old until.new)
+        keeper service opening moment refusal.status refusal.keeper) }
     ensures back { HasAllBack (around H.told hub.old hub.new) }
     ensures later { (E.source.told until.old).faults ≤ (E.source.told until.new).faults }
 {
@@ -205,9 +213,11 @@ where
     requires limit { service.listening.limit < 2 ^ 47 }
     requires workers { (0 < service.listening.workers) × (service.listening.workers ≤ 64) }
     requires some { 0 < seats_of service.listening }
-    ensures ok { IfOk result (ServesBook (meanings K.rows K.faults H.Udp.told (listener_of H.Tcp.told H.Tcp.In.source H.Tcp.Out.sink H.Tcp.Time.clock))
+    ensures ok { IfOk result (ServesBook
+        (meanings K.rows K.faults H.Udp.told (listener_of H.Tcp.told H.Tcp.In.source H.Tcp.Out.sink H.Tcp.Time.clock))
         (around H.told hub.old hub.new) (around E.source.told until.old until.new) service book) }
-    ensures err { IfErr result (λ refusal. ServesNot (meanings K.rows K.faults H.Udp.told (listener_of H.Tcp.told H.Tcp.In.source H.Tcp.Out.sink H.Tcp.Time.clock))
+    ensures err { IfErr result (λ refusal. ServesNot
+        (meanings K.rows K.faults H.Udp.told (listener_of H.Tcp.told H.Tcp.In.source H.Tcp.Out.sink H.Tcp.Time.clock))
         (around H.told hub.old hub.new) (around E.source.told until.old until.new) service book refusal.status refusal.keeper) }
     ensures back { HasAllBack (around H.told hub.old hub.new) }
     ensures later { (E.source.told until.old).faults ≤ (E.source.told until.new).faults }

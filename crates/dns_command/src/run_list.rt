@@ -58,14 +58,15 @@ pub fn run_list<Z: Source, E: Source, W: Sink, K: Keeper, C: Clock>(
     out: &mut W,
 ) -> Ended<K>
     ensures keeper { IsSome result.keeper }
-    ensures ends { IfSome result.keeper (λ left. (moment : Option ℕ) × IsAsked C.clock clock.old clock.new moment × ListTells K.rows K.faults (record {
-      words = map string_bytes words.now.items;
-      zone = around Z.source.told zone.old zone.new;
-      events = around E.source.told events.old events.new;
-      journal = around (journal_told K.rows K.faults) keeper left;
-      output = around W.sink.told out.old out.new;
-      moment = moment;
-    }) result.status) }
+    ensures ends { IfSome result.keeper (λ left. (moment : Option ℕ) × IsAsked C.clock clock.old clock.new moment
+        × ListTells K.rows K.faults (record {
+          words = map string_bytes words.now.items;
+          zone = around Z.source.told zone.old zone.new;
+          events = around E.source.told events.old events.new;
+          journal = around (journal_told K.rows K.faults) keeper left;
+          output = around W.sink.told out.old out.new;
+          moment = moment;
+        }) result.status) }
     ensures later_zone { (Z.source.told zone.old).faults ≤ (Z.source.told zone.new).faults }
     ensures later_events { (E.source.told events.old).faults ≤ (E.source.told events.new).faults }
     ensures later_output { (W.sink.told out.old).faults ≤ (W.sink.told out.new).faults }

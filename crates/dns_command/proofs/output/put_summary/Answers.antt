@@ -15,4 +15,4 @@ returns-in_err-put_closing g c =
 pub returns : goal.returns
 returns g c =
     let written = Writes-then _ _ _ _ _ _ c.in_ok-put_counted.ensures c.in_ok-put_closing.ensures in
-    Whole-flush _ _ _ _ _ written c.flush.ensures.kept c.flush.ensures.all c.flush.ensures.cause
+    Whole-flush _ _ _ _ _ written c.flush.ensures.told.kept c.flush.ensures.told.all c.flush.ensures.told.cause

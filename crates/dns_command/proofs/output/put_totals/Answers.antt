@@ -22,4 +22,4 @@ returns g c =
     let first = rw c.from.ensures at c.in_ok-put_number.ensures in
     let second = rw c.from-2.ensures at c.in_ok-put_number-2.ensures in
     let written = Writes-then _ _ _ (number_line (codes "serial") c.args.serial) _ _ first second in
-    Whole-flush _ _ _ _ _ written c.flush.ensures.kept c.flush.ensures.all c.flush.ensures.cause
+    Whole-flush _ _ _ _ _ written c.flush.ensures.told.kept c.flush.ensures.told.all c.flush.ensures.told.cause

@@ -21,7 +21,7 @@ pub loop-listener-preserved : goal.loop-listener-preserved
 loop-listener-preserved g c =
     let kept = c.loop-listener.invariant in
     let steps = c.in-Some.ensures.steps in
-    let closed = c.close_tcp.ensures in
+    let closed = c.close_tcp.ensures.told in
     let one = length-append c.loop-listener.yielded (c.in-Some.listener ∷ []) in (
       (tt, tt),
       one_more _ _ _ _ _ kept.1 steps.0,

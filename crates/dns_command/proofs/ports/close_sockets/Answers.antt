@@ -21,7 +21,7 @@ pub loop-socket-preserved : goal.loop-socket-preserved
 loop-socket-preserved g c =
     let kept = c.loop-socket.invariant in
     let steps = c.in-Some.ensures.steps in
-    let closed = c.close_udp.ensures in
+    let closed = c.close_udp.ensures.told in
     let one = length-append c.loop-socket.yielded (c.in-Some.socket ∷ []) in (
       (tt, tt),
       one_more _ _ _ _ _ kept.1 steps.0,

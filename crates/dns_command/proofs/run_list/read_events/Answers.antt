@@ -10,10 +10,10 @@ returns-in_err-text-clause-err g c =
     rw (p.1, p.2) (events_cut _ _ c.in_err-text.ensures.long c.in_err-text.ensures.cause c.in_err-text.ensures.calm)
 
 pub returns-in-Ok-clause-ok : goal.returns-in-Ok-clause-ok
-returns-in-Ok-clause-ok g c = record { read = search rules; still = still_read _ _ c.in_ok-text.ensures.calm }
+returns-in-Ok-clause-ok g c = record { read = search rules; still = still_read _ _ _ c.in_ok-text.ensures.calm }
 
 pub returns-in-Err-Line-clause-err : goal.returns-in-Err-Line-clause-err
-returns-in-Err-Line-clause-err g c = event_faulty c.in-Err-Line.line (search rules) (still_read _ _ c.in_ok-text.ensures.calm)
+returns-in-Err-Line-clause-err g c = event_faulty c.in-Err-Line.line (search rules) (still_read _ _ _ c.in_ok-text.ensures.calm)
 
 pub returns-clause-err : goal.returns-clause-err
-returns-clause-err g c = events_without_memory (still_read _ _ c.in_ok-text.ensures.calm)
+returns-clause-err g c = events_without_memory (still_read _ _ _ c.in_ok-text.ensures.calm)
