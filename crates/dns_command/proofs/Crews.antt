@@ -1,13 +1,8 @@
 -- Workers that are taken on, and ports that are opened and handed back.
 use Rattle.std.proofs.Common.{◌≡◌, ◌⊎◌, ℕ, suc, ◌+◌, ◌≤◌, ◌<◌, List, [], ◌∷◌, ◌++◌, inl, inr, length, Option, Some, None, Result, Ok, Err, OnOk, refl, sym, ap, subst, ◌∙◌, append-nil, append_assoc, length-append, arith}
 use Rattle.std.specs.List.{AllByRecursion}
-<<<<<<< HEAD
-use Rattle.dns_io.specs.Told.{Rose, Keeps, Grows}
-use Rattle.dns_io.proofs.ToldContents.{Keeps-more, Grows-more}
-=======
 use Rattle.dns_io.specs.Told.{Rose, Keeps, Grows}
 use Rattle.dns_io.proofs.ToldContents.{Keeps-same, Keeps-more, Grows-more}
->>>>>>> 737d4e11679030941fca1ebb4ef8d35517000543
 use Rattle.dns_edges.specs.Edges.{Around}
 use Rattle.dns_ports.specs.declared.hub.Opening.{Opening}
 use Rattle.dns_ports.specs.Ports.{UdpTold, TcpTold, HubTold, IsFreshSocket, IsFreshListener, ClosesSocket, ClosesListener}

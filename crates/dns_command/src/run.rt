@@ -118,12 +118,8 @@ where
     requires some { 0 < seats_of service.listening }
     ensures keeper { IsSome result.keeper }
     ensures ends { IfSome result.keeper (λ left. (moment : Option ℕ) × IsAsked C.clock clock.old clock.new moment × ((words : List (List ℕ))
-<<<<<<< HEAD
-        → service_of words ≡ Some service → ServeEnds (meanings K.rows K.faults H.Udp.told (listener_of H.Tcp.told H.Tcp.In.source H.Tcp.Out.sink H.Tcp.Time.clock)) (record {
-=======
         → service_of words ≡ Some service → ServeEnds
         (meanings K.rows K.faults H.Udp.told (listener_of H.Tcp.told H.Tcp.In.source H.Tcp.Out.sink H.Tcp.Time.clock)) (record {
->>>>>>> 737d4e11679030941fca1ebb4ef8d35517000543
           words = words;
           zone = around Z.source.told zone.old zone.new;
           events = around E.source.told until.old until.new;
