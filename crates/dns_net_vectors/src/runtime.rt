@@ -88,7 +88,10 @@ struct MemoryConnection {
 impl Source for MemoryConnection {
     ghost use Rattle.dns_edges.specs.Memory.{ReadsNext, source_told};
 
-    ghost source = { record { told = λ c. source_told c.source; reads = λ before room given after. ReadsNext before.source room given after.source } };
+    ghost source = { record {
+      told = λ c. source_told c.source;
+      reads = λ before room given after. ReadsNext before.source room given after.source;
+    } };
 
     fn read(&mut self, room: &mut [u8]) -> Result<usize, IoFault> {
         self.source.read(room)
@@ -98,7 +101,10 @@ impl Source for MemoryConnection {
 impl Sink for MemoryConnection {
     ghost use Rattle.dns_edges.specs.Memory.{WritesNext, sink_told};
 
-    ghost sink = { record { told = λ c. sink_told c.sink; writes = λ before bytes result after. WritesNext before.sink bytes result after.sink } };
+    ghost sink = { record {
+      told = λ c. sink_told c.sink;
+      writes = λ before bytes result after. WritesNext before.sink bytes result after.sink;
+    } };
 
     fn write(&mut self, bytes: &[u8]) -> Result<usize, IoFault> {
         self.sink.write(bytes)
@@ -126,7 +132,12 @@ impl RuntimeProvider for MemoryRuntime {
 
     type Tcp = MemoryConnection;
 
-    ghost runtime = { record { faults = λ _. 0; handles = λ _ _. Unit {0}; connects = λ _ _ _ _ _ _. Unit {0}; binds = λ _ _ _ _ _. Unit {0} } };
+    ghost runtime = { record {
+      faults = λ _. 0;
+      handles = λ _ _. Unit {0};
+      connects = λ _ _ _ _ _ _. Unit {0};
+      binds = λ _ _ _ _ _. Unit {0};
+    } };
 
     fn create_handle(&self) -> LastTask<u64> {
         LastTask { last: None }
