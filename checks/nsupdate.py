@@ -356,7 +356,7 @@ def refused():
         taken.bind((HOST, 0))  # nobody listens there
         words = [f"--server={IP}:{taken.getsockname()[1]}", "--id=9"]
         yield "no server", run(words, ADD), (6, "read fault\n")
-        yield "no server, the words in the other order", run(words[::-1], ADD), (6, "read fault\n")
+        yield "no server, the words in the other order", run(words[::-1], ADD), (1, "usage\n")
         yield "no server, and no message", run(words, "zone a.\n"), (0, "")
         yield "no server, and a line at fault", run(words, "zone\n"), (20, "script line 1: Word\n")
     with open("/dev/full", "wb") as full, plain(answering(lambda m: framed(reply_to(m)))) as server:

@@ -1,6 +1,6 @@
 -- When the keeper of a book failed in settling a message.
 use Rattle.std.proofs.Common.{◌≡◌, ℕ, ◌<◌, ◌≤◌, List, length, Option, Bool, true, sym, ap, subst, arith}
-use Rattle.dns_io.specs.Edge.{Rose}
+use Rattle.dns_io.specs.Told.{Rose}
 use Rattle.dns_wire.specs.declared.record.Record.{Record}
 use Rattle.dns_keeper.specs.declared.row.Row.{Row}
 use Rattle.dns_book.specs.declared.ask.Ask.{Ask}

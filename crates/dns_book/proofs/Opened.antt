@@ -1,7 +1,7 @@
 -- The rows of a journal that was begun, and how an opening goes on from the look at the first row.
 use Rattle.std.proofs.Common.{◌≡◌, ◌≤◌, ℕ, suc, ℤ, pos, ◌+ℤ◌, List, [], ◌∷◌, length, Option, Some, None, Bool, refl, sym, ap, ◌∙◌, subst, arith}
 use Rattle.std.specs.Prelude.{◌≢◌, Result, Ok, Err, IfOk, IfSome, IsSomeAnd}
-use Rattle.dns_io.specs.Edge.{Keeps, Told, Rose}
+use Rattle.dns_io.specs.Told.{Keeps, Told, Rose}
 use Rattle.dns_wire.specs.declared.record.Record.{Record}
 use Rattle.dns_keeper.specs.declared.row.Row.{Row}
 use Rattle.dns_keeper.specs.Rows.{first_of, rows_of, appended}

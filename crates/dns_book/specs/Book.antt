@@ -1,6 +1,6 @@
 -- What contracts see of a book, and what settling a message does.
 use Rattle.std.specs.Prelude.{◌≡◌, ℕ, ◌+◌, ◌<◌, ◌≤◌, List, length, Option, Some, None, Bool, true, false, Ok}
-use Rattle.dns_io.specs.Edge.{Keeps, Rose}
+use Rattle.dns_io.specs.Told.{Keeps, Rose}
 use Rattle.dns_wire.specs.declared.record.Record.{Record}
 use Rattle.dns_keeper.specs.declared.row.Row.{Row}
 use Rattle.dns_keeper.specs.Keeping.{GrowsByBatch}

@@ -5,7 +5,7 @@ use Rattle.dns_keeper.specs.declared.row.Row.{Row}
 use Rattle.dns_keeper.specs.declared.keeper.KeepFault.{KeepFault}
 use Rattle.dns_keeper.specs.declared.keeper.KeepFault.TheVariants as keep
 use Rattle.dns_keeper.specs.Keeping.{GrowsByBatch}
-use Rattle.dns_io.specs.Edge.{Told, Keeps, Rose}
+use Rattle.dns_io.specs.Told.{Told, Keeps, Rose}
 use Rattle.dns_zone_map.specs.Zone.{Contents, serial_of}
 use Rattle.dns_update.specs.declared.replay_kind.ReplayKind.{ReplayKind}
 use Rattle.dns_update.specs.Replay.{opening_of, Replays}

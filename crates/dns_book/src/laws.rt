@@ -13,7 +13,7 @@ ghost use Rattle.dns_book.specs.Cases.{Decides};
 ghost use Rattle.dns_book.specs.declared.ask.Settled.{Settled as Done};
 ghost use Rattle.dns_book.specs.Owed.{Grounds, id_for, edns_for, limit_of, Owes, OwesBytes, batch_by};
 ghost use Rattle.dns_book.specs.Book.{SeenOf, Settles};
-ghost use Rattle.dns_io.specs.Edge.{Rose};
+ghost use Rattle.dns_io.specs.Told.{Rose};
 ghost use Rattle.dns_io.specs.declared.peer.Ip.{Ip as Address};
 ghost use Rattle.dns_book.specs.declared.access.IpNet.{IpNet as Network};
 ghost use Rattle.dns_book.specs.Access.{Access, lets_in, is_one_family, address_bits, share_front, net_of, lies_in};

@@ -1,7 +1,7 @@
 //! How the journal of a zone is opened.
 
 ghost use Rattle.std.specs.Prelude.{◌≡◌, ◌≤◌, ◌<◌, ◌^◌, IfOk, IfErr, IfSome, IsSomeAnd, IsErrOf};
-ghost use Rattle.dns_io.specs.Edge.{Keeps};
+ghost use Rattle.dns_io.specs.Told.{Keeps};
 ghost use Rattle.dns_name.specs.Name.{fold_of};
 ghost use Rattle.dns_keeper.specs.Crash.{LeavesTold, LeavesNoOther};
 ghost use Rattle.dns_book.specs.Crash.{LeavesOpened, LeavesOpening, LeavesUnopened, LeavesOn};

@@ -3,7 +3,7 @@
 ghost use Rattle.std.specs.Prelude.{◌≡◌, ◌≤◌, ◌++◌, ◌∷◌, ◌+ℤ◌, [], pos, List, IfOk, IfErr, IfSome, FitsSigned, OnOk, Ok};
 ghost use Rattle.std.specs.Int.{w64};
 ghost use Rattle.dns_name.specs.Name.{fold_of};
-ghost use Rattle.dns_io.specs.Edge.{Keeps};
+ghost use Rattle.dns_io.specs.Told.{Keeps};
 ghost use Rattle.dns_keeper.specs.Crash.{LeavesNoOther};
 ghost use Rattle.dns_keeper.specs.declared.row.Row.{Row as JournalRow};
 ghost use Rattle.dns_update.specs.Replay.{Replays};

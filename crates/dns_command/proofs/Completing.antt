@@ -1,7 +1,7 @@
 -- Of what the program was given nothing is at fault: then it ends with the replies, or for want of memory.
 use Rattle.std.proofs.Common.{◌≡◌, ℕ, ◌≤◌, List, [], ◌∷◌, inl, inr, length, Option, Some, None, IsSome, MatchOption, Result, Ok, Err, refl, sym, ap, subst, ◌∙◌, length-append, arith}
 use Rattle.std.proofs.lemmas.Option.{same_Some}
-use Rattle.dns_io.specs.Edge.{Told, WasLonger, Rose}
+use Rattle.dns_io.specs.Told.{Told, WasLonger, Rose}
 use Rattle.dns_name.specs.Name.{fold_of}
 use Rattle.dns_wire.specs.declared.record.Record.{Record}
 use Rattle.dns_keeper.specs.declared.row.Row.{Row}
@@ -53,45 +53,45 @@ no_rows : (origin : List (List ℕ)) (rows : List Row) (records : List Record) �
 no_rows origin [] records none r = absurd (let ran = r.runs in let end = r.is in cc)
 no_rows origin (row ∷ rows) records none r = absurd cc
 
-module _ (w : World) (no_zone_fault : Rose w.zone.faults_before w.zone.faults_after → ⊥) (no_journal_fault : Rose w.journal.faults_before w.journal.faults_after → ⊥) (told_zone : IsSome w.zone.after) (told_journal : IsSome w.journal.after) where
+module _ (w : World) (no_zone_fault : Rose w.zone.before.faults w.zone.after.faults → ⊥) (no_journal_fault : Rose w.journal.before.faults w.journal.after.faults → ⊥) (told_zone : IsSome w.zone.after.left) (told_journal : IsSome w.journal.after.rows) where
   of_look : (s : Status) → SeesNoRow w.journal s → s ≡ status.OutOfMemory
   of_look s (journal_unread rose) = absurd (no_journal_fault rose)
   of_look s journal_without_memory = refl
 
   -- a journal without rows, and a zone text
-  text_in : (origin : List (List ℕ)) → HasZone w origin → HadNoRow w.journal.before w.journal.after
-      → (text : List ℕ) × (records : List Record) × (w.zone.before ≡ Some text) × (length text ≤ zone_bound) × (zone_of origin text ≡ Ok records)
+  text_in : (origin : List (List ℕ)) → HasZone w origin → HadNoRow w.journal.before.rows w.journal.after.rows
+      → (text : List ℕ) × (records : List Record) × (w.zone.before.left ≡ Some text) × (length text ≤ zone_bound) × (zone_of origin text ≡ Ok records)
   text_in origin (in_text text records none is short zone) had = (text, records, is, short, zone)
-  text_in origin (in_rows rows records is stands) had = absurd (no_rows (fold_of origin) rows records (told _ w.journal.before w.journal.after rows is told_journal had).1 stands)
+  text_in origin (in_rows rows records is stands) had = absurd (no_rows (fold_of origin) rows records (told _ w.journal.before.rows w.journal.after.rows rows is told_journal had).1 stands)
 
-  of_zone : (origin : List (List ℕ)) (s : Status) → HasZone w origin → HadNoRow w.journal.before w.journal.after → ReadsNoZone w.zone origin s → s ≡ status.OutOfMemory
+  of_zone : (origin : List (List ℕ)) (s : Status) → HasZone w origin → HadNoRow w.journal.before.rows w.journal.after.rows → ReadsNoZone w.zone origin s → s ≡ status.OutOfMemory
   of_zone origin s has had (zone_unread rose) = absurd (no_zone_fault rose)
-  of_zone origin s has had (zone_too_long longer) =
+  of_zone origin s has had (zone_too_long longer still) =
       let t = text_in origin has had in
-      absurd (not_longer w.zone.before w.zone.after t.0 zone_bound t.2 told_zone t.3 longer)
-  of_zone origin s has had (zone_faulty line kind read) =
+      absurd (not_longer w.zone.before.left w.zone.after.left t.0 zone_bound t.2 told_zone t.3 longer)
+  of_zone origin s has had (zone_faulty line kind read still) =
       let t = text_in origin has had in
-      let f = told _ w.zone.before w.zone.after t.0 t.2 told_zone read in
+      let f = told _ w.zone.before.left w.zone.after.left t.0 t.2 told_zone read in
       absurd (let good = t.4 in let bad = f.1.1.1 in cc)
-  of_zone origin s has had zone_without_memory = refl
+  of_zone origin s has had (zone_without_memory still) = refl
 
   pub of_finding : (origin : List (List ℕ)) (s : Status) → HasZone w origin → FindsNot w.journal w.zone origin s → s ≡ status.OutOfMemory
   of_finding origin s has (unseen sees untouched) = of_look s sees
   of_finding origin s has (no_zone none reads) = of_zone origin s has none reads
 
   -- rows that stand for a zone are not refused
-  none_refused : (origin : List (List ℕ)) (row : _) (why : ReplayKind) → HasJournal w origin → HadRows w.journal.before w.journal.after
-      → Told (λ old new. Replays (fold_of origin) old (Err (record { row = row; kind = why }))) w.journal.before w.journal.after → ⊥
+  none_refused : (origin : List (List ℕ)) (row : _) (why : ReplayKind) → HasJournal w origin → HadRows w.journal.before.rows w.journal.after.rows
+      → Told (λ old new. Replays (fold_of origin) old (Err (record { row = row; kind = why }))) w.journal.before.rows w.journal.after.rows → ⊥
   none_refused origin row why (without_rows none) some refused =
-      let had = told _ w.journal.before w.journal.after [] none told_journal some in
+      let had = told _ w.journal.before.rows w.journal.after.rows [] none told_journal some in
       had.1 refl
   none_refused origin row why (with_rows rows records is stands) some refused =
-      let t = told _ w.journal.before w.journal.after rows is told_journal refused in
+      let t = told _ w.journal.before.rows w.journal.after.rows rows is told_journal refused in
       let same = replays_one (fold_of origin) rows (Ok records) (Err (record { row = row; kind = why })) stands t.1 in
       absurd cc
 
   -- a journal that can be opened is opened
-  pub of_journal : (origin : List (List ℕ)) (opening : Opening) (s : Status) → HasJournal w origin → (opening ≡ Recover → HadRows w.journal.before w.journal.after)
+  pub of_journal : (origin : List (List ℕ)) (opening : Opening) (s : Status) → HasJournal w origin → (opening ≡ Recover → HadRows w.journal.before.rows w.journal.after.rows)
       → OpensNot w.journal origin opening s → s ≡ status.OutOfMemory
   of_journal origin opening s has had (rows_refused row why refused) = absurd (none_refused origin row why has (had refl) refused)
   of_journal origin opening s has had (journal_failed rose) = absurd (no_journal_fault rose)
@@ -101,7 +101,7 @@ module _ (w : World) (no_zone_fault : Rose w.zone.faults_before w.zone.faults_af
   of_either origin (in_text text records none is short zone) = without_rows none
   of_either origin (in_rows rows records is stands) = with_rows rows records is stands
 
-  had_rows : (origin : List (List ℕ)) (opening : Opening) → Finds w.journal w.zone origin opening → opening ≡ Recover → HadRows w.journal.before w.journal.after
+  had_rows : (origin : List (List ℕ)) (opening : Opening) → Finds w.journal w.zone origin opening → opening ≡ Recover → HadRows w.journal.before.rows w.journal.after.rows
   had_rows origin (Begin zone) found is = absurd cc
   had_rows origin Recover found is = found.0
 
@@ -109,7 +109,7 @@ module _ (w : World) (no_zone_fault : Rose w.zone.faults_before w.zone.faults_af
   of_opening origin opening s has found not = of_journal origin opening s (of_either origin has) (had_rows origin opening found) not
 
   -- a drawn list of events
-  had_rows_drawn : (opening : Opening) → FindsExample w.journal opening → opening ≡ Recover → HadRows w.journal.before w.journal.after
+  had_rows_drawn : (opening : Opening) → FindsExample w.journal opening → opening ≡ Recover → HadRows w.journal.before.rows w.journal.after.rows
   had_rows_drawn (Begin zone) found is = absurd cc
   had_rows_drawn Recover found is = found
 
@@ -132,11 +132,11 @@ module _ (w : World) (no_zone_fault : Rose w.zone.faults_before w.zone.faults_af
 module _ (w : World) (x : IsSound w) where
   of_events : (s : Status) → HasEventText w → LoadsNoEvents w.events s → s ≡ status.OutOfMemory
   of_events s has (events_unread rose) = absurd (x.faultless.events rose)
-  of_events s has (events_too_long longer) = absurd (not_longer w.events.before w.events.after has.text event_bound has.told x.told.events has.short longer)
-  of_events s has (event_faulty line read) =
-      let f = told _ w.events.before w.events.after has.text has.told x.told.events read in
+  of_events s has (events_too_long longer still) = absurd (not_longer w.events.before.left w.events.after.left has.text event_bound has.told x.told.events has.short longer)
+  of_events s has (event_faulty line read still) =
+      let f = told _ w.events.before.left w.events.after.left has.text has.told x.told.events read in
       absurd (let good = has.read in let bad = f.1.1.1 in cc)
-  of_events s has events_without_memory = refl
+  of_events s has (events_without_memory still) = refl
 
   of_events_by : (drawn : Option Drawn) (s : Status) → (drawn ≡ None → HasEventText w)
       → MatchOption drawn (LoadsNoEvents w.events s) (λ d. (s ≡ status.OutOfMemory) × IsUntouched w.events) → s ≡ status.OutOfMemory
@@ -150,17 +150,17 @@ module _ (w : World) (x : IsSound w) where
   events_for : (options : Options) → options_of w.words ≡ Some options → HasEvents w options
   events_for options legal = subst (λ (o : Options). HasEvents w o) (same_Some _ _ (sym x.legal ∙ legal)) x.events
 
-  of_refusal : (s : Status) → IsRefused w.words w.zone w.events w.journal s → s ≡ status.OutOfMemory
-  of_refusal s (at_words none a b c) = absurd (let some = x.legal in cc)
-  of_refusal s (without_memory a b c) = refl
-  of_refusal s (at_finding options legal finds u) = of_finding_words w x.faultless.zone x.faultless.journal x.told.zone x.told.journal options s (zone_for options legal) finds
-  of_refusal s (at_events options opening legal found loads) = of_events_by options.drawn s (events_for options legal) loads
-  of_refusal s (at_opening options opening events legal found heard opens) = of_opening_words w x.faultless.zone x.faultless.journal x.told.zone x.told.journal options opening s (zone_for options legal) found opens
+  of_refusal : (s : Status) → IsRefused w.words w.zone w.events w.journal w.moment s → s ≡ status.OutOfMemory
+  of_refusal s (at_words none a b c d) = absurd (let some = x.legal in cc)
+  of_refusal s (without_memory a b c d) = refl
+  of_refusal s (at_finding options legal finds u unasked) = of_finding_words w x.faultless.zone x.faultless.journal x.told.zone x.told.journal options s (zone_for options legal) finds
+  of_refusal s (at_events options opening legal found loads unasked) = of_events_by options.drawn s (events_for options legal) loads
+  of_refusal s (at_opening options opening events legal found heard opens asked) = of_opening_words w x.faultless.zone x.faultless.journal x.told.zone x.told.journal options opening s (zone_for options legal) found opens
 
   -- the events that were loaded are the valid ones
   valid_loaded : (events : List Event) → HasEventText w → LoadsEvents w.events events → Valid new_kept events
   valid_loaded events has heard =
-      let t = told _ w.events.before w.events.after has.text has.told x.told.events heard in
+      let t = told _ w.events.before.left w.events.after.left has.text has.told x.told.events heard.read in
       let same : has.events ≡ events = same_Ok (events_of has.text) _ _ has.read t.1.1.1 in
       subst (λ (l : List Event). Valid new_kept l) same has.valid
 
@@ -175,10 +175,6 @@ completes rows faults w s (with_answers text answers written) x = inl refl
 completes rows faults w s (with_refusal some refuses written) x = inr (of_refusal w x s refuses.cause)
 completes rows faults w s (with_rejection rejects written) x = absurd (none_rejected w x rows rejects)
 completes rows faults w s (with_write_fault rose cut) x = absurd (x.faultless.output rose)
-completes rows faults w s (cut_for_memory cut) x = inr refl
+completes rows faults w s (cut_for_memory still cut) x = inr refl
 completes rows faults w s (refused_for_memory refuses unwritten) x = inr refl
 completes rows faults w s (broken_for_memory breaks unwritten) x = inr refl
-
--- how it ends, and that it does its work
-pub ends_and_completes : {K : Type 0} (rows : K → Option (List Row)) (faults : K → ℕ) (w : World) (s : Status) → Ends rows faults w s → Ends rows faults w s × Completes w s
-ends_and_completes rows faults w s ends = (ends, completes rows faults w s ends)

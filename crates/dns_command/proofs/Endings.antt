@@ -1,10 +1,10 @@
 -- How the program ends, by what its parts did.
 use Rattle.std.proofs.Common.{◌≡◌, ℕ, ◌≤◌, List, Option, Some, None, IfSome, MatchOption, Result, Ok, Err, refl, sym, ap, subst, arith, take, length}
-use Rattle.dns_io.specs.Around.{Around, SinkAround}
+use Rattle.dns_edges.specs.Edges.{Around, SourceTold, SinkTold}
 use Rattle.std.specs.Result.{IsErrOf}
-use Rattle.dns_io.specs.Edge.{NeverBegins, Keeps, Rose}
-use Rattle.dns_io.specs.declared.edge.IoFault.{IoFault}
-use Rattle.dns_io.specs.declared.edge.IoFault.TheVariants.{Failed, OutOfMemory}
+use Rattle.dns_io.specs.Told.{NeverBegins, Keeps, Rose}
+use Rattle.dns_io.specs.declared.io_fault.IoFault.{IoFault}
+use Rattle.dns_io.specs.declared.io_fault.IoFault.TheVariants.{Failed, OutOfMemory}
 use Rattle.dns_io.proofs.ToldContents.{Keeps-more}
 use Rattle.dns_keeper.specs.declared.row.Row.{Row}
 use Rattle.dns_keeper.specs.declared.keeper.KeepFault.{KeepFault}
@@ -35,7 +35,7 @@ use Rattle.dns_command.specs.CommandLine.{access_of}
 use Rattle.dns_command.specs.Lines.{lines_by}
 use Rattle.dns_command.specs.Status.{refusal_line}
 use Rattle.dns_words.specs.Writing.{IsUntouched, IsWritten}
-use Rattle.dns_command.specs.World.{World}
+use Rattle.dns_command.specs.World.{World, JournalTold}
 use Rattle.dns_command.specs.Steps.{Finds, FindsExample, FindsBy, LoadsEvents, SeesNoRow, journal_unread, journal_without_memory, OpensNot, rows_refused, journal_failed, opening_without_memory, at_opening}
 use Rattle.dns_command.specs.Ends.{IsOpened, Begins, Serves, Rejects, Answers, Breaks, all, TookFront, Refuses, IsCut, in_refusal, in_rejection, in_answers}
 use Rattle.dns_command.specs.Ends.{Ends, with_answers, with_refusal, with_rejection, with_write_fault, cut_for_memory, refused_for_memory, broken_for_memory}
@@ -50,9 +50,9 @@ use Rattle.dns_command.proofs.Settled.{Run-told}
 -- a text was written, or was not written to its end
 whole : {K : Type 0} (rows : K → Option (List Row)) (faults : K → ℕ) (w : World) (text : List ℕ) (meant : Status) (result : Result (Unit {0}) IoFault)
     → (IsWritten w.output text → Ends rows faults w meant) → (TookFront w text → IsCut rows faults w) → WritesWhole w.output text result → Ends rows faults w (after_writing meant result)
-whole rows faults w text meant (Ok done) good cut v = good (record { taken = v.written.ok; flushed = v.flushed })
-whole rows faults w text meant (Err Failed) good cut v = with_write_fault (v.written.cause.failed refl) (cut v.written.err)
-whole rows faults w text meant (Err OutOfMemory) good cut v = cut_for_memory (cut v.written.err)
+whole rows faults w text meant (Ok done) good cut v = good (record { taken = v.written.ok; flushed = v.flushed; faults = v.written.cause.counts })
+whole rows faults w text meant (Err Failed) good cut v = with_write_fault v.written.cause.counts (cut v.written.err)
+whole rows faults w text meant (Err OutOfMemory) good cut v = cut_for_memory v.written.cause.counts (cut v.written.err)
 
 -- a refusal
 pub refused : {K : Type 0} (rows : K → Option (List Row)) (faults : K → ℕ) (w : World) (s t : Status) → Refuses w s → EndsRefusing w.output s t → Ends rows faults w t
@@ -76,10 +76,10 @@ answered rows faults w text t a e = subst (λ (x : Status). Ends rows faults w x
 -- ---- the journal
 
 -- a journal before and after
-abbrev pub journal_of : Option (List Row) → Option (List Row) → ℕ → ℕ → Around (List Row)
-journal_of before after n m = record { before = before; after = after; faults_before = n; faults_after = m }
+abbrev pub journal_of : Option (List Row) → Option (List Row) → ℕ → ℕ → Around JournalTold
+journal_of before after n m = record { before = record { rows = before; faults = n }; after = record { rows = after; faults = m } }
 
-pub Finds-on : (b m a : Option (List Row)) (fb fm fa : ℕ) (source : Around (List ℕ)) (origin : List (List ℕ)) (opening : Opening) → Finds (journal_of b m fb fm) source origin opening → NeverBegins m a → Finds (journal_of b a fb fa) source origin opening
+pub Finds-on : (b m a : Option (List Row)) (fb fm fa : ℕ) (source : Around SourceTold) (origin : List (List ℕ)) (opening : Opening) → Finds (journal_of b m fb fm) source origin opening → NeverBegins m a → Finds (journal_of b a fb fa) source origin opening
 Finds-on b m a fb fm fa source origin (Begin zone) f told = (HadNoRow-on b m a f.0 told, f.1)
 Finds-on b m a fb fm fa source origin Recover f told = (HadRows-on b m a f.0 told, f.1)
 
@@ -88,17 +88,17 @@ FindsExample-on b m a fb fm fa (Begin zone) f told = (HadNoRow-on b m a f.0 told
 FindsExample-on b m a fb fm fa Recover f told = HadRows-on b m a f told
 
 -- by what is drawn
-Finds-by : (drawn : Option Drawn) (b m a : Option (List Row)) (fb fm fa : ℕ) (source : Around (List ℕ)) (origin : List (List ℕ)) (opening : Opening)
+Finds-by : (drawn : Option Drawn) (b m a : Option (List Row)) (fb fm fa : ℕ) (source : Around SourceTold) (origin : List (List ℕ)) (opening : Opening)
     → MatchOption drawn (Finds (journal_of b m fb fm) source origin opening) (λ d. FindsExample (journal_of b m fb fm) opening × IsUntouched source) → NeverBegins m a
     → MatchOption drawn (Finds (journal_of b a fb fa) source origin opening) (λ d. FindsExample (journal_of b a fb fa) opening × IsUntouched source)
 Finds-by None b m a fb fm fa source origin opening f told = Finds-on b m a fb fm fa source origin opening f told
 Finds-by (Some d) b m a fb fm fa source origin opening f told = (FindsExample-on b m a fb fm fa opening f.0 told, f.1)
 
-FindsBy-on : (b m a : Option (List Row)) (fb fm fa : ℕ) (source : Around (List ℕ)) (options : Options) (opening : Opening) → FindsBy (journal_of b m fb fm) source options opening → NeverBegins m a → FindsBy (journal_of b a fb fa) source options opening
+FindsBy-on : (b m a : Option (List Row)) (fb fm fa : ℕ) (source : Around SourceTold) (options : Options) (opening : Opening) → FindsBy (journal_of b m fb fm) source options opening → NeverBegins m a → FindsBy (journal_of b a fb fa) source options opening
 FindsBy-on b m a fb fm fa source options opening f told = Finds-by options.drawn b m a fb fm fa source options.origin opening f told
 
 -- a list that is not valid was not drawn
-is_undrawn : (drawn : Option Drawn) (source : Around (List ℕ)) (events : List Event) → IfSome drawn (λ d. d.count ≤ 100000)
+is_undrawn : (drawn : Option Drawn) (source : Around SourceTold) (events : List Event) → IfSome drawn (λ d. d.count ≤ 100000)
     → MatchOption drawn (LoadsEvents source events) (λ d. (events ≡ loaded d.seed d.count) × IsUntouched source) → (Valid new_kept events → ⊥) → drawn ≡ None
 is_undrawn None source events few heard invalid = refl
 is_undrawn (Some d) source events few heard invalid = absurd (invalid (subst (λ (l : List Event). Valid new_kept l) (sym heard.0) (valid d.seed d.count few)))
@@ -109,7 +109,7 @@ OpensNot-earlier b m a fb fm fa origin opening s (journal_failed rose) k later =
 OpensNot-earlier b m a fb fm fa origin opening s opening_without_memory k later = opening_without_memory
 
 -- a journal whose first row was not seen
-pub sees_no_row : {T : Type 0} (journal : Around (List Row)) (why : KeepFault) → (IsErrOf {T = T} (Err why) keep.Failed → Rose journal.faults_before journal.faults_after) → SeesNoRow journal (unkept why)
+pub sees_no_row : {T : Type 0} (journal : Around JournalTold) (why : KeepFault) → (IsErrOf {T = T} (Err why) keep.Failed → Rose journal.before.faults journal.after.faults) → SeesNoRow journal (unkept why)
 sees_no_row journal keep.Failed rose = journal_unread (rose refl)
 sees_no_row journal keep.OutOfMemory rose = journal_without_memory
 
@@ -151,9 +151,9 @@ IsOpened-told m rows options moment Recover first o = NeverBegins-told _ m (rows
 
 -- ---- what was prepared, and then served
 
-module _ {K : Type 0} (rows : K → Option (List Row)) (faults : K → ℕ) (words : List (List ℕ)) (z e : Around (List ℕ)) (out : SinkAround) (b : Option (List Row)) (fb moment : ℕ) (inputs : Inputs) (keeper left : K) (p : Prepares words z e (journal_of b (rows keeper) fb (faults keeper)) inputs) (k : Keeps b (rows keeper)) (later : fb ≤ faults keeper) where
+module _ {K : Type 0} (rows : K → Option (List Row)) (faults : K → ℕ) (words : List (List ℕ)) (z e : Around SourceTold) (out : Around SinkTold) (b : Option (List Row)) (fb moment : ℕ) (inputs : Inputs) (keeper left : K) (p : Prepares words z e (journal_of b (rows keeper) fb (faults keeper)) inputs) (k : Keeps b (rows keeper)) (later : fb ≤ faults keeper) where
   abbrev world : World
-  world = record { words = words; zone = z; events = e; journal = journal_of b (rows left) fb (faults left); output = out; moment = moment }
+  world = record { words = words; zone = z; events = e; journal = journal_of b (rows left) fb (faults left); output = out; moment = Some moment }
 
   -- a journal was opened
   begins : (first : SeenOf K) → OpensBook rows faults keeper inputs.options inputs.opening moment first → NeverBegins (rows first.keeper) (rows left) → Begins rows world inputs.options inputs.events.items first
@@ -163,6 +163,8 @@ module _ {K : Type 0} (rows : K → Option (List Row)) (faults : K → ℕ) (wor
     found = FindsBy-on b (rows keeper) (rows left) fb (faults keeper) (faults left) z inputs.options inputs.opening p.found
         (NeverBegins-more (rows keeper) (rows first.keeper) (rows left) (IsOpened-told (rows keeper) rows inputs.options moment inputs.opening first o.opened) told);
     heard = p.heard;
+    moment = moment;
+    asked = refl;
     opened = IsOpened-earlier b (rows keeper) rows inputs.options moment inputs.opening first k o.opened;
   }
 
@@ -222,7 +224,7 @@ module _ {K : Type 0} (rows : K → Option (List Row)) (faults : K → ℕ) (wor
   unopened_refused s t n keeps r = refused rows faults world s t (record {
     cause = at_opening inputs.options inputs.opening inputs.events.items p.legal
         (FindsBy-on b (rows keeper) (rows left) fb (faults keeper) (faults left) z inputs.options inputs.opening p.found (NeverBegins-told _ (rows keeper) (rows left) keeps)) p.heard
-        (OpensNot-earlier b (rows keeper) (rows left) fb (faults keeper) (faults left) inputs.options.origin inputs.opening s n k later);
+        (OpensNot-earlier b (rows keeper) (rows left) fb (faults keeper) (faults left) inputs.options.origin inputs.opening s n k later) refl;
     kept = Keeps-more b (rows keeper) (rows left) k keeps;
   }) r
 

@@ -7,6 +7,7 @@ mod ExampleRead
 mod Settled
 mod Endings
 mod Completing
+mod Counting
 mod Loops
 mod Crews
 mod Served

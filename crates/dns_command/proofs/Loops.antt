@@ -1,8 +1,9 @@
 -- Loops over ports that are handed over one by one.
-use Rattle.std.proofs.Common.{◌≡◌, ◌⊎◌, ℕ, ◌+◌, ◌≤◌, ◌<◌, List, [], ◌∷◌, ◌++◌, inl, inr, length, refl, sym, ap, subst, ◌∙◌, append_assoc, append-nil, length-append, arith}
+use Rattle.std.proofs.Common.{◌≡◌, ◌⊎◌, ℕ, zero, suc, ◌+◌, ◌≤◌, ◌<◌, List, [], ◌∷◌, ◌++◌, inl, inr, length, refl, sym, ap, subst, ◌∙◌, append_assoc, append-nil, length-append, arith}
 use Rattle.std.specs.List.{All, slice_index_or}
-use Rattle.dns_io.specs.Edge.{Rose}
-use Rattle.dns_command.specs.ServingParts.{AnyFault}
+use Rattle.dns_io.specs.Told.{Rose}
+use Rattle.dns_ports.specs.Ports.{CountsPort}
+use Rattle.dns_command.specs.Hubs.{AnyFault}
 
 -- an item moved from what is left to what was handed over
 pub one_more : {X : Type 0} (done left rest all : List X) (x : X) → done ++ left ≡ all → left ≡ x ∷ rest → (done ++ x ∷ []) ++ rest ≡ all
@@ -46,4 +47,26 @@ pub rose_more : {P : Type 0} (faults : P → ℕ) (ports : List P) (port : P) (f
 rose_more faults ports port first before after so_far h k raised any = elim (any_more faults ports port any) [
   | inl a ↦ let r = so_far a in omega (arith, r, k)
   | inr b ↦ let r = raised b in omega (arith, r, h)
+]
+
+any_before : {P : Type 0} (faults : P → ℕ) (ports : List P) (port : P) → AnyFault faults ports → AnyFault faults (ports ++ port ∷ [])
+any_before faults [] port any = absurd any
+any_before faults (x ∷ xs) port (inl h) = inl h
+any_before faults (x ∷ xs) port (inr any) = inr (any_before faults xs port any)
+
+any_last : {P : Type 0} (faults : P → ℕ) (ports : List P) (port : P) → 0 < faults port → AnyFault faults (ports ++ port ∷ [])
+any_last faults [] port h = inl h
+any_last faults (x ∷ xs) port h = inr (any_last faults xs port h)
+
+zero_or_more : (n : ℕ) → (n ≡ 0) ⊎ (0 < n)
+zero_or_more zero = inl refl
+zero_or_more (suc n) = inr (omega arith)
+
+-- the hub's count is what it was at first, or one of the ports so far has a fault
+pub calm_more : {P : Type 0} (faults : P → ℕ) (ports : List P) (port : P) (first before after : ℕ) → (before ≡ first) ⊎ AnyFault faults ports → CountsPort (faults port) before after
+    → (after ≡ first) ⊎ AnyFault faults (ports ++ port ∷ [])
+calm_more faults ports port first before after (inr any) counts = inr (any_before faults ports port any)
+calm_more faults ports port first before after (inl calm) counts = elim (zero_or_more (faults port)) [
+  | inl none ↦ inl (counts.calm none ∙ calm)
+  | inr some ↦ inr (any_last faults ports port some)
 ]

@@ -1,116 +1,176 @@
 -- What serving comes to, by what its parts did.
-use Rattle.std.proofs.Common.{◌≡◌, ◌⊎◌, ℕ, suc, ◌+◌, ◌≤◌, ◌<◌, List, [], ◌∷◌, ◌++◌, inl, inr, length, Option, Some, None, refl, sym, ap, subst, ◌∙◌, append-nil, arith}
+use Rattle.std.proofs.Common.{◌≡◌, ◌⊎◌, ℕ, suc, ◌+◌, ◌≤◌, ◌<◌, List, [], ◌∷◌, ◌++◌, inl, inr, length, Option, Some, None, refl, sym, ap, subst, ◌∙◌, append-nil, append_assoc, arith}
 use Rattle.std.specs.List.{AllByRecursion}
-use Rattle.dns_io.specs.Around.{Around}
-use Rattle.dns_io.specs.Edge.{Rose}
+use Rattle.dns_io.specs.Told.{Rose, Grows}
 use Rattle.dns_io.proofs.ToldContents.{Keeps-more, Grows-more, Grows-Keeps, Keeps-Grows}
+use Rattle.dns_edges.specs.Edges.{Around, SourceTold}
 use Rattle.dns_keeper.specs.declared.row.Row.{Row}
 use Rattle.dns_book.specs.Access.{Access}
 use Rattle.dns_book.specs.Book.{SeenOf}
 use Rattle.dns_ports.specs.declared.hub.Opening.{Opening}
-use Rattle.dns_ports.specs.Ports.{IsFresh}
+use Rattle.dns_ports.specs.Ports.{UdpTold, TcpTold, HubTold, IsFreshSocket, IsFreshListener}
 use Rattle.dns_ticket_lock.specs.declared.view.Terms.{Terms}
 use Rattle.dns_ticket_lock.specs.Naming.{terms_at}
-use Rattle.dns_ticket_lock.specs.Passes.{BookSeen, PassSeen, ArePasses, ClosedFor}
+use Rattle.dns_ticket_lock.specs.Passes.{BookSeen, PassSeen, AreNew, AreAll, ArePasses, ClosedFor}
 use Rattle.dns_server.specs.declared.worker.Worker.{Worker}
-use Rattle.dns_server.specs.Sockets.{IsAtEnd}
-use Rattle.dns_server.specs.Servers.{ServerSeen, IsServer, Matches, MatchesOnce, RoseAt, IsDone, all_passes, their_passes, their_ports}
+use Rattle.dns_server.specs.Servers.{ServerSeen, IsServer, Matches, MatchesOnce, RoseAt, IsDone, IsReadOut, all_passes, their_passes, their_ports}
 use Rattle.dns_command.specs.declared.status.Status.{Status}
 use Rattle.dns_command.specs.declared.status.Status.TheVariants as status
 use Rattle.dns_command.specs.declared.listening_words.Listening.{Listening}
 use Rattle.dns_command.specs.declared.listening_words.Service.{Service}
 use Rattle.dns_command.specs.CommandLine.{access_of}
 use Rattle.dns_command.specs.ListeningWords.{sockets_of, listeners_of, seats_of}
-use Rattle.dns_command.specs.Hubs.{HubAround, around_hub, HasAllBack, OfSocket, OfListener}
-use Rattle.dns_command.specs.Serving.{IsPortCause, IsNewWorker, IsNewCrew, Crew, passes_of, openings_of, ServesSocket, ServesListener, WorksToItsEnd, ServesPorts}
-use Rattle.dns_command.specs.ServingParts.{IsManned, IsSameServer, Registers, OpensAll, HasFaultyPort, IsCauseSoFar, TakesBack, emptied, ReadsUntil, ServesWell, ServesBook, ServesNot, closed}
-use Rattle.dns_command.proofs.Crews.{matches_length, fault_found}
+use Rattle.dns_words.specs.Writing.{IsUntouched}
+use Rattle.dns_command.specs.Hubs.{Meanings, HasAllBack, TakesFaulty}
+use Rattle.dns_command.specs.Serving.{IsPortCause, IsNewWorker, IsNewCrew, Crew, passes_of, openings_of, ServesSocket, ServesListener, Works, WorksToItsEnd, ServesPorts, SharesPasses, ClosedForAll, MayBeRead}
+use Rattle.dns_command.specs.ServingParts.{IsManned, IsSameServer, Registers, OpensAll, HasFaultyPort, HasCrew, IsOpenCause, IsCauseSoFar, TakesBack, crew_of, emptied, ServesWell, ServesBook, LeavesBook}
+use Rattle.dns_command.proofs.Crews.{matches_length, fault_found, over, EndsWith-kept, EndsWith-then}
 
 no_items : {X : Type 0} (xs : List X) → length xs ≡ 0 → xs ≡ []
 no_items [] e = refl
 no_items (x ∷ xs) e = absurd cc
 
 -- a new server's passes are all free
-pub new_server : {U T : Type 0} (F : U → Type 0) (G : T → Type 0) (limit : ℕ) (s : ServerSeen U T) → ArePasses s.book s.free → s.sockets ≡ [] → s.listeners ≡ [] → IsManned F G limit s
+pub new_server : {U T R W C : Type 0} (F : U → UdpTold) (G : T → TcpTold R W C) (limit : ℕ) (s : ServerSeen U T) → ArePasses s.book s.free → s.sockets ≡ [] → s.listeners ≡ [] → IsManned F G limit s
 new_server {U} {T} F G limit s passes none_s none_l = record {
   free = passes.new;
   seats = let a = passes.many in let b = ap length none_s in let c = ap length none_l in omega (arith, a, b, c);
-  sockets = subst (λ (l : List (Worker U)). AllByRecursion (IsNewWorker s.book.terms 0 F) l) (sym none_s) tt;
-  listeners = subst (λ (l : List (Worker T)). AllByRecursion (IsNewWorker s.book.terms limit G) l) (sym none_l) tt;
+  sockets = subst (λ (l : List (Worker U)). AllByRecursion (IsNewWorker s.book.terms 0 (λ p. IsFreshSocket (F p))) l) (sym none_s) tt;
+  listeners = subst (λ (l : List (Worker T)). AllByRecursion (IsNewWorker s.book.terms limit (λ p. IsFreshListener (G p))) l) (sym none_l) tt;
 }
 
-module _ {K U T R W C : Type 0} (rows : K → Option (List Row)) (faults : K → ℕ) (of_socket : OfSocket U) (of_listener : OfListener T R W C) where
+module _ {K U T R W C : Type 0} (m : Meanings K U T R W C) where
   abbrev FreshSocket : U → Type 0
-  FreshSocket port = IsFresh of_socket.received of_socket.taken of_socket.faults port
+  FreshSocket port = IsFreshSocket (m.socket port)
 
   abbrev FreshListener : T → Type 0
-  FreshListener port = IsFresh of_listener.accepted of_listener.ended of_listener.faults port
+  FreshListener port = IsFreshListener (m.listener.told port)
 
   -- the ports were opened, and served well
-  pub served_well : (hub : HubAround U T) (until : Around (List ℕ)) (listening : Listening) (s0 s1 s2 : ServerSeen U T)
+  pub served_well : (hub : Around (HubTold U T)) (until : Around SourceTold) (listening : Listening) (s0 s1 s2 : ServerSeen U T)
       → s0.sockets ≡ [] → s0.listeners ≡ [] → s0.book.terms.seats ≡ seats_of listening
-      → IsManned FreshSocket FreshListener listening.limit s1 → IsSameServer s0 s1
+      → IsManned m.socket m.listener.told listening.limit s1 → IsSameServer s0 s1
       → length s1.sockets ≡ length s0.sockets + sockets_of listening → length s1.listeners ≡ length s0.listeners + listeners_of listening
-      → IsServer s1 s2 → Matches (ServesSocket rows faults of_socket of_listener s1.access) s1.sockets s2.sockets → Matches (ServesListener rows faults of_socket of_listener s1.access) s1.listeners s2.listeners
+      → IsServer s1 s2 → Matches (ServesSocket m s1.access) s1.sockets s2.sockets → Matches (ServesListener m s1.access) s1.listeners s2.listeners
       → AllByRecursion IsDone s2.sockets → AllByRecursion IsDone s2.listeners
-      → OpensAll hub (openings_of listening) → IsAtEnd until.after ⊎ Rose until.faults_before until.faults_after
-      → ServesWell rows faults of_socket of_listener hub until listening s0 s2
-  served_well hub until listening s0 s1 s2 none_s none_l seats m same count_s count_l server matched_s matched_l done_s done_l opens read =
+      → OpensAll hub (openings_of listening) → IsReadOut until
+      → ServesWell m hub until listening s0 s2
+  served_well hub until listening s0 s1 s2 none_s none_l seats manned same count_s count_l server matched_s matched_l done_s done_l opens read =
       let zs = ap length none_s in
       let zl = ap length none_l in
       record {
-        crew = record { sockets = s1.sockets; listeners = s1.listeners };
+        crew = crew_of s1;
         new = record {
           socket_count = omega (arith, zs, count_s);
           listener_count = omega (arith, zl, count_l);
-          new_sockets = subst (λ (b : BookSeen). AllByRecursion (IsNewWorker b.terms 0 FreshSocket) s1.sockets) same.book m.sockets;
-          new_listeners = subst (λ (b : BookSeen). AllByRecursion (IsNewWorker b.terms listening.limit FreshListener) s1.listeners) same.book m.listeners;
+          new_sockets = subst (λ (b : BookSeen). AllByRecursion (IsNewWorker b.terms 0 FreshSocket) s1.sockets) same.book manned.sockets;
+          new_listeners = subst (λ (b : BookSeen). AllByRecursion (IsNewWorker b.terms listening.limit FreshListener) s1.listeners) same.book manned.listeners;
         };
         worked = record {
-          sockets = subst (λ (a : Access). Matches (ServesSocket rows faults of_socket of_listener a) s1.sockets s2.sockets) same.access matched_s;
-          listeners = subst (λ (a : Access). Matches (ServesListener rows faults of_socket of_listener a) s1.listeners s2.listeners) same.access matched_l;
+          sockets = subst (λ (a : Access). Matches (ServesSocket m a) s1.sockets s2.sockets) same.access matched_s;
+          listeners = subst (λ (a : Access). Matches (ServesListener m a) s1.listeners s2.listeners) same.access matched_l;
           sockets_done = done_s;
           listeners_done = done_l;
         };
-        free = server.free ∙ no_items s1.free (let q = m.seats in let b = ap (λ (x : BookSeen). x.terms.seats) same.book in omega (arith, zs, zl, count_s, count_l, seats, q, b));
+        free = server.free ∙ no_items s1.free (let q = manned.seats in let b = ap (λ (x : BookSeen). x.terms.seats) same.book in omega (arith, zs, zl, count_s, count_l, seats, q, b));
         opens = opens;
-        read = record { end = read };
+        read = read;
       }
 
+  -- the workers that were taken on, with these passes of no worker
+  shared_by : (limit : ℕ) (s0 s1 : ServerSeen U T) (after : Crew U T) (free : List PassSeen) → IsManned m.socket m.listener.told limit s1 → IsSameServer s0 s1 → free ≡ s1.free
+      → (after ≡ crew_of s1) ⊎ Works m s0.access (crew_of s1) after → SharesPasses m s0.book.terms limit s0.access (crew_of s1) after free
+  shared_by limit s0 s1 after free manned same is worked = record {
+    many = let a = manned.seats in let b = ap (λ (x : BookSeen). x.terms.seats) same.book in let c = ap length is in omega (arith, a, b, c);
+    new_sockets = subst (λ (b : BookSeen). AllByRecursion (IsNewWorker b.terms 0 FreshSocket) s1.sockets) same.book manned.sockets;
+    new_listeners = subst (λ (b : BookSeen). AllByRecursion (IsNewWorker b.terms limit FreshListener) s1.listeners) same.book manned.listeners;
+    new_free = subst (λ (b : BookSeen). AreNew b.terms free) same.book (subst (λ (l : List PassSeen). AreNew s1.book.terms l) (sym is) manned.free);
+    worked = worked;
+  }
+
+  -- ports were not all opened
+  pub crew_unused : (limit : ℕ) (s0 s1 : ServerSeen U T) → IsManned m.socket m.listener.told limit s1 → IsSameServer s0 s1 → HasCrew m limit s0 s1
+  crew_unused limit s0 s1 manned same = record { opened = crew_of s1; shared = shared_by limit s0 s1 (crew_of s1) s1.free manned same refl (inl refl) }
+
+  -- they were, and served
+  pub crew_served : (limit : ℕ) (s0 s1 s2 : ServerSeen U T) → IsManned m.socket m.listener.told limit s1 → IsSameServer s0 s1 → IsServer s1 s2
+      → Matches (ServesSocket m s1.access) s1.sockets s2.sockets → Matches (ServesListener m s1.access) s1.listeners s2.listeners → HasCrew m limit s0 s2
+  crew_served limit s0 s1 s2 manned same server matched_s matched_l = record {
+    opened = crew_of s1;
+    shared = shared_by limit s0 s1 (crew_of s2) s2.free manned same server.free (inr (record {
+      sockets = subst (λ (a : Access). Matches (ServesSocket m a) s1.sockets s2.sockets) same.access matched_s;
+      listeners = subst (λ (a : Access). Matches (ServesListener m a) s1.listeners s2.listeners) same.access matched_l;
+    }));
+  }
+
+  abbrev Faulty : ServerSeen U T → Type 0
+  Faulty s = HasFaultyPort m.socket m.listener.told s
+
   -- and the ports handed back
-  module _ {H : Type 0} (opened : H → Option (List Opening)) (sockets : H → Option (List U)) (listeners : H → Option (List T)) (sockets_out listeners_out hub_faults : H → ℕ) where
-    abbrev hub_around : H → H → HubAround U T
-    hub_around a b = around_hub opened sockets listeners sockets_out listeners_out hub_faults a b
+  counted_back : (a b c : HubTold U T) (s2 : ServerSeen U T) → (Faulty s2 → TakesFaulty m (over a c) (their_ports s2.sockets) (their_ports s2.listeners))
+      → b.faults ≡ a.faults → (c.faults ≡ b.faults) ⊎ Faulty s2 → (c.faults ≡ a.faults) ⊎ TakesFaulty m (over a c) (their_ports s2.sockets) (their_ports s2.listeners)
+  counted_back a b c s2 taken calm (inl same) = inl (same ∙ calm)
+  counted_back a b c s2 taken calm (inr faulty) = inr (taken faulty)
 
-    pub served_ports : (a b c : H) (until : Around (List ℕ)) (listening : Listening) (s0 s2 : ServerSeen U T) (IsFaulty : Type 0)
-        → (w : ServesWell rows faults of_socket of_listener (hub_around a b) until listening s0 s2) → TakesBack (hub_around b c) s2 IsFaulty
-        → ServesPorts rows faults of_socket of_listener (hub_around a c) listening s0.book.terms s0.access w.crew (record { sockets = s2.sockets; listeners = s2.listeners })
-    served_ports a b c until listening s0 s2 IsFaulty w back = record {
-      opened = Grows-Keeps (opened a) (opened b) (opened c) (openings_of listening) w.opens.opened back.opened;
-      new = w.new;
-      worked = w.worked;
-      sockets_back = Keeps-Grows (sockets a) (sockets b) (sockets c) (their_ports s2.sockets) w.opens.sockets back.sockets;
-      listeners_back = Keeps-Grows (listeners a) (listeners b) (listeners c) (their_ports s2.listeners) w.opens.listeners back.listeners;
-    }
+  pub served_ports : (a b c : HubTold U T) (until : Around SourceTold) (listening : Listening) (s0 s2 : ServerSeen U T)
+      → (w : ServesWell m (over a b) until listening s0 s2) → TakesBack (over b c) s2 (Faulty s2)
+      → ServesPorts m (over a c) listening s0.book.terms s0.access w.crew (crew_of s2)
+  served_ports a b c until listening s0 s2 w back = record {
+    opened = Grows-Keeps a.openings b.openings c.openings (openings_of listening) w.opens.opened back.opened;
+    new = w.new;
+    worked = w.worked;
+    sockets_back = Keeps-Grows a.closed_udp b.closed_udp c.closed_udp (their_ports s2.sockets) w.opens.sockets back.sockets;
+    listeners_back = Keeps-Grows a.closed_tcp b.closed_tcp c.closed_tcp (their_ports s2.listeners) w.opens.listeners back.listeners;
+    counted = counted_back a b c s2
+        (λ faulty. record {
+          sockets_back = EndsWith-then a.closed_udp b.closed_udp c.closed_udp (their_ports s2.sockets) (EndsWith-kept a.closed_udp b.closed_udp w.opens.sockets) back.sockets;
+          listeners_back = EndsWith-then a.closed_tcp b.closed_tcp c.closed_tcp (their_ports s2.listeners) (EndsWith-kept a.closed_tcp b.closed_tcp w.opens.listeners) back.listeners;
+          faulty = faulty;
+        })
+        w.opens.faults back.calm;
+  }
 
-    -- the hub has all back
-    pub all_back : (a b c : H) (s0 s2 : ServerSeen U T) (IsFaulty : Type 0) → s0.sockets ≡ [] → s0.listeners ≡ [] → Registers (hub_around a b) s0 s2 → TakesBack (hub_around b c) s2 IsFaulty → HasAllBack (hub_around a c)
-    all_back a b c s0 s2 IsFaulty none_s none_l registers back = record {
-      sockets = let x = registers.sockets in let y = back.sockets_out in let z = ap length none_s in omega (arith, x, y, z);
-      listeners = let x = registers.listeners in let y = back.listeners_out in let z = ap length none_l in omega (arith, x, y, z);
-    }
+  -- a port that was taken back has a fault
+  taken_faulty : (a b c : HubTold U T) (s0 s2 : ServerSeen U T) → Registers (over a b) s0 s2 → TakesBack (over b c) s2 (Faulty s2) → Faulty s2 → TakesFaulty m (over a c) (their_ports s2.sockets) (their_ports s2.listeners)
+  taken_faulty a b c s0 s2 registers back faulty = record {
+    sockets_back = EndsWith-then a.closed_udp b.closed_udp c.closed_udp (their_ports s2.sockets) registers.sockets_back back.sockets;
+    listeners_back = EndsWith-then a.closed_tcp b.closed_tcp c.closed_tcp (their_ports s2.listeners) registers.listeners_back back.listeners;
+    faulty = faulty;
+  }
 
-  -- the passes of a server whose ports were all handed back
-  pub passes_left : (s2 : ServerSeen U T) → s2.free ≡ [] → all_passes (emptied s2) ≡ passes_of (record { sockets = s2.sockets; listeners = s2.listeners })
-  passes_left s2 none =
-      append-nil ((s2.free ++ their_passes s2.sockets) ++ their_passes s2.listeners)
-      ∙ ap (λ (l : List PassSeen). (l ++ their_passes s2.sockets) ++ their_passes s2.listeners) none
+  -- at the end the hub's count rose, where a port that it took back had a fault, and only there
+  cause_at_end : (a b c : HubTold U T) (s0 s2 : ServerSeen U T) (s : Status) → Registers (over a b) s0 s2 → TakesBack (over b c) s2 (Faulty s2) → IsCauseSoFar a.faults b.faults (Faulty s2) s
+      → IsPortCause m (over a c) (their_ports s2.sockets) (their_ports s2.listeners) s
+  cause_at_end a b c s0 s2 status.PortFault registers back (inl rose) = let k = back.later in omega (arith, k, rose)
+  cause_at_end a b c s0 s2 status.PortFault registers back (inr faulty) = let h = registers.later in let rose = back.raised faulty in omega (arith, h, rose)
+  cause_at_end a b c s0 s2 status.OutOfMemory registers back calm = counted_back a b c s2 (taken_faulty a b c s0 s2 registers back) calm back.calm
+  cause_at_end a b c s0 s2 status.Ok registers back cause = absurd cause
+  cause_at_end a b c s0 s2 status.Usage registers back cause = absurd cause
+  cause_at_end a b c s0 s2 (status.ZoneText line kind) registers back cause = absurd cause
+  cause_at_end a b c s0 s2 (status.EventLine line) registers back cause = absurd cause
+  cause_at_end a b c s0 s2 status.NotValid registers back cause = absurd cause
+  cause_at_end a b c s0 s2 (status.Recovery row kind) registers back cause = absurd cause
+  cause_at_end a b c s0 s2 status.ReadFault registers back cause = absurd cause
+  cause_at_end a b c s0 s2 status.WriteFault registers back cause = absurd cause
+  cause_at_end a b c s0 s2 status.KeeperFault registers back cause = absurd cause
+  cause_at_end a b c s0 s2 status.TooLong registers back cause = absurd cause
+
+-- the hub has all back
+pub all_back : {U T : Type 0} (a b c : HubTold U T) (s0 s2 : ServerSeen U T) (IsFaulty : Type 0) → s0.sockets ≡ [] → s0.listeners ≡ [] → Registers (over a b) s0 s2 → TakesBack (over b c) s2 IsFaulty → HasAllBack (over a c)
+all_back a b c s0 s2 IsFaulty none_s none_l registers back = record {
+  sockets = let x = registers.sockets in let y = back.sockets_out in let z = ap length none_s in omega (arith, x, y, z);
+  listeners = let x = registers.listeners in let y = back.listeners_out in let z = ap length none_l in omega (arith, x, y, z);
+}
+
+-- the passes of a server whose ports were all handed back
+passes_back : {U T : Type 0} (s2 : ServerSeen U T) → all_passes (emptied s2) ≡ s2.free ++ passes_of (crew_of s2)
+passes_back s2 = append-nil ((s2.free ++ their_passes s2.sockets) ++ their_passes s2.listeners) ∙ append_assoc s2.free (their_passes s2.sockets) (their_passes s2.listeners)
 
 -- ---- why it ended before its time
 
-pub cause_so_far : (before now : ℕ) (F : Type 0) (s : Status) → IsPortCause before now s → IsCauseSoFar before now F s
+pub cause_so_far : (before now : ℕ) (F : Type 0) (s : Status) → IsOpenCause before now s → IsCauseSoFar before now F s
 cause_so_far before now F status.PortFault c = inl c
-cause_so_far before now F status.OutOfMemory c = tt
+cause_so_far before now F status.OutOfMemory c = c
 cause_so_far before now F status.Ok c = absurd c
 cause_so_far before now F status.Usage c = absurd c
 cause_so_far before now F (status.ZoneText line kind) c = absurd c
@@ -122,66 +182,70 @@ cause_so_far before now F status.WriteFault c = absurd c
 cause_so_far before now F status.KeeperFault c = absurd c
 cause_so_far before now F status.TooLong c = absurd c
 
--- at the end the hub's count rose, where a port that it took back had a fault
-pub cause_at_end : (before now later : ℕ) (F : Type 0) (s : Status) → before ≤ now → now ≤ later → (F → Rose now later) → IsCauseSoFar before now F s → IsPortCause before later s
-cause_at_end before now later F status.PortFault h k raised (inl rose) = omega (arith, k, rose)
-cause_at_end before now later F status.PortFault h k raised (inr faulty) = let rose = raised faulty in omega (arith, h, rose)
-cause_at_end before now later F status.OutOfMemory h k raised c = tt
-cause_at_end before now later F status.Ok h k raised c = absurd c
-cause_at_end before now later F status.Usage h k raised c = absurd c
-cause_at_end before now later F (status.ZoneText line kind) h k raised c = absurd c
-cause_at_end before now later F (status.EventLine line) h k raised c = absurd c
-cause_at_end before now later F status.NotValid h k raised c = absurd c
-cause_at_end before now later F (status.Recovery row kind) h k raised c = absurd c
-cause_at_end before now later F status.ReadFault h k raised c = absurd c
-cause_at_end before now later F status.WriteFault h k raised c = absurd c
-cause_at_end before now later F status.KeeperFault h k raised c = absurd c
-cause_at_end before now later F status.TooLong h k raised c = absurd c
-
 -- a count rose at a port that was new
-pub faulty_port : {U T : Type 0} (F : U → Type 0) (G : T → Type 0) (limit : ℕ) (socket_faults : U → ℕ) (listener_faults : T → ℕ) (s1 s2 : ServerSeen U T)
-    → ((port : U) → F port → socket_faults port ≡ 0) → ((port : T) → G port → listener_faults port ≡ 0) → IsManned F G limit s1
-    → MatchesOnce (RoseAt socket_faults) s1.sockets s2.sockets ⊎ MatchesOnce (RoseAt listener_faults) s1.listeners s2.listeners → HasFaultyPort socket_faults listener_faults s2
-faulty_port F G limit socket_faults listener_faults s1 s2 none_s none_l m (inl once) = inl (fault_found s1.book.terms 0 F socket_faults none_s s1.sockets s2.sockets m.sockets once)
-faulty_port F G limit socket_faults listener_faults s1 s2 none_s none_l m (inr once) = inr (fault_found s1.book.terms limit G listener_faults none_l s1.listeners s2.listeners m.listeners once)
+pub faulty_port : {U T R W C : Type 0} (F : U → UdpTold) (G : T → TcpTold R W C) (limit : ℕ) (s1 s2 : ServerSeen U T) → IsManned F G limit s1
+    → MatchesOnce (RoseAt (λ port. (F port).faults)) s1.sockets s2.sockets ⊎ MatchesOnce (RoseAt (λ port. (G port).faults)) s1.listeners s2.listeners → HasFaultyPort F G s2
+faulty_port F G limit s1 s2 manned (inl once) =
+    inl (fault_found s1.book.terms 0 (λ p. IsFreshSocket (F p)) (λ p. (F p).faults) (λ port f. f.no_fault) s1.sockets s2.sockets manned.sockets once)
+faulty_port F G limit s1 s2 manned (inr once) =
+    inr (fault_found s1.book.terms limit (λ p. IsFreshListener (G p)) (λ p. (G p).faults) (λ port f. f.no_fault) s1.listeners s2.listeners manned.listeners once)
 
 -- serving opens no port
-pub registers_served : {U T : Type 0} (hub : HubAround U T) (s0 s1 s2 : ServerSeen U T) (R : Worker U → Worker U → Type 0) (S : Worker T → Worker T → Type 0) → Registers hub s0 s1 → IsServer s1 s2
-    → Matches R s1.sockets s2.sockets → Matches S s1.listeners s2.listeners → Registers hub s0 s2
-registers_served hub s0 s1 s2 R S registers server ms ml = record {
+pub registers_served : {U T : Type 0} (a b : HubTold U T) (s0 s1 s2 : ServerSeen U T) (R : Worker U → Worker U → Type 0) (S : Worker T → Worker T → Type 0) → Registers (over a b) s0 s1 → IsServer s1 s2
+    → Matches R s1.sockets s2.sockets → Matches S s1.listeners s2.listeners → Registers (over a b) s0 s2
+registers_served a b s0 s1 s2 R S registers server ms ml = record {
   same = record { book = server.book ∙ registers.same.book; access = server.access ∙ registers.same.access };
   sockets = let x = registers.sockets in let y = matches_length R s1.sockets s2.sockets ms in omega (arith, x, y);
   listeners = let x = registers.listeners in let y = matches_length S s1.listeners s2.listeners ml in omega (arith, x, y);
+  sockets_back = registers.sockets_back;
+  listeners_back = registers.listeners_back;
   later = registers.later;
 }
 
 -- ---- the book, from its sharing to its closing
 
-module _ {K U T R W C H : Type 0} (rows : K → Option (List Row)) (faults : K → ℕ) (of_socket : OfSocket U) (of_listener : OfListener T R W C)
-    (opened : H → Option (List Opening)) (sockets : H → Option (List U)) (listeners : H → Option (List T)) (sockets_out listeners_out hub_faults : H → ℕ) (a b c : H) (until : Around (List ℕ)) (service : Service) (first last : SeenOf K)
-    (s0 s2 : ServerSeen U T) (IsFaulty : Type 0) (terms : s0.book.terms ≡ terms_at rows faults first (seats_of service.listening)) (registers : Registers (around_hub opened sockets listeners sockets_out listeners_out hub_faults a b) s0 s2)
-    (back : TakesBack (around_hub opened sockets listeners sockets_out listeners_out hub_faults b c) s2 IsFaulty) (closed_for : ClosedFor rows faults s2.book.terms (all_passes (emptied s2)) last) where
-  abbrev hub_over : HubAround U T
-  hub_over = around_hub opened sockets listeners sockets_out listeners_out hub_faults a c
+module _ {K U T R W C : Type 0} (m : Meanings K U T R W C) (a b c : HubTold U T) (until : Around SourceTold) (service : Service) (first last : SeenOf K) (s0 s2 : ServerSeen U T)
+    (terms : s0.book.terms ≡ terms_at m.rows m.faults first (seats_of service.listening)) (let_in : s0.access ≡ access_of service.options) (registers : Registers (over a b) s0 s2)
+    (back : TakesBack (over b c) s2 (HasFaultyPort m.socket m.listener.told s2))
+    (all : AreAll s2.book.id s2.book.terms.seats (all_passes (emptied s2))) (closed_for : ClosedFor m.rows m.faults s2.book.terms (all_passes (emptied s2)) last) where
+  abbrev terms_now : Terms
+  terms_now = terms_at m.rows m.faults first (seats_of service.listening)
+
+  same_terms : s2.book.terms ≡ terms_now
+  same_terms = ap (λ (x : BookSeen). x.terms) registers.same.book ∙ terms
 
   -- the terms are those of the book that was shared
-  closed_with : (passes : List PassSeen) → all_passes (emptied s2) ≡ passes → ClosedFor rows faults (terms_at rows faults first (seats_of service.listening)) passes last
-  closed_with passes is =
-      let same : s2.book.terms ≡ terms_at rows faults first (seats_of service.listening) = ap (λ (x : BookSeen). x.terms) registers.same.book ∙ terms in
-      subst (λ (t : Terms). ClosedFor rows faults t passes last) same (subst (λ (l : List PassSeen). ClosedFor rows faults s2.book.terms l last) is closed_for)
+  closed_with : (passes : List PassSeen) → all_passes (emptied s2) ≡ passes → ClosedForAll m terms_now passes last
+  closed_with passes is = subst (λ (t : Terms). ClosedForAll m t passes last) same_terms
+      (subst (λ (l : List PassSeen). ClosedForAll m s2.book.terms l last) is (record { book = s2.book.id; all = all; closed = closed_for }))
 
-  pub serves_book : s0.access ≡ access_of service.options → ServesWell rows faults of_socket of_listener (around_hub opened sockets listeners sockets_out listeners_out hub_faults a b) until service.listening s0 s2
-      → ServesBook rows faults of_socket of_listener hub_over until service first last
-  serves_book let_in w = record {
+  pub serves_book : ServesWell m (over a b) until service.listening s0 s2 → ServesBook m (over a c) until service first last
+  serves_book w = record {
     opened = w.crew;
-    crew = record { sockets = s2.sockets; listeners = s2.listeners };
+    crew = crew_of s2;
     ports =
-        subst (λ (t : Terms). ServesPorts rows faults of_socket of_listener hub_over service.listening t (access_of service.options) w.crew (record { sockets = s2.sockets; listeners = s2.listeners })) terms
-        (subst (λ (x : Access). ServesPorts rows faults of_socket of_listener hub_over service.listening s0.book.terms x w.crew (record { sockets = s2.sockets; listeners = s2.listeners })) let_in
-        (served_ports rows faults of_socket of_listener opened sockets listeners sockets_out listeners_out hub_faults a b c until service.listening s0 s2 IsFaulty w back));
+        subst (λ (t : Terms). ServesPorts m (over a c) service.listening t (access_of service.options) w.crew (crew_of s2)) terms
+        (subst (λ (x : Access). ServesPorts m (over a c) service.listening s0.book.terms x w.crew (crew_of s2)) let_in
+        (served_ports m a b c until service.listening s0 s2 w back));
     read = w.read;
-    closed = closed_with _ (passes_left rows faults of_socket of_listener s2 w.free);
+    closed = closed_with _ (passes_back s2 ∙ ap (λ (l : List PassSeen). l ++ passes_of (crew_of s2)) w.free);
   }
 
-  pub serves_book_not : (s : Status) (left : K) → last.keeper ≡ left → IsCauseSoFar (hub_faults a) (hub_faults b) IsFaulty s → ServesNot rows faults of_socket of_listener hub_over until service first s left
-  serves_book_not s left is cause = closed (all_passes (emptied s2)) last (closed_with _ refl) is (cause_at_end (hub_faults a) (hub_faults b) (hub_faults c) IsFaulty s registers.later back.later back.raised cause)
+  -- the ports of the words are opened still
+  may_be_read : MayBeRead until (over a b) service.listening → MayBeRead until (over a c) service.listening
+  may_be_read (inl same) = inl same
+  may_be_read (inr opened) = inr (Grows-Keeps a.openings b.openings c.openings (openings_of service.listening) opened back.opened)
+
+  pub leaves_book : (s : Status) → HasCrew m service.listening.limit s0 s2 → MayBeRead until (over a b) service.listening
+      → IsCauseSoFar a.faults b.faults (HasFaultyPort m.socket m.listener.told s2) s → LeavesBook m (over a c) until service first s last
+  leaves_book s crew read cause = record {
+    opened = crew.opened;
+    crew = crew_of s2;
+    free = s2.free;
+    shared =
+        subst (λ (t : Terms). SharesPasses m t service.listening.limit (access_of service.options) crew.opened (crew_of s2) s2.free) terms
+        (subst (λ (x : Access). SharesPasses m s0.book.terms service.listening.limit x crew.opened (crew_of s2) s2.free) let_in crew.shared);
+    read = may_be_read read;
+    closed = closed_with _ (passes_back s2);
+    cause = cause_at_end m a b c s0 s2 s registers back cause;
+  }

@@ -1,6 +1,6 @@
 -- What a server's run over messages leaves of a book.
 use Rattle.std.proofs.Common.{◌≡◌, ℕ, List, [], ◌∷◌, ◌⊎◌, inl, inr, Option, refl, sym, ap, subst, ◌∙◌, take}
-use Rattle.dns_io.specs.Edge.{NeverBegins, Keeps}
+use Rattle.dns_io.specs.Told.{NeverBegins, Keeps}
 use Rattle.dns_io.proofs.ToldContents.{Keeps-same}
 use Rattle.dns_wire.specs.declared.record.Record.{Record}
 use Rattle.dns_keeper.specs.declared.row.Row.{Row}

@@ -1,6 +1,6 @@
 -- What a journal tells, over several calls.
 use Rattle.std.proofs.Common.{◌≡◌, ◌≢◌, ℕ, ℤ, ◌≤◌, List, [], ◌∷◌, Option, Some, None, Err, refl, sym, subst, ◌∙◌, arith}
-use Rattle.dns_io.specs.Edge.{Told, NeverBegins, Rose, Keeps}
+use Rattle.dns_io.specs.Told.{Told, NeverBegins, Rose, Keeps}
 use Rattle.dns_io.proofs.ToldContents.{Told-same, Told-more}
 use Rattle.dns_name.specs.Name.{fold_of}
 use Rattle.dns_wire.specs.declared.record.Record.{Record}

@@ -1,6 +1,6 @@
 -- What keeps the program from its work: nothing but a fault that is named above, and want of memory.
 use Rattle.std.specs.Prelude.{◌≡◌, ◌≤◌, ◌⊎◌, ℕ, List, [], length, Some, None, IsSome, MatchOption, Ok}
-use Rattle.dns_io.specs.Edge.{Rose}
+use Rattle.dns_io.specs.Told.{Rose}
 use Rattle.dns_name.specs.Name.{fold_of}
 use Rattle.dns_wire.specs.declared.record.Record.{Record}
 use Rattle.dns_keeper.specs.declared.row.Row.{Row}
@@ -20,13 +20,13 @@ use Rattle.dns_command.specs.World.{World}
 -- there is a zone of this origin: the journal has no row, and the zone text is a zone's, within its bound; or the journal's rows
 -- stand for one
 pub data HasZone (w : World) (origin : List (List ℕ)) : Type 0 where
-  in_text : (text : List ℕ) (records : List Record) → w.journal.before ≡ Some [] → w.zone.before ≡ Some text → length text ≤ zone_bound → zone_of origin text ≡ Ok records → HasZone w origin
-  in_rows : (rows : List Row) (records : List Record) → w.journal.before ≡ Some rows → Replays (fold_of origin) rows (Ok records) → HasZone w origin
+  in_text : (text : List ℕ) (records : List Record) → w.journal.before.rows ≡ Some [] → w.zone.before.left ≡ Some text → length text ≤ zone_bound → zone_of origin text ≡ Ok records → HasZone w origin
+  in_rows : (rows : List Row) (records : List Record) → w.journal.before.rows ≡ Some rows → Replays (fold_of origin) rows (Ok records) → HasZone w origin
 
 -- the journal can be opened for a zone of this origin: it has no row, or its rows stand for one
 pub data HasJournal (w : World) (origin : List (List ℕ)) : Type 0 where
-  without_rows : w.journal.before ≡ Some [] → HasJournal w origin
-  with_rows : (rows : List Row) (records : List Record) → w.journal.before ≡ Some rows → Replays (fold_of origin) rows (Ok records) → HasJournal w origin
+  without_rows : w.journal.before.rows ≡ Some [] → HasJournal w origin
+  with_rows : (rows : List Row) (records : List Record) → w.journal.before.rows ≡ Some rows → Replays (fold_of origin) rows (Ok records) → HasJournal w origin
 
 -- there is a zone for what the words ask: a drawn list has one of its own
 abbrev pub HasZoneBy : World → Options → Type 0
@@ -36,7 +36,7 @@ HasZoneBy w options = MatchOption options.drawn (HasZone w options.origin) (λ d
 pub record HasEventText (w : World) : Type 0 where
   pub text : List ℕ
   pub events : List Event
-  pub told : w.events.before ≡ Some text
+  pub told : w.events.before.left ≡ Some text
   pub short : length text ≤ event_bound
   pub read : events_of text ≡ Ok events
   pub valid : Valid new_kept events
@@ -47,16 +47,16 @@ HasEvents w options = options.drawn ≡ None → HasEventText w
 
 -- no count of faults rose, nor stands at its last value
 pub record IsFaultless (w : World) : Type 0 where
-  pub zone : Rose w.zone.faults_before w.zone.faults_after → ⊥
-  pub events : Rose w.events.faults_before w.events.faults_after → ⊥
-  pub journal : Rose w.journal.faults_before w.journal.faults_after → ⊥
-  pub output : Rose w.output.faults_before w.output.faults_after → ⊥
+  pub zone : Rose w.zone.before.faults w.zone.after.faults → ⊥
+  pub events : Rose w.events.before.faults w.events.after.faults → ⊥
+  pub journal : Rose w.journal.before.faults w.journal.after.faults → ⊥
+  pub output : Rose w.output.before.faults w.output.after.faults → ⊥
 
 -- what the journal and the texts hold is told at the end, too
 pub record IsTold (w : World) : Type 0 where
-  pub journal : IsSome w.journal.after
-  pub zone : IsSome w.zone.after
-  pub events : IsSome w.events.after
+  pub journal : IsSome w.journal.after.rows
+  pub zone : IsSome w.zone.after.left
+  pub events : IsSome w.events.after.left
 
 -- the words are legal, there is a zone, the events are valid, and no object failed
 pub record IsSound (w : World) : Type 0 where

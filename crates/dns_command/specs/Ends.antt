@@ -1,7 +1,7 @@
 -- What the program does: the replies owed, and no other bytes.
 use Rattle.std.specs.Prelude.{◌≡◌, ◌≢◌, ℕ, List, length, take, Option, Some, None}
 use Rattle.dns_keeper.specs.declared.row.Row.{Row}
-use Rattle.dns_io.specs.Edge.{Keeps, Rose, GrowsByPrefix}
+use Rattle.dns_io.specs.Told.{Keeps, Rose, GrowsByPrefix}
 use Rattle.dns_zone_map.specs.Zone.{serial_of}
 use Rattle.dns_server_core.specs.declared.event.Event.{Event}
 use Rattle.dns_server_core.specs.declared.event.Out.{Out}
@@ -19,7 +19,7 @@ use Rattle.dns_command.specs.declared.command_line.Options.{Options}
 use Rattle.dns_command.specs.CommandLine.{options_of, access_of}
 use Rattle.dns_command.specs.Lines.{lines_by}
 use Rattle.dns_command.specs.Status.{refusal_line}
-use Rattle.dns_words.specs.Writing.{IsUnwritten, IsWritten}
+use Rattle.dns_words.specs.Writing.{IsUntouched, IsWritten}
 use Rattle.dns_command.specs.World.{World}
 use Rattle.dns_command.specs.Steps.{FindsBy, HearsBy, IsRefused}
 
@@ -29,14 +29,16 @@ abbrev pub IsOpened : {K : Type 0} → Option (List Row) → (K → Option (List
 IsOpened before rows options moment (Begin zone) first = book.Begins before rows zone options.allow_update moment first
 IsOpened before rows options moment Recover first = book.Recovers before rows options.origin options.allow_update first
 
--- the words are legal, these are the events of the event text or those that are drawn, and the journal was opened at the clock's
--- last reading
+-- the words are legal, these are the events of the event text or those that are drawn, and the journal was opened at the moment that
+-- the clock was asked for
 pub record Begins {K : Type 0} (rows : K → Option (List Row)) (w : World) (options : Options) (events : List Event) (first : SeenOf K) : Type 0 where
   pub opening : Opening
   pub legal : options_of w.words ≡ Some options
   pub found : FindsBy w.journal w.zone options opening
   pub heard : HearsBy w.events options events
-  pub opened : IsOpened w.journal.before rows options w.moment opening first
+  pub moment : ℕ
+  pub asked : w.moment ≡ Some moment
+  pub opened : IsOpened w.journal.before.rows rows options moment opening first
 
 -- Messages were settled on the journal that was opened: of those that a valid list of events completes, the ones that are
 -- picked. Each message in turn was settled on the zone that the rows then stood for, where the words say who is let in and
@@ -48,7 +50,7 @@ pub record Serves {K : Type 0} (rows : K → Option (List Row)) (faults : K → 
   pub begun : Begins rows w options events first
   pub valid : Valid new_kept events
   pub ran : Run (Settles rows faults (access_of options)) first (picked (done new_kept events)) outs last
-  pub few : RoseBy (failures rows faults (access_of options) first (picked (done new_kept events)) outs last ran) w.journal.faults_before w.journal.faults_after
+  pub few : RoseBy (failures rows faults (access_of options) first (picked (done new_kept events)) outs last ran) w.journal.before.faults w.journal.after.faults
 
 -- the list of events is not valid: the journal was opened, and nothing was settled. It is that of the event text: one that is drawn
 -- is always valid
@@ -59,7 +61,7 @@ pub record Rejects {K : Type 0} (rows : K → Option (List Row)) (w : World) : T
   pub begun : Begins rows w options events first
   pub undrawn : options.drawn ≡ None
   pub invalid : Valid new_kept events → ⊥
-  pub left : rows first.keeper ≡ w.journal.after
+  pub left : rows first.keeper ≡ w.journal.after.rows
 
 abbrev pub all : List Completed → List Completed
 all asks = asks
@@ -71,7 +73,7 @@ pub record Answers {K : Type 0} (rows : K → Option (List Row)) (faults : K →
   pub outs : List Out
   pub last : SeenOf K
   pub served : Serves rows faults w all events outs last
-  pub left : rows last.keeper ≡ w.journal.after
+  pub left : rows last.keeper ≡ w.journal.after.rows
   pub kept : IsKept rows last
   pub text : written ≡ lines_by served.options.drawn outs (serial_of last.zone.records) last.row_count (length (after new_kept events).connections)
 
@@ -82,16 +84,16 @@ pub record Breaks {K : Type 0} (rows : K → Option (List Row)) (faults : K → 
   pub outs : List Out
   pub last : SeenOf K
   pub served : Serves rows faults w (take count) events outs last
-  pub left : Keeps (rows last.keeper) w.journal.after
+  pub left : Keeps (rows last.keeper) w.journal.after.rows
 
 -- the output took a front of this text, where it is told afterwards
 abbrev pub TookFront : World → List ℕ → Type 0
-TookFront w text = (rest : List ℕ) × GrowsByPrefix w.output.before w.output.after text rest
+TookFront w text = (rest : List ℕ) × GrowsByPrefix w.output.before.taken w.output.after.taken text rest
 
 -- a refusal: its cause, and a journal that is as it was
 pub record Refuses (w : World) (s : Status) : Type 0 where
-  pub cause : IsRefused w.words w.zone w.events w.journal s
-  pub kept : Keeps w.journal.before w.journal.after
+  pub cause : IsRefused w.words w.zone w.events w.journal w.moment s
+  pub kept : Keeps w.journal.before.rows w.journal.after.rows
 
 -- Some of the bytes were not written, or not handed on: of the line of a refusal, of the line that says that the list is not
 -- valid, or of the output.
@@ -101,12 +103,12 @@ pub data IsCut {K : Type 0} (rows : K → Option (List Row)) (faults : K → ℕ
   in_answers : (text : List ℕ) → Answers rows faults w text → TookFront w text → IsCut rows faults w
 
 -- What each status means. Status 0 and each status with a line say that the output took all the bytes, and handed on all
--- that it took.
+-- that it took. Status 7 says that the output's count of faults rose, and no other does.
 pub data Ends {K : Type 0} (rows : K → Option (List Row)) (faults : K → ℕ) (w : World) : Status → Type 0 where
   with_answers : (text : List ℕ) → Answers rows faults w text → IsWritten w.output text → Ends rows faults w status.Ok
   with_refusal : {s : Status} → s ≢ status.OutOfMemory → Refuses w s → IsWritten w.output (refusal_line s) → Ends rows faults w s
   with_rejection : Rejects rows w → IsWritten w.output (refusal_line status.NotValid) → Ends rows faults w status.NotValid
-  with_write_fault : Rose w.output.faults_before w.output.faults_after → IsCut rows faults w → Ends rows faults w status.WriteFault
-  cut_for_memory : IsCut rows faults w → Ends rows faults w status.OutOfMemory
-  refused_for_memory : Refuses w status.OutOfMemory → IsUnwritten w.output → Ends rows faults w status.OutOfMemory
-  broken_for_memory : Breaks rows faults w → IsUnwritten w.output → Ends rows faults w status.OutOfMemory
+  with_write_fault : Rose w.output.before.faults w.output.after.faults → IsCut rows faults w → Ends rows faults w status.WriteFault
+  cut_for_memory : w.output.after.faults ≡ w.output.before.faults → IsCut rows faults w → Ends rows faults w status.OutOfMemory
+  refused_for_memory : Refuses w status.OutOfMemory → IsUntouched w.output → Ends rows faults w status.OutOfMemory
+  broken_for_memory : Breaks rows faults w → IsUntouched w.output → Ends rows faults w status.OutOfMemory

@@ -11,6 +11,7 @@ pub mod Ends
 pub mod Example
 pub mod Hubs
 pub mod Serving
+pub mod Counts
 pub mod ServeEnds
 pub mod ServingParts
 pub mod Completeness

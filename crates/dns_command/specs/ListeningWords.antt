@@ -6,7 +6,7 @@ use Rattle.std.specs.Str.{bytes_eq}
 use Rattle.dns_io.specs.declared.peer.Peer.{Peer}
 use Rattle.dns_words.specs.Values.{◌>>=◌, decimal_of, address_of}
 use Rattle.dns_words.specs.Keys.{behind, first_behind}
-use Rattle.dns_command.specs.CommandLine.{is_option, has_no_double, options_behind}
+use Rattle.dns_command.specs.CommandLine.{is_option, has_no_double, options_behind, options_of}
 use Rattle.dns_command.specs.declared.listening_words.Listening.{Listening}
 use Rattle.dns_command.specs.declared.listening_words.Service.{Service}
 
@@ -86,3 +86,7 @@ listeners_of listening = count_at listening.workers listening.tcp
 
 abbrev pub seats_of : Listening → ℕ
 seats_of listening = sockets_of listening + listeners_of listening
+
+-- the words are a command: those of `serve`, or those of `events` or `load`
+abbrev pub is_command : List (List ℕ) → Bool
+is_command words = is_some (service_of words) || is_some (options_of words)

@@ -3,8 +3,8 @@ use Rattle.std.specs.Prelude.{◌≡◌, ◌≤◌, ℕ, List, take, Option, Som
 use Rattle.dns_keeper.specs.declared.row.Row.{Row}
 use Rattle.dns_keeper.specs.declared.keeper.KeepFault.{KeepFault}
 use Rattle.dns_keeper.specs.declared.keeper.KeepFault.TheVariants as keep
-use Rattle.dns_io.specs.Around.{Around, around}
-use Rattle.dns_io.specs.Edge.{Keeps}
+use Rattle.dns_edges.specs.Edges.{Around, SourceTold, around}
+use Rattle.dns_io.specs.Told.{Keeps}
 use Rattle.dns_server_core.specs.declared.event.Event.{Event}
 use Rattle.dns_server_core.specs.declared.event.Out.{Out}
 use Rattle.dns_book.specs.Access.{Access}
@@ -26,9 +26,10 @@ use Rattle.dns_command.specs.declared.command_line.Options.{Options}
 use Rattle.dns_command.specs.CommandLine.{options_of, access_of}
 use Rattle.dns_command.specs.Steps.{FindsBy, HearsBy, OpensNot}
 use Rattle.dns_command.specs.Ends.{IsOpened}
+use Rattle.dns_command.specs.World.{JournalTold, journal_told}
 
 -- the words are legal, and what they name was read
-pub record Prepares (words : List (List ℕ)) (zone_text event_text : Around (List ℕ)) (journal : Around (List Row)) (inputs : Inputs) : Type 0 where
+pub record Prepares (words : List (List ℕ)) (zone_text event_text : Around SourceTold) (journal : Around JournalTold) (inputs : Inputs) : Type 0 where
   pub legal : options_of words ≡ Some inputs.options
   pub found : FindsBy journal zone_text inputs.options inputs.opening
   pub heard : HearsBy event_text inputs.options inputs.events.items
@@ -82,7 +83,7 @@ pub record SettlesAll {K : Type 0} (rows : K → Option (List Row)) (faults : K 
 -- why not every message was settled, and the keeper then: the journal was not opened, and its rows are as they were; or it
 -- was opened
 pub data SettlesNot {K : Type 0} (rows : K → Option (List Row)) (faults : K → ℕ) (keeper : K) (inputs : Inputs) (moment : ℕ) : Status → K → Type 0 where
-  not_opened : {s : Status} {left : K} → OpensNot (around rows faults keeper left) inputs.options.origin inputs.opening s → Keeps (rows keeper) (rows left)
+  not_opened : {s : Status} {left : K} → OpensNot (around (journal_told rows faults) keeper left) inputs.options.origin inputs.opening s → Keeps (rows keeper) (rows left)
       → SettlesNot rows faults keeper inputs moment s left
   not_settled : {s : Status} {left : K} → (first : SeenOf K) → OpensBook rows faults keeper inputs.options inputs.opening moment first
       → SettlesPart rows faults (access_of inputs.options) first inputs.events.items s left

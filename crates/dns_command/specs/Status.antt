@@ -5,8 +5,8 @@ use Rattle.dns_zone.specs.declared.zone_text.ZoneTextKind.{ZoneTextKind}
 use Rattle.dns_zone.specs.declared.zone_text.ZoneTextKind.TheVariants as zone
 use Rattle.dns_update.specs.declared.replay_kind.ReplayKind.{ReplayKind}
 use Rattle.dns_update.specs.declared.replay_kind.ReplayKind.TheVariants as replay
-use Rattle.dns_io.specs.declared.to_end.ReadFault.{ReadFault}
-use Rattle.dns_io.specs.declared.to_end.ReadFault.TheVariants as read
+use Rattle.dns_edges.specs.declared.to_end.ReadFault.{ReadFault}
+use Rattle.dns_edges.specs.declared.to_end.ReadFault.TheVariants as read
 use Rattle.dns_command.specs.declared.status.Status.{Status}
 use Rattle.dns_command.specs.declared.status.Status.TheVariants as status
 

@@ -1,8 +1,8 @@
 -- The steps of the commands `events` and `load`, in the order of the work, and the causes for which each of them is refused.
-use Rattle.std.specs.Prelude.{◌≡◌, ◌≤◌, ℕ, ℤ, List, length, Some, None, MatchOption, Ok, Err}
+use Rattle.std.specs.Prelude.{◌≡◌, ◌≤◌, ℕ, ℤ, List, length, Option, Some, None, IsSome, MatchOption, Ok, Err}
 use Rattle.dns_keeper.specs.declared.row.Row.{Row}
-use Rattle.dns_io.specs.Around.{Around}
-use Rattle.dns_io.specs.Edge.{Rose, WasRead, WasLonger}
+use Rattle.dns_edges.specs.Edges.{Around, SourceTold}
+use Rattle.dns_io.specs.Told.{Rose, WasRead, WasLonger}
 use Rattle.dns_zone_map.specs.Zone.{Contents}
 use Rattle.dns_zone.specs.ZoneText.{zone_of}
 use Rattle.dns_zone.specs.declared.zone_text.ZoneTextKind.{ZoneTextKind}
@@ -18,6 +18,7 @@ use Rattle.dns_command.specs.declared.command_line.Options.{Options}
 use Rattle.dns_command.specs.CommandLine.{options_of}
 use Rattle.dns_command.specs.EventText.{events_of}
 use Rattle.dns_words.specs.Writing.{IsUntouched}
+use Rattle.dns_command.specs.World.{JournalTold, IsStill}
 use Rattle.dns_command.specs.Example.{example_text}
 use Rattle.dns_generator.specs.Requests.{origin_name}
 use Rattle.dns_generator.specs.Loaded.{loaded}
@@ -29,51 +30,54 @@ zone_bound = 16777216
 abbrev pub event_bound : ℕ
 event_bound = 8388608
 
--- the zone is that of the zone text, which was read to its end
-abbrev pub ReadsZone : Around (List ℕ) → List (List ℕ) → Contents → Type 0
-ReadsZone source origin zone =
-    (zone.origin ≡ origin) × WasRead source.before source.after (λ text. (length text ≤ zone_bound) × (zone_of origin text ≡ Ok zone.records))
+-- the zone is that of the zone text, which was read to its end without a fault
+pub record ReadsZone (source : Around SourceTold) (origin : List (List ℕ)) (zone : Contents) : Type 0 where
+  pub named : zone.origin ≡ origin
+  pub read : WasRead source.before.left source.after.left (λ text. (length text ≤ zone_bound) × (zone_of origin text ≡ Ok zone.records))
+  pub still : IsStill source
 
 -- why there is no zone in the zone text: it could not be read; it is longer than the bound, and one byte more than the
--- bound was read; it was read to its end, and a line of it is faulty; or memory ran out
-pub data ReadsNoZone (source : Around (List ℕ)) (origin : List (List ℕ)) : Status → Type 0 where
-  zone_unread : Rose source.faults_before source.faults_after → ReadsNoZone source origin status.ReadFault
-  zone_too_long : WasLonger source.before source.after zone_bound → ReadsNoZone source origin status.TooLong
+-- bound was read; it was read to its end, and a line of it is faulty; or memory ran out. Its count of faults rose where it could not be
+-- read, and nowhere else
+pub data ReadsNoZone (source : Around SourceTold) (origin : List (List ℕ)) : Status → Type 0 where
+  zone_unread : Rose source.before.faults source.after.faults → ReadsNoZone source origin status.ReadFault
+  zone_too_long : WasLonger source.before.left source.after.left zone_bound → IsStill source → ReadsNoZone source origin status.TooLong
   zone_faulty : (line : ℕ) (kind : ZoneTextKind)
-      → WasRead source.before source.after (λ text. (length text ≤ zone_bound) × (zone_of origin text ≡ Err (Refused line kind)))
-      → ReadsNoZone source origin (status.ZoneText line kind)
-  zone_without_memory : ReadsNoZone source origin status.OutOfMemory
+      → WasRead source.before.left source.after.left (λ text. (length text ≤ zone_bound) × (zone_of origin text ≡ Err (Refused line kind)))
+      → IsStill source → ReadsNoZone source origin (status.ZoneText line kind)
+  zone_without_memory : IsStill source → ReadsNoZone source origin status.OutOfMemory
 
 -- how the journal is to be opened: one without rows is begun with the zone of the zone text; one with rows is read back, and
 -- the zone text is not read
-abbrev pub Finds : Around (List Row) → Around (List ℕ) → List (List ℕ) → Opening → Type 0
-Finds journal source origin (Begin zone) = HadNoRow journal.before journal.after × ReadsZone source origin zone
-Finds journal source origin Recover = HadRows journal.before journal.after × IsUntouched source
+abbrev pub Finds : Around JournalTold → Around SourceTold → List (List ℕ) → Opening → Type 0
+Finds journal source origin (Begin zone) = HadNoRow journal.before.rows journal.after.rows × ReadsZone source origin zone
+Finds journal source origin Recover = HadRows journal.before.rows journal.after.rows × IsUntouched source
 
 -- why the journal's first row was not seen: the journal failed, or memory ran out
-pub data SeesNoRow (journal : Around (List Row)) : Status → Type 0 where
-  journal_unread : Rose journal.faults_before journal.faults_after → SeesNoRow journal status.KeeperFault
+pub data SeesNoRow (journal : Around JournalTold) : Status → Type 0 where
+  journal_unread : Rose journal.before.faults journal.after.faults → SeesNoRow journal status.KeeperFault
   journal_without_memory : SeesNoRow journal status.OutOfMemory
 
 -- why it is not known how the journal is opened: its first row was not seen, and then the zone text was not read; or it
 -- has no row, and there is no zone
-pub data FindsNot (journal : Around (List Row)) (source : Around (List ℕ)) (origin : List (List ℕ)) : Status → Type 0 where
+pub data FindsNot (journal : Around JournalTold) (source : Around SourceTold) (origin : List (List ℕ)) : Status → Type 0 where
   unseen : {s : Status} → SeesNoRow journal s → IsUntouched source → FindsNot journal source origin s
-  no_zone : {s : Status} → HadNoRow journal.before journal.after → ReadsNoZone source origin s → FindsNot journal source origin s
+  no_zone : {s : Status} → HadNoRow journal.before.rows journal.after.rows → ReadsNoZone source origin s → FindsNot journal source origin s
 
--- the events are those of the event text, which was read to its end
-abbrev pub LoadsEvents : Around (List ℕ) → List Event → Type 0
-LoadsEvents source events =
-    WasRead source.before source.after (λ text. (length text ≤ event_bound) × (events_of text ≡ Ok events))
+-- the events are those of the event text, which was read to its end without a fault
+pub record LoadsEvents (source : Around SourceTold) (events : List Event) : Type 0 where
+  pub read : WasRead source.before.left source.after.left (λ text. (length text ≤ event_bound) × (events_of text ≡ Ok events))
+  pub still : IsStill source
 
 -- why there are no events: the event text could not be read; it is longer than the bound, and one byte more than the bound
--- was read; it was read to its end, and this is its first faulty line; or memory ran out
-pub data LoadsNoEvents (source : Around (List ℕ)) : Status → Type 0 where
-  events_unread : Rose source.faults_before source.faults_after → LoadsNoEvents source status.ReadFault
-  events_too_long : WasLonger source.before source.after event_bound → LoadsNoEvents source status.TooLong
-  event_faulty : (line : ℕ) → WasRead source.before source.after (λ text. (length text ≤ event_bound) × (events_of text ≡ Err line))
-      → LoadsNoEvents source (status.EventLine line)
-  events_without_memory : LoadsNoEvents source status.OutOfMemory
+-- was read; it was read to its end, and this is its first faulty line; or memory ran out. Its count of faults rose where it could not
+-- be read, and nowhere else
+pub data LoadsNoEvents (source : Around SourceTold) : Status → Type 0 where
+  events_unread : Rose source.before.faults source.after.faults → LoadsNoEvents source status.ReadFault
+  events_too_long : WasLonger source.before.left source.after.left event_bound → IsStill source → LoadsNoEvents source status.TooLong
+  event_faulty : (line : ℕ) → WasRead source.before.left source.after.left (λ text. (length text ≤ event_bound) × (events_of text ≡ Err line))
+      → IsStill source → LoadsNoEvents source (status.EventLine line)
+  events_without_memory : IsStill source → LoadsNoEvents source status.OutOfMemory
 
 -- a drawn list of events has a zone of its own, which is that of a fixed text; then no zone text is read
 pub record IsExample (zone : Contents) : Type 0 where
@@ -81,54 +85,55 @@ pub record IsExample (zone : Contents) : Type 0 where
   pub records : zone_of origin_name example_text ≡ Ok zone.records
 
 -- how the journal is to be opened for a drawn list
-abbrev pub FindsExample : Around (List Row) → Opening → Type 0
-FindsExample journal (Begin zone) = HadNoRow journal.before journal.after × IsExample zone
-FindsExample journal Recover = HadRows journal.before journal.after
+abbrev pub FindsExample : Around JournalTold → Opening → Type 0
+FindsExample journal (Begin zone) = HadNoRow journal.before.rows journal.after.rows × IsExample zone
+FindsExample journal Recover = HadRows journal.before.rows journal.after.rows
 
 -- how the journal is to be opened, by the words
-abbrev pub FindsBy : Around (List Row) → Around (List ℕ) → Options → Opening → Type 0
+abbrev pub FindsBy : Around JournalTold → Around SourceTold → Options → Opening → Type 0
 FindsBy journal source options opening = MatchOption options.drawn
     (Finds journal source options.origin opening)
     (λ drawn. FindsExample journal opening × IsUntouched source)
 
 -- why it is not known how the journal is opened, by the words
-abbrev pub FindsNotBy : Around (List Row) → Around (List ℕ) → Options → Status → Type 0
+abbrev pub FindsNotBy : Around JournalTold → Around SourceTold → Options → Status → Type 0
 FindsNotBy journal source options s = MatchOption options.drawn
     (FindsNot journal source options.origin s)
     (λ drawn. SeesNoRow journal s × IsUntouched source)
 
 -- the events, by the words: those of the event text, or those that are drawn, and then no event text is read
-abbrev pub HearsBy : Around (List ℕ) → Options → List Event → Type 0
+abbrev pub HearsBy : Around SourceTold → Options → List Event → Type 0
 HearsBy source options events = MatchOption options.drawn
     (LoadsEvents source events)
     (λ drawn. (events ≡ loaded drawn.seed drawn.count) × IsUntouched source)
 
 -- why there are no events, by the words: for a drawn list memory ran out, and for nothing else
-abbrev pub HearsNotBy : Around (List ℕ) → Options → Status → Type 0
+abbrev pub HearsNotBy : Around SourceTold → Options → Status → Type 0
 HearsNotBy source options s = MatchOption options.drawn
     (LoadsNoEvents source s)
     (λ drawn. (s ≡ status.OutOfMemory) × IsUntouched source)
 
 -- why the journal was not opened: it has rows that stand for no zone of this origin, and this is the first that is refused;
 -- it failed; or memory ran out
-pub data OpensNot (journal : Around (List Row)) (origin : List (List ℕ)) : Opening → Status → Type 0 where
-  rows_refused : (row : ℤ) (why : ReplayKind) → AreRefused journal.before journal.after origin row why → OpensNot journal origin Recover (status.Recovery row why)
-  journal_failed : {opening : Opening} → Rose journal.faults_before journal.faults_after → OpensNot journal origin opening status.KeeperFault
+pub data OpensNot (journal : Around JournalTold) (origin : List (List ℕ)) : Opening → Status → Type 0 where
+  rows_refused : (row : ℤ) (why : ReplayKind) → AreRefused journal.before.rows journal.after.rows origin row why → OpensNot journal origin Recover (status.Recovery row why)
+  journal_failed : {opening : Opening} → Rose journal.before.faults journal.after.faults → OpensNot journal origin opening status.KeeperFault
   opening_without_memory : {opening : Opening} → OpensNot journal origin opening status.OutOfMemory
 
 -- A refusal, by the first step in the order of the work that was refused. What comes after that step was not done: the
--- sources that it reads and the journal are as they were.
-pub data IsRefused (words : List (List ℕ)) (zone_text event_text : Around (List ℕ)) (journal : Around (List Row))
+-- sources that it reads and the journal are as they were, and the clock is asked only where the journal is to be opened.
+pub data IsRefused (words : List (List ℕ)) (zone_text event_text : Around SourceTold) (journal : Around JournalTold) (moment : Option ℕ)
     : Status → Type 0 where
-  at_words : options_of words ≡ None → IsUntouched zone_text → IsUntouched event_text → IsUntouched journal
-      → IsRefused words zone_text event_text journal status.Usage
-  without_memory : IsUntouched zone_text → IsUntouched event_text → IsUntouched journal
-      → IsRefused words zone_text event_text journal status.OutOfMemory
+  at_words : options_of words ≡ None → IsUntouched zone_text → IsUntouched event_text → IsUntouched journal → moment ≡ None
+      → IsRefused words zone_text event_text journal moment status.Usage
+  without_memory : IsUntouched zone_text → IsUntouched event_text → IsUntouched journal → moment ≡ None
+      → IsRefused words zone_text event_text journal moment status.OutOfMemory
   at_finding : {s : Status} → (options : Options) → options_of words ≡ Some options
-      → FindsNotBy journal zone_text options s → IsUntouched event_text
-      → IsRefused words zone_text event_text journal s
+      → FindsNotBy journal zone_text options s → IsUntouched event_text → moment ≡ None
+      → IsRefused words zone_text event_text journal moment s
   at_events : {s : Status} → (options : Options) (opening : Opening) → options_of words ≡ Some options
-      → FindsBy journal zone_text options opening → HearsNotBy event_text options s
-      → IsRefused words zone_text event_text journal s
+      → FindsBy journal zone_text options opening → HearsNotBy event_text options s → moment ≡ None
+      → IsRefused words zone_text event_text journal moment s
   at_opening : {s : Status} → (options : Options) (opening : Opening) (events : List Event) → options_of words ≡ Some options
-      → FindsBy journal zone_text options opening → HearsBy event_text options events → OpensNot journal options.origin opening s → IsRefused words zone_text event_text journal s
+      → FindsBy journal zone_text options opening → HearsBy event_text options events → OpensNot journal options.origin opening s
+      → IsSome moment → IsRefused words zone_text event_text journal moment s

@@ -1,12 +1,12 @@
 -- Writing the output, and how the program ends by it.
 use Rattle.std.specs.Prelude.{◌≡◌, ◌≢◌, ℕ, List, Result, Ok, Err}
-use Rattle.dns_io.specs.Around.{SinkAround}
-use Rattle.dns_io.specs.declared.edge.IoFault.{IoFault}
-use Rattle.dns_io.specs.declared.edge.IoFault.TheVariants.{Failed, OutOfMemory}
+use Rattle.dns_edges.specs.Edges.{Around, SinkTold}
+use Rattle.dns_io.specs.declared.io_fault.IoFault.{IoFault}
+use Rattle.dns_io.specs.declared.io_fault.IoFault.TheVariants.{Failed, OutOfMemory}
 use Rattle.dns_command.specs.declared.status.Status.{Status}
 use Rattle.dns_command.specs.declared.status.Status.TheVariants as status
 use Rattle.dns_command.specs.Status.{refusal_line}
-use Rattle.dns_words.specs.Writing.{IsUnwritten, WritesWhole}
+use Rattle.dns_words.specs.Writing.{IsUntouched, WritesWhole}
 
 -- a status that was meant, where the text was written to its end
 abbrev pub after_writing : Status → Result (Unit {0}) IoFault → Status
@@ -15,12 +15,12 @@ after_writing meant (Err Failed) = status.WriteFault
 after_writing meant (Err OutOfMemory) = status.OutOfMemory
 
 -- the end of a call that writes a text and means to end with a status
-pub record EndsWriting (output : SinkAround) (text : List ℕ) (meant s : Status) : Type 0 where
+pub record EndsWriting (output : Around SinkTold) (text : List ℕ) (meant s : Status) : Type 0 where
   pub result : Result (Unit {0}) IoFault
   pub written : WritesWhole output text result
   pub status : s ≡ after_writing meant result
 
 -- the end of a refusal: want of memory is told by nothing more, any other by its line
-pub data EndsRefusing (output : SinkAround) (meant s : Status) : Type 0 where
-  silent : meant ≡ status.OutOfMemory → s ≡ status.OutOfMemory → IsUnwritten output → EndsRefusing output meant s
+pub data EndsRefusing (output : Around SinkTold) (meant s : Status) : Type 0 where
+  silent : meant ≡ status.OutOfMemory → s ≡ status.OutOfMemory → IsUntouched output → EndsRefusing output meant s
   by_line : meant ≢ status.OutOfMemory → EndsWriting output (refusal_line meant) meant s → EndsRefusing output meant s

@@ -1,10 +1,9 @@
 //! What the words of the command `serve` ask for.
 
-ghost use Rattle.std.specs.Prelude.{◌≡◌, ◌<◌, ◌≤◌, ◌^◌, ◌||◌, IfOk, IfSome, map, count_by, string_bytes, is_some};
+ghost use Rattle.std.specs.Prelude.{◌≡◌, ◌<◌, ◌≤◌, ◌^◌, IfOk, IfSome, map, count_by, string_bytes};
 ghost use Rattle.std.specs.List.{list_all};
 ghost use Rattle.dns_name.specs.Name.{fold_of};
-ghost use Rattle.dns_command.specs.CommandLine.{options_of};
-ghost use Rattle.dns_command.specs.ListeningWords.{limit_of, workers_of, is_address_word, is_limit_word, is_workers_word, is_serve_option, address_in, limit_in, workers_in, listening_of, are_serve_options, service_of, count_at, seats_of};
+ghost use Rattle.dns_command.specs.ListeningWords.{limit_of, workers_of, is_address_word, is_limit_word, is_workers_word, is_serve_option, address_in, limit_in, workers_in, listening_of, are_serve_options, service_of, count_at, seats_of, is_command};
 
 use crate::command_line::{Options, has_no_double, is_option, options_behind, options_of};
 use dns_io::{OutOfMemory, Peer};
@@ -105,7 +104,7 @@ pub fn service_of(alloc: Global, words: &[String]) -> Result<Option<Service>, Ou
 
 /// Whether the words are a command: those of `serve`, or those of `events`.
 pub fn is_command(alloc: Global, words: &[String]) -> Result<bool, OutOfMemory>
-    ensures { IfOk result (λ is. is ≡ (is_some (service_of (map string_bytes words.now)) || is_some (options_of (map string_bytes words.now)))) }
+    ensures { IfOk result (λ is. is ≡ is_command (map string_bytes words.now)) }
 {
     if service_of(alloc, words)?.is_some() {
         return Ok(true);

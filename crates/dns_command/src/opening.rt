@@ -1,19 +1,21 @@
 //! Opening the journal: with the zone of the zone text, or by the rows that it has.
 
 ghost use Rattle.std.specs.Prelude.{◌≡◌, ◌<◌, ◌≤◌, ◌^◌, IfOk, IfErr, true, false};
-ghost use Rattle.dns_io.specs.Around.{around};
-ghost use Rattle.dns_io.specs.Edge.{Keeps};
+ghost use Rattle.dns_edges.specs.Edges.{around};
+ghost use Rattle.dns_io.specs.Told.{Keeps};
 ghost use Rattle.dns_name.specs.Name.{fold_of};
 ghost use Rattle.dns_book.specs.Opening.{HadNoRow, HadRows};
 ghost use Rattle.dns_command.specs.Steps.{ReadsZone, ReadsNoZone, Finds, SeesNoRow, FindsNot, FindsBy, FindsNotBy, FindsExample, IsExample, OpensNot};
 ghost use Rattle.dns_command.specs.Parts.{IsReady, OpensBook, unopened, unkept};
+ghost use Rattle.dns_command.specs.World.{journal_told};
 
 use crate::command_line::Options;
 use crate::example::EXAMPLE;
 use crate::status::Status;
 use dns_book::{Book, OpenKind};
+use dns_edges::{Source, read_to_end};
 use dns_generator::origin_name;
-use dns_io::{OutOfMemory, Source, read_to_end};
+use dns_io::OutOfMemory;
 use dns_keeper::{KeepFault, Keeper};
 use dns_name::Name;
 use dns_zone::{Zone, ZoneTextFault, read_zone};
@@ -50,13 +52,13 @@ pub fn find_opening<Z: Source, K: Keeper>(
 ) -> Result<Opening, Status>
     requires { fold_of origin.now ≡ origin.now }
     ensures ok { IfOk result (Finds
-        (around K.rows K.faults keeper.old keeper.new) (around Z.left Z.faults source.old source.new) origin.now) }
+        (around (journal_told K.rows K.faults) keeper.old keeper.new) (around Z.source.told source.old source.new) origin.now) }
     ensures err { IfErr result (FindsNot
-        (around K.rows K.faults keeper.old keeper.new) (around Z.left Z.faults source.old source.new) origin.now) }
+        (around (journal_told K.rows K.faults) keeper.old keeper.new) (around Z.source.told source.old source.new) origin.now) }
     ensures ready { IfOk result (λ opening. IsReady opening (K.rows keeper.new)) }
     ensures kept { Keeps (K.rows keeper.old) (K.rows keeper.new) }
     ensures later { K.faults keeper.old ≤ K.faults keeper.new }
-    ensures later_source { Z.faults source.old ≤ Z.faults source.new }
+    ensures later_source { (Z.source.told source.old).faults ≤ (Z.source.told source.new).faults }
 {
     if has_rows(keeper)? {
         return Ok(Opening::Recover);
@@ -75,13 +77,13 @@ pub fn find_opening_by<Z: Source, K: Keeper>(
 ) -> Result<Opening, Status>
     requires { fold_of options.now.origin ≡ options.now.origin }
     ensures ok { IfOk result (FindsBy
-        (around K.rows K.faults keeper.old keeper.new) (around Z.left Z.faults source.old source.new) options.now) }
+        (around (journal_told K.rows K.faults) keeper.old keeper.new) (around Z.source.told source.old source.new) options.now) }
     ensures err { IfErr result (FindsNotBy
-        (around K.rows K.faults keeper.old keeper.new) (around Z.left Z.faults source.old source.new) options.now) }
+        (around (journal_told K.rows K.faults) keeper.old keeper.new) (around Z.source.told source.old source.new) options.now) }
     ensures ready { IfOk result (λ opening. IsReady opening (K.rows keeper.new)) }
     ensures kept { Keeps (K.rows keeper.old) (K.rows keeper.new) }
     ensures later { K.faults keeper.old ≤ K.faults keeper.new }
-    ensures later_source { Z.faults source.old ≤ Z.faults source.new }
+    ensures later_source { (Z.source.told source.old).faults ≤ (Z.source.told source.new).faults }
 {
     match options.drawn {
         None => find_opening(alloc, &options.origin, source, keeper),
@@ -91,8 +93,8 @@ pub fn find_opening_by<Z: Source, K: Keeper>(
 
 /// How the journal is to be opened for a drawn list of events.
 fn find_example<K: Keeper>(alloc: Global, keeper: &mut K) -> Result<Opening, Status>
-    ensures ok { IfOk result (FindsExample (around K.rows K.faults keeper.old keeper.new)) }
-    ensures err { IfErr result (SeesNoRow (around K.rows K.faults keeper.old keeper.new)) }
+    ensures ok { IfOk result (FindsExample (around (journal_told K.rows K.faults) keeper.old keeper.new)) }
+    ensures err { IfErr result (SeesNoRow (around (journal_told K.rows K.faults) keeper.old keeper.new)) }
     ensures ready { IfOk result (λ opening. IsReady opening (K.rows keeper.new)) }
     ensures kept { Keeps (K.rows keeper.old) (K.rows keeper.new) }
     ensures later { K.faults keeper.old ≤ K.faults keeper.new }
@@ -123,7 +125,7 @@ fn example(alloc: Global) -> Result<Zone, OutOfMemory>
 fn has_rows<K: Keeper>(keeper: &mut K) -> Result<bool, Status>
     ensures some { IfOk result (λ has. has ≡ true → HadRows (K.rows keeper.old) (K.rows keeper.new)) }
     ensures none { IfOk result (λ has. has ≡ false → HadNoRow (K.rows keeper.old) (K.rows keeper.new)) }
-    ensures err { IfErr result (SeesNoRow (around K.rows K.faults keeper.old keeper.new)) }
+    ensures err { IfErr result (SeesNoRow (around (journal_told K.rows K.faults) keeper.old keeper.new)) }
     ensures kept { Keeps (K.rows keeper.old) (K.rows keeper.new) }
     ensures later { K.faults keeper.old ≤ K.faults keeper.new }
 {
@@ -147,9 +149,9 @@ fn unkept(fault: KeepFault) -> Status
 /// The zone of a text, which is read to its end.
 fn read_zone_text<Z: Source>(alloc: Global, origin: &Name, source: &mut Z) -> Result<Zone, Status>
     requires { fold_of origin.now ≡ origin.now }
-    ensures ok { IfOk result (ReadsZone (around Z.left Z.faults source.old source.new) origin.now) }
-    ensures err { IfErr result (ReadsNoZone (around Z.left Z.faults source.old source.new) origin.now) }
-    ensures later { Z.faults source.old ≤ Z.faults source.new }
+    ensures ok { IfOk result (ReadsZone (around Z.source.told source.old source.new) origin.now) }
+    ensures err { IfErr result (ReadsNoZone (around Z.source.told source.old source.new) origin.now) }
+    ensures later { (Z.source.told source.old).faults ≤ (Z.source.told source.new).faults }
 {
     let text = read_to_end(alloc, source, ZONE_BOUND)?;
     match read_zone(alloc, text.as_slice(), origin) {
@@ -170,7 +172,8 @@ pub fn open_book<K: Keeper>(
     requires moment { moment < 2 ^ 47 }
     requires ready { IsReady opening (K.rows keeper) }
     ensures ok { IfOk result (OpensBook K.rows K.faults keeper options.now opening moment) }
-    ensures err { IfErr result (λ fault. OpensNot (around K.rows K.faults keeper fault.keeper) options.now.origin opening fault.status) }
+    ensures err { IfErr result (λ fault. OpensNot
+        (around (journal_told K.rows K.faults) keeper fault.keeper) options.now.origin opening fault.status) }
     ensures kept { IfErr result (λ fault. Keeps (K.rows keeper) (K.rows fault.keeper)) }
 {
     let allow_update = options.allow_update;

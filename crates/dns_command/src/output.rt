@@ -2,7 +2,7 @@
 
 ghost use Rattle.std.specs.Prelude.{◌≡◌, ◌≤◌, string_bytes};
 ghost use Rattle.std.specs.List.{flat_map};
-ghost use Rattle.dns_io.specs.Around.{around_sink};
+ghost use Rattle.dns_edges.specs.Edges.{around};
 ghost use Rattle.dns_command.specs.Lines.{out_line, number_line, closing_lines, output_lines, serve_lines, counted_lines, summary_lines, lines_by};
 ghost use Rattle.dns_command.specs.Status.{refusal_line};
 ghost use Rattle.dns_words.specs.Writing.{Writes, WritesWhole};
@@ -11,16 +11,17 @@ ghost use Rattle.dns_command.specs.Writing.{EndsRefusing, after_writing};
 use crate::command_line::Drawn;
 use crate::lines::{number_line, out_line};
 use crate::status::{Status, after_writing, refusal_line};
+use dns_edges::Sink;
 use dns_generator::Summary;
-use dns_io::{IoFault, Sink};
+use dns_io::IoFault;
 use dns_server_core::Out;
 use dns_words::{put_line, put_text};
 use std::alloc::Global;
 
 /// Writes the one line of a refusal, and tells how the program ends.
 pub fn refuse<W: Sink>(alloc: Global, status: Status, out: &mut W) -> Status
-    ensures ends { EndsRefusing (around_sink W.taken W.flushed W.faults out.old out.new) status result }
-    ensures later { W.faults out.old ≤ W.faults out.new }
+    ensures ends { EndsRefusing (around W.sink.told out.old out.new) status result }
+    ensures later { (W.sink.told out.old).faults ≤ (W.sink.told out.new).faults }
 {
     match status {
         Status::OutOfMemory => Status::OutOfMemory,
@@ -30,7 +31,7 @@ pub fn refuse<W: Sink>(alloc: Global, status: Status, out: &mut W) -> Status
 
 /// Writes the line of a refusal, and hands it on.
 fn put_refusal<W: Sink>(alloc: Global, status: &Status, out: &mut W) -> Result<(), IoFault>
-    ensures { WritesWhole (around_sink W.taken W.flushed W.faults out.old out.new) (refusal_line status.now) result }
+    ensures { WritesWhole (around W.sink.told out.old out.new) (refusal_line status.now) result }
 {
     let line = refusal_line(alloc, status)?;
     put_text(line.as_str(), out)
@@ -45,7 +46,7 @@ fn put_output<W: Sink>(
     connections: u64,
     out: &mut W,
 ) -> Result<(), IoFault>
-    ensures { WritesWhole (around_sink W.taken W.flushed W.faults out.old out.new) (output_lines outs.now serial length connections) result }
+    ensures { WritesWhole (around W.sink.told out.old out.new) (output_lines outs.now serial length connections) result }
 {
     put_outs(alloc, outs, out)?;
     put_closing(alloc, serial, length, connections, out)?;
@@ -62,7 +63,7 @@ pub fn put_answers<W: Sink>(
     connections: u64,
     out: &mut W,
 ) -> Result<(), IoFault>
-    ensures { WritesWhole (around_sink W.taken W.flushed W.faults out.old out.new) (lines_by drawn.now outs.now serial length connections) result }
+    ensures { WritesWhole (around W.sink.told out.old out.new) (lines_by drawn.now outs.now serial length connections) result }
 {
     match drawn {
         None => put_output(alloc, outs, serial, length, connections, out),
@@ -91,7 +92,7 @@ fn put_summary<W: Sink>(
     connections: u64,
     out: &mut W,
 ) -> Result<(), IoFault>
-    ensures { WritesWhole (around_sink W.taken W.flushed W.faults out.old out.new) (summary_lines messages summary.now serial length connections) result }
+    ensures { WritesWhole (around W.sink.told out.old out.new) (summary_lines messages summary.now serial length connections) result }
 {
     put_counted(alloc, messages, summary, out)?;
     put_closing(alloc, serial, length, connections, out)?;
@@ -105,7 +106,7 @@ fn put_counted<W: Sink>(
     summary: &Summary,
     out: &mut W,
 ) -> Result<(), IoFault>
-    ensures { Writes (around_sink W.taken W.flushed W.faults out.old out.new) (counted_lines messages summary.now) result }
+    ensures { Writes (around W.sink.told out.old out.new) (counted_lines messages summary.now) result }
 {
     put_number(alloc, "messages", u128::from(messages), out)?;
     put_number(alloc, "replies", summary.replies as u128, out)?;
@@ -121,7 +122,7 @@ pub fn put_totals<W: Sink>(
     rows: u64,
     out: &mut W,
 ) -> Result<(), IoFault>
-    ensures { WritesWhole (around_sink W.taken W.flushed W.faults out.old out.new) (serve_lines serial rows) result }
+    ensures { WritesWhole (around W.sink.told out.old out.new) (serve_lines serial rows) result }
 {
     put_number(alloc, "serial", u128::from(serial), out)?;
     put_number(alloc, "journal_len", u128::from(rows), out)?;
@@ -130,7 +131,7 @@ pub fn put_totals<W: Sink>(
 
 /// Writes a line for each reply.
 fn put_outs<W: Sink>(alloc: Global, outs: &[Out], out: &mut W) -> Result<(), IoFault>
-    ensures { Writes (around_sink W.taken W.flushed W.faults out.old out.new) (flat_map out_line outs.now) result }
+    ensures { Writes (around W.sink.told out.old out.new) (flat_map out_line outs.now) result }
 {
     for one in outs {
         put_out(alloc, one, out)?;
@@ -140,7 +141,7 @@ fn put_outs<W: Sink>(alloc: Global, outs: &[Out], out: &mut W) -> Result<(), IoF
 
 /// Writes the line of a reply.
 fn put_out<W: Sink>(alloc: Global, one: &Out, out: &mut W) -> Result<(), IoFault>
-    ensures { Writes (around_sink W.taken W.flushed W.faults out.old out.new) (out_line one.now) result }
+    ensures { Writes (around W.sink.told out.old out.new) (out_line one.now) result }
 {
     let line = out_line(alloc, one)?;
     put_line(line.as_str(), out)
@@ -154,7 +155,7 @@ fn put_closing<W: Sink>(
     connections: u64,
     out: &mut W,
 ) -> Result<(), IoFault>
-    ensures { Writes (around_sink W.taken W.flushed W.faults out.old out.new) (closing_lines serial length connections) result }
+    ensures { Writes (around W.sink.told out.old out.new) (closing_lines serial length connections) result }
 {
     put_number(alloc, "serial", u128::from(serial), out)?;
     put_number(alloc, "journal_len", u128::from(length), out)?;
@@ -163,7 +164,7 @@ fn put_closing<W: Sink>(
 
 /// Writes the line of a name and a number.
 fn put_number<W: Sink>(alloc: Global, name: &str, number: u128, out: &mut W) -> Result<(), IoFault>
-    ensures { Writes (around_sink W.taken W.flushed W.faults out.old out.new) (number_line name.now number) result }
+    ensures { Writes (around W.sink.told out.old out.new) (number_line name.now number) result }
 {
     let line = number_line(alloc, name, number)?;
     put_line(line.as_str(), out)

@@ -1,18 +1,19 @@
 //! The ports of the command `serve`: they are opened, served, and handed back.
 
-ghost use Rattle.std.specs.Prelude.{◌≡◌, ◌<◌, ◌≤◌, ◌+◌, ◌^◌, [], ◌++◌, length, All, Some, None, IsSome, IfSome, OnOk, IfErr, true, false};
-ghost use Rattle.dns_io.specs.Around.{around};
-ghost use Rattle.dns_io.specs.Edge.{Keeps, Grows, Rose};
-ghost use Rattle.dns_ports.specs.Ports.{IsFresh};
+ghost use Rattle.std.specs.Prelude.{◌≡◌, ◌⊎◌, ◌<◌, ◌≤◌, ◌+◌, ◌^◌, [], ◌++◌, length, All, Some, None, IsSome, IfSome, OnOk, IfErr, true, false};
+ghost use Rattle.dns_io.specs.Told.{Keeps, Grows, Rose};
+ghost use Rattle.dns_edges.specs.Edges.{around};
+ghost use Rattle.dns_ports.specs.Ports.{IsFreshSocket, IsFreshListener, listener_of};
 ghost use Rattle.dns_command.specs.declared.status.Status.TheVariants as status;
-ghost use Rattle.dns_command.specs.Hubs.{around_hub, socket_by, listener_by};
+ghost use Rattle.dns_command.specs.Hubs.{AnyFault, meanings};
 ghost use Rattle.dns_command.specs.ListeningWords.{count_at, sockets_of, listeners_of, seats_of};
-ghost use Rattle.dns_command.specs.Serving.{IsPortCause, opening_at, listening_at, openings_of};
-ghost use Rattle.dns_command.specs.ServingParts.{IsManned, IsSameServer, Registers, OpensAll, AnyFault, HasFaultyPort, IsCalm, IsCauseSoFar, port_status, TakesBack, emptied, ServesWell};
+ghost use Rattle.dns_command.specs.Serving.{MayBeRead, opening_at, listening_at, openings_of};
+ghost use Rattle.dns_command.specs.ServingParts.{IsManned, IsSameServer, Registers, OpensAll, HasFaultyPort, HasCrew, IsCalm, IsOpenCause, IsCauseSoFar, port_status, TakesBack, emptied, ServesWell};
 
 use crate::listening_words::Listening;
 use crate::status::Status;
-use dns_io::{IoFault, Peer, Source};
+use dns_edges::Source;
+use dns_io::{IoFault, Peer};
 use dns_keeper::Keeper;
 use dns_ports::{Hub, TcpPort, UdpPort};
 use dns_server::{RegisterFault, ThreadServer};
@@ -38,16 +39,21 @@ where
     <H::Tcp as TcpPort>::In: Send,
     <H::Tcp as TcpPort>::Out: Send,
     <H::Tcp as TcpPort>::Time: Send,
-    requires manned { IsManned (IsFresh H.Udp.received H.Udp.taken H.Udp.faults) (IsFresh H.Tcp.accepted H.Tcp.ended H.Tcp.faults) listening.now.limit server.old }
+    requires manned { IsManned H.Udp.told H.Tcp.told listening.now.limit server.old }
     requires empty { (server.old.sockets ≡ []) × (server.old.listeners ≡ []) }
     requires seats { server.old.book.terms.seats ≡ seats_of listening.now }
     requires limit { listening.now.limit < 2 ^ 47 }
-    ensures ok { OnOk result (ServesWell K.rows K.faults (socket_by H.Udp.left H.Udp.received H.Udp.taken H.Udp.faults)
-        (listener_by H.Tcp.left H.Tcp.accepted H.Tcp.ended H.Tcp.faults H.Tcp.In.left H.Tcp.In.faults H.Tcp.Out.taken H.Tcp.Out.flushed H.Tcp.Out.faults H.Tcp.Time.last)
-        (around_hub H.openings H.closed_udp H.closed_tcp H.lent_udp H.lent_tcp H.faults hub.old hub.new) (around E.left E.faults until.old until.new) listening.now server.old server.new) }
-    ensures err { IfErr result (IsCauseSoFar (H.faults hub.old) (H.faults hub.new) (HasFaultyPort H.Udp.faults H.Tcp.faults server.new)) }
-    ensures registers { Registers (around_hub H.openings H.closed_udp H.closed_tcp H.lent_udp H.lent_tcp H.faults hub.old hub.new) server.old server.new }
-    ensures later { E.faults until.old ≤ E.faults until.new }
+    ensures ok { OnOk result (ServesWell
+        (meanings K.rows K.faults H.Udp.told (listener_of H.Tcp.told H.Tcp.In.source H.Tcp.Out.sink H.Tcp.Time.clock))
+        (around H.told hub.old hub.new) (around E.source.told until.old until.new) listening.now server.old server.new) }
+    ensures crew { HasCrew
+        (meanings K.rows K.faults H.Udp.told (listener_of H.Tcp.told H.Tcp.In.source H.Tcp.Out.sink H.Tcp.Time.clock))
+        listening.now.limit server.old server.new }
+    ensures read { MayBeRead (around E.source.told until.old until.new) (around H.told hub.old hub.new) listening.now }
+    ensures err { IfErr result (IsCauseSoFar
+        (H.told hub.old).faults (H.told hub.new).faults (HasFaultyPort H.Udp.told H.Tcp.told server.new)) }
+    ensures registers { Registers (around H.told hub.old hub.new) server.old server.new }
+    ensures later { (E.source.told until.old).faults ≤ (E.source.told until.new).faults }
 {
     open_ports(server, listening, hub)?;
     match server.serve_until(rt, until) {
@@ -63,14 +69,14 @@ fn open_ports<K: Keeper, H: Hub>(
     listening: &Listening,
     hub: &mut H,
 ) -> Result<(), Status>
-    requires manned { IsManned (IsFresh H.Udp.received H.Udp.taken H.Udp.faults) (IsFresh H.Tcp.accepted H.Tcp.ended H.Tcp.faults) listening.now.limit server.old }
+    requires manned { IsManned H.Udp.told H.Tcp.told listening.now.limit server.old }
     requires limit { listening.now.limit < 2 ^ 47 }
-    ensures manned { IsManned (IsFresh H.Udp.received H.Udp.taken H.Udp.faults) (IsFresh H.Tcp.accepted H.Tcp.ended H.Tcp.faults) listening.now.limit server.new }
-    ensures ok { OnOk result (OpensAll (around_hub H.openings H.closed_udp H.closed_tcp H.lent_udp H.lent_tcp H.faults hub.old hub.new) (openings_of listening.now)) }
+    ensures manned { IsManned H.Udp.told H.Tcp.told listening.now.limit server.new }
+    ensures ok { OnOk result (OpensAll (around H.told hub.old hub.new) (openings_of listening.now)) }
     ensures sockets { OnOk result (length server.new.sockets ≡ length server.old.sockets + sockets_of listening.now) }
     ensures listeners { OnOk result (length server.new.listeners ≡ length server.old.listeners + listeners_of listening.now) }
-    ensures err { IfErr result (IsPortCause (H.faults hub.old) (H.faults hub.new)) }
-    ensures registers { Registers (around_hub H.openings H.closed_udp H.closed_tcp H.lent_udp H.lent_tcp H.faults hub.old hub.new) server.old server.new }
+    ensures err { IfErr result (IsOpenCause (H.told hub.old).faults (H.told hub.new).faults) }
+    ensures registers { Registers (around H.told hub.old hub.new) server.old server.new }
 {
     open_socket(server, listening.udp, listening.limit, hub)?;
     open_listeners(
@@ -89,13 +95,13 @@ fn open_socket<K: Keeper, H: Hub>(
     limit: u64,
     hub: &mut H,
 ) -> Result<(), Status>
-    requires manned { IsManned (IsFresh H.Udp.received H.Udp.taken H.Udp.faults) (IsFresh H.Tcp.accepted H.Tcp.ended H.Tcp.faults) limit server.old }
-    ensures manned { IsManned (IsFresh H.Udp.received H.Udp.taken H.Udp.faults) (IsFresh H.Tcp.accepted H.Tcp.ended H.Tcp.faults) limit server.new }
-    ensures ok { OnOk result (OpensAll (around_hub H.openings H.closed_udp H.closed_tcp H.lent_udp H.lent_tcp H.faults hub.old hub.new) (opening_at at)) }
+    requires manned { IsManned H.Udp.told H.Tcp.told limit server.old }
+    ensures manned { IsManned H.Udp.told H.Tcp.told limit server.new }
+    ensures ok { OnOk result (OpensAll (around H.told hub.old hub.new) (opening_at at)) }
     ensures sockets { OnOk result (length server.new.sockets ≡ length server.old.sockets + count_at 1 at) }
     ensures listeners { server.new.listeners ≡ server.old.listeners }
-    ensures err { IfErr result (IsPortCause (H.faults hub.old) (H.faults hub.new)) }
-    ensures registers { Registers (around_hub H.openings H.closed_udp H.closed_tcp H.lent_udp H.lent_tcp H.faults hub.old hub.new) server.old server.new }
+    ensures err { IfErr result (IsOpenCause (H.told hub.old).faults (H.told hub.new).faults) }
+    ensures registers { Registers (around H.told hub.old hub.new) server.old server.new }
 {
     let Some(at) = at else {
         return Ok(());
@@ -129,9 +135,9 @@ fn registered_socket<K: Keeper, U: UdpPort + Drop, T: TcpPort + Drop>(
     socket: U,
     limit: u64,
 ) -> Option<U>
-    requires manned { IsManned (IsFresh U.received U.taken U.faults) (IsFresh T.accepted T.ended T.faults) limit server.old }
-    requires fresh { IsFresh U.received U.taken U.faults socket }
-    ensures manned { IsManned (IsFresh U.received U.taken U.faults) (IsFresh T.accepted T.ended T.faults) limit server.new }
+    requires manned { IsManned U.told T.told limit server.old }
+    requires fresh { IsFreshSocket (U.told socket) }
+    ensures manned { IsManned U.told T.told limit server.new }
     ensures same { IsSameServer server.old server.new }
     ensures listeners { server.new.listeners ≡ server.old.listeners }
     ensures taken { result ≡ None → length server.new.sockets ≡ length server.old.sockets + 1 }
@@ -151,14 +157,14 @@ fn open_listeners<K: Keeper, H: Hub>(
     workers: u32,
     hub: &mut H,
 ) -> Result<(), Status>
-    requires manned { IsManned (IsFresh H.Udp.received H.Udp.taken H.Udp.faults) (IsFresh H.Tcp.accepted H.Tcp.ended H.Tcp.faults) limit server.old }
+    requires manned { IsManned H.Udp.told H.Tcp.told limit server.old }
     requires limit { limit < 2 ^ 47 }
-    ensures manned { IsManned (IsFresh H.Udp.received H.Udp.taken H.Udp.faults) (IsFresh H.Tcp.accepted H.Tcp.ended H.Tcp.faults) limit server.new }
-    ensures ok { OnOk result (OpensAll (around_hub H.openings H.closed_udp H.closed_tcp H.lent_udp H.lent_tcp H.faults hub.old hub.new) (listening_at at limit workers)) }
+    ensures manned { IsManned H.Udp.told H.Tcp.told limit server.new }
+    ensures ok { OnOk result (OpensAll (around H.told hub.old hub.new) (listening_at at limit workers)) }
     ensures listeners { OnOk result (length server.new.listeners ≡ length server.old.listeners + count_at workers at) }
     ensures sockets { server.new.sockets ≡ server.old.sockets }
-    ensures err { IfErr result (IsPortCause (H.faults hub.old) (H.faults hub.new)) }
-    ensures registers { Registers (around_hub H.openings H.closed_udp H.closed_tcp H.lent_udp H.lent_tcp H.faults hub.old hub.new) server.old server.new }
+    ensures err { IfErr result (IsOpenCause (H.told hub.old).faults (H.told hub.new).faults) }
+    ensures registers { Registers (around H.told hub.old hub.new) server.old server.new }
 {
     let Some(at) = at else {
         return Ok(());
@@ -177,18 +183,19 @@ fn register_listeners<K: Keeper, H: Hub>(
     limit: u64,
     hub: &mut H,
 ) -> Result<(), Status>
-    requires manned { IsManned (IsFresh H.Udp.received H.Udp.taken H.Udp.faults) (IsFresh H.Tcp.accepted H.Tcp.ended H.Tcp.faults) limit server.old }
+    requires manned { IsManned H.Udp.told H.Tcp.told limit server.old }
     requires limit { limit < 2 ^ 47 }
-    requires fresh { All (IsFresh H.Tcp.accepted H.Tcp.ended H.Tcp.faults) listeners.items }
-    requires out { length listeners.items ≤ H.lent_tcp hub.old }
-    ensures manned { IsManned (IsFresh H.Udp.received H.Udp.taken H.Udp.faults) (IsFresh H.Tcp.accepted H.Tcp.ended H.Tcp.faults) limit server.new }
+    requires fresh { All (λ port. IsFreshListener (H.Tcp.told port)) listeners.items }
+    requires out { length listeners.items ≤ (H.told hub.old).lent_tcp }
+    ensures manned { IsManned H.Udp.told H.Tcp.told limit server.new }
     ensures same { IsSameServer server.old server.new }
     ensures sockets { server.new.sockets ≡ server.old.sockets }
     ensures listeners { OnOk result (length server.new.listeners ≡ length server.old.listeners + length listeners.items) }
-    ensures out { H.lent_tcp hub.new + (length server.old.listeners + length listeners.items) ≡ H.lent_tcp hub.old + length server.new.listeners }
-    ensures ok { OnOk result (Keeps (H.closed_tcp hub.old) (H.closed_tcp hub.new)) }
+    ensures out { (H.told hub.new).lent_tcp + (length server.old.listeners + length listeners.items)
+        ≡ (H.told hub.old).lent_tcp + length server.new.listeners }
+    ensures ok { OnOk result (Keeps (H.told hub.old).closed_tcp (H.told hub.new).closed_tcp) }
     ensures err { IfErr result (λ s. s ≡ status.OutOfMemory) }
-    ensures calm { IsCalm (around_hub H.openings H.closed_udp H.closed_tcp H.lent_udp H.lent_tcp H.faults hub.old hub.new) }
+    ensures calm { IsCalm (around H.told hub.old hub.new) }
 {
     let mut is_refused = false;
     for listener in listeners {
@@ -210,16 +217,17 @@ fn register_listener<K: Keeper, H: Hub>(
     is_refused: bool,
     hub: &mut H,
 ) -> bool
-    requires manned { IsManned (IsFresh H.Udp.received H.Udp.taken H.Udp.faults) (IsFresh H.Tcp.accepted H.Tcp.ended H.Tcp.faults) limit server.old }
+    requires manned { IsManned H.Udp.told H.Tcp.told limit server.old }
     requires limit { limit < 2 ^ 47 }
-    requires fresh { IsFresh H.Tcp.accepted H.Tcp.ended H.Tcp.faults listener }
-    requires out { 0 < H.lent_tcp hub.old }
-    ensures manned { IsManned (IsFresh H.Udp.received H.Udp.taken H.Udp.faults) (IsFresh H.Tcp.accepted H.Tcp.ended H.Tcp.faults) limit server.new }
+    requires fresh { IsFreshListener (H.Tcp.told listener) }
+    requires out { 0 < (H.told hub.old).lent_tcp }
+    ensures manned { IsManned H.Udp.told H.Tcp.told limit server.new }
     ensures same { IsSameServer server.old server.new }
     ensures sockets { server.new.sockets ≡ server.old.sockets }
-    ensures yes { result ≡ true → (length server.new.listeners ≡ length server.old.listeners + 1) × (hub.new ≡ hub.old) × (is_refused ≡ false) }
-    ensures no { result ≡ false → (server.new ≡ server.old) × (H.lent_tcp hub.new + 1 ≡ H.lent_tcp hub.old) }
-    ensures calm { IsCalm (around_hub H.openings H.closed_udp H.closed_tcp H.lent_udp H.lent_tcp H.faults hub.old hub.new) }
+    ensures yes { result ≡ true → (length server.new.listeners ≡ length server.old.listeners + 1)
+        × (hub.new ≡ hub.old) × (is_refused ≡ false) }
+    ensures no { result ≡ false → (server.new ≡ server.old) × ((H.told hub.new).lent_tcp + 1 ≡ (H.told hub.old).lent_tcp) }
+    ensures calm { IsCalm (around H.told hub.old hub.new) }
 {
     if is_refused {
         hub.close_tcp(listener);
@@ -240,10 +248,10 @@ fn registered_listener<K: Keeper, U: UdpPort + Drop, T: TcpPort + Drop>(
     listener: T,
     limit: u64,
 ) -> Option<T>
-    requires manned { IsManned (IsFresh U.received U.taken U.faults) (IsFresh T.accepted T.ended T.faults) limit server.old }
+    requires manned { IsManned U.told T.told limit server.old }
     requires limit { limit < 2 ^ 47 }
-    requires fresh { IsFresh T.accepted T.ended T.faults listener }
-    ensures manned { IsManned (IsFresh U.received U.taken U.faults) (IsFresh T.accepted T.ended T.faults) limit server.new }
+    requires fresh { IsFreshListener (T.told listener) }
+    ensures manned { IsManned U.told T.told limit server.new }
     ensures same { IsSameServer server.old server.new }
     ensures sockets { server.new.sockets ≡ server.old.sockets }
     ensures taken { result ≡ None → length server.new.listeners ≡ length server.old.listeners + 1 }
@@ -257,9 +265,9 @@ fn registered_listener<K: Keeper, U: UdpPort + Drop, T: TcpPort + Drop>(
 
 /// Hands each port of the server back to the hub.
 pub fn take_back<K: Keeper, H: Hub>(server: &mut ThreadServer<K, H::Udp, H::Tcp>, hub: &mut H)
-    requires sockets { length server.old.sockets ≤ H.lent_udp hub.old }
-    requires listeners { length server.old.listeners ≤ H.lent_tcp hub.old }
-    ensures back { TakesBack (around_hub H.openings H.closed_udp H.closed_tcp H.lent_udp H.lent_tcp H.faults hub.old hub.new) server.old (HasFaultyPort H.Udp.faults H.Tcp.faults server.old) }
+    requires sockets { length server.old.sockets ≤ (H.told hub.old).lent_udp }
+    requires listeners { length server.old.listeners ≤ (H.told hub.old).lent_tcp }
+    ensures back { TakesBack (around H.told hub.old hub.new) server.old (HasFaultyPort H.Udp.told H.Tcp.told server.old) }
     ensures after { server.new ≡ emptied server.old }
 {
     close_sockets(hub, server.sockets());
@@ -268,14 +276,15 @@ pub fn take_back<K: Keeper, H: Hub>(server: &mut ThreadServer<K, H::Udp, H::Tcp>
 
 /// Hands sockets back to the hub, in order.
 fn close_sockets<H: Hub>(hub: &mut H, sockets: Vec<H::Udp>)
-    requires { length sockets.items ≤ H.lent_udp hub.old }
-    ensures back { Grows (H.closed_udp hub.old) (H.closed_udp hub.new) sockets.items }
-    ensures out { H.lent_udp hub.new + length sockets.items ≡ H.lent_udp hub.old }
-    ensures opened { Keeps (H.openings hub.old) (H.openings hub.new) }
-    ensures listeners { Keeps (H.closed_tcp hub.old) (H.closed_tcp hub.new) }
-    ensures listeners_out { H.lent_tcp hub.new ≡ H.lent_tcp hub.old }
-    ensures later { H.faults hub.old ≤ H.faults hub.new }
-    ensures raised { AnyFault H.Udp.faults sockets.items → Rose (H.faults hub.old) (H.faults hub.new) }
+    requires { length sockets.items ≤ (H.told hub.old).lent_udp }
+    ensures back { Grows (H.told hub.old).closed_udp (H.told hub.new).closed_udp sockets.items }
+    ensures out { (H.told hub.new).lent_udp + length sockets.items ≡ (H.told hub.old).lent_udp }
+    ensures opened { Keeps (H.told hub.old).openings (H.told hub.new).openings }
+    ensures listeners { Keeps (H.told hub.old).closed_tcp (H.told hub.new).closed_tcp }
+    ensures listeners_out { (H.told hub.new).lent_tcp ≡ (H.told hub.old).lent_tcp }
+    ensures later { (H.told hub.old).faults ≤ (H.told hub.new).faults }
+    ensures raised { AnyFault (λ port. (H.Udp.told port).faults) sockets.items → Rose (H.told hub.old).faults (H.told hub.new).faults }
+    ensures calm { ((H.told hub.new).faults ≡ (H.told hub.old).faults) ⊎ AnyFault (λ port. (H.Udp.told port).faults) sockets.items }
 {
     for socket in sockets {
         hub.close_udp(socket);
@@ -284,14 +293,15 @@ fn close_sockets<H: Hub>(hub: &mut H, sockets: Vec<H::Udp>)
 
 /// Hands listeners back to the hub, in order.
 fn close_listeners<H: Hub>(hub: &mut H, listeners: Vec<H::Tcp>)
-    requires { length listeners.items ≤ H.lent_tcp hub.old }
-    ensures back { Grows (H.closed_tcp hub.old) (H.closed_tcp hub.new) listeners.items }
-    ensures out { H.lent_tcp hub.new + length listeners.items ≡ H.lent_tcp hub.old }
-    ensures opened { Keeps (H.openings hub.old) (H.openings hub.new) }
-    ensures sockets { Keeps (H.closed_udp hub.old) (H.closed_udp hub.new) }
-    ensures sockets_out { H.lent_udp hub.new ≡ H.lent_udp hub.old }
-    ensures later { H.faults hub.old ≤ H.faults hub.new }
-    ensures raised { AnyFault H.Tcp.faults listeners.items → Rose (H.faults hub.old) (H.faults hub.new) }
+    requires { length listeners.items ≤ (H.told hub.old).lent_tcp }
+    ensures back { Grows (H.told hub.old).closed_tcp (H.told hub.new).closed_tcp listeners.items }
+    ensures out { (H.told hub.new).lent_tcp + length listeners.items ≡ (H.told hub.old).lent_tcp }
+    ensures opened { Keeps (H.told hub.old).openings (H.told hub.new).openings }
+    ensures sockets { Keeps (H.told hub.old).closed_udp (H.told hub.new).closed_udp }
+    ensures sockets_out { (H.told hub.new).lent_udp ≡ (H.told hub.old).lent_udp }
+    ensures later { (H.told hub.old).faults ≤ (H.told hub.new).faults }
+    ensures raised { AnyFault (λ port. (H.Tcp.told port).faults) listeners.items → Rose (H.told hub.old).faults (H.told hub.new).faults }
+    ensures calm { ((H.told hub.new).faults ≡ (H.told hub.old).faults) ⊎ AnyFault (λ port. (H.Tcp.told port).faults) listeners.items }
 {
     for listener in listeners {
         hub.close_tcp(listener);

@@ -1,17 +1,18 @@
 //! The top call: what the words of the command line say is done.
 
-ghost use Rattle.std.specs.Prelude.{◌≡◌, ◌<◌, ◌≤◌, ◌^◌, ℕ, List, Some, IsSome, IfSome, IfOk, IfErr, map, string_bytes};
-ghost use Rattle.dns_io.specs.Around.{around, around_sink};
+ghost use Rattle.std.specs.Prelude.{◌≡◌, ◌<◌, ◌≤◌, ◌^◌, ℕ, List, Option, Some, IsSome, IfSome, IfOk, IfErr, map, string_bytes};
+ghost use Rattle.dns_edges.specs.Edges.{around};
 ghost use Rattle.dns_name.specs.Name.{fold_of};
 ghost use Rattle.dns_zone_map.specs.Zone.{serial_of};
 ghost use Rattle.dns_command.specs.declared.status.Status.TheVariants as status;
-ghost use Rattle.dns_command.specs.Hubs.{around_hub, socket_by, listener_by, HasAllBack};
+ghost use Rattle.dns_ports.specs.Ports.{listener_of};
+ghost use Rattle.dns_command.specs.Hubs.{HasAllBack, meanings};
 ghost use Rattle.dns_command.specs.ListeningWords.{service_of, seats_of};
 ghost use Rattle.dns_command.specs.Lines.{serve_lines};
-ghost use Rattle.dns_command.specs.ServeEnds.{ServeEnds, RunEnds, RunCompletes};
+ghost use Rattle.dns_command.specs.ServeEnds.{ServeEnds, RunTells};
 ghost use Rattle.dns_command.specs.ServingParts.{ServesBook, ServesNot, ServesOpened, ServesNone};
 ghost use Rattle.dns_command.specs.Parts.{IsReady};
-ghost use Rattle.dns_command.specs.World.{World};
+ghost use Rattle.dns_command.specs.World.{IsAsked, journal_told};
 ghost use Rattle.dns_command.specs.Writing.{EndsWriting};
 
 use crate::listening_words::{Service, service_of};
@@ -21,7 +22,8 @@ use crate::ports::{serve_ports, take_back};
 use crate::run_list::run_list;
 use crate::status::{Ended, Status, after_writing};
 use dns_book::{AccessControl, Book};
-use dns_io::{Clock, OutOfMemory, Sink, Source};
+use dns_edges::{Clock, Sink, Source};
+use dns_io::OutOfMemory;
 use dns_keeper::Keeper;
 use dns_ports::{Hub, TcpPort};
 use dns_server::ThreadServer;
@@ -60,22 +62,19 @@ where
     <H::Tcp as TcpPort>::Out: Send,
     <H::Tcp as TcpPort>::Time: Send,
     ensures keeper { IsSome result.keeper }
-    ensures ends { IfSome result.keeper (λ left. let w : World = record {
-      words = map string_bytes words.now.items;
-      zone = around Z.left Z.faults zone.old zone.new;
-      events = around E.left E.faults events.old events.new;
-      journal = around K.rows K.faults keeper left;
-      output = around_sink W.taken W.flushed W.faults out.old out.new;
-      moment = C.last clock.new;
-    } in RunEnds K.rows K.faults (socket_by H.Udp.left H.Udp.received H.Udp.taken H.Udp.faults)
-        (listener_by H.Tcp.left H.Tcp.accepted H.Tcp.ended H.Tcp.faults H.Tcp.In.left H.Tcp.In.faults H.Tcp.Out.taken H.Tcp.Out.flushed H.Tcp.Out.faults H.Tcp.Time.last) w
-        (around_hub H.openings H.closed_udp H.closed_tcp H.lent_udp H.lent_tcp H.faults hub.old hub.new) result.status
-        × RunCompletes w
-        (around_hub H.openings H.closed_udp H.closed_tcp H.lent_udp H.lent_tcp H.faults hub.old hub.new) result.status) }
-    ensures back { HasAllBack (around_hub H.openings H.closed_udp H.closed_tcp H.lent_udp H.lent_tcp H.faults hub.old hub.new) }
-    ensures later_zone { Z.faults zone.old ≤ Z.faults zone.new }
-    ensures later_events { E.faults events.old ≤ E.faults events.new }
-    ensures later_output { W.faults out.old ≤ W.faults out.new }
+    ensures ends { IfSome result.keeper (λ left. (moment : Option ℕ) × IsAsked C.clock clock.old clock.new moment × RunTells
+        (meanings K.rows K.faults H.Udp.told (listener_of H.Tcp.told H.Tcp.In.source H.Tcp.Out.sink H.Tcp.Time.clock)) (record {
+          words = map string_bytes words.now.items;
+          zone = around Z.source.told zone.old zone.new;
+          events = around E.source.told events.old events.new;
+          journal = around (journal_told K.rows K.faults) keeper left;
+          output = around W.sink.told out.old out.new;
+          moment = moment;
+        }) (around H.told hub.old hub.new) result.status) }
+    ensures back { HasAllBack (around H.told hub.old hub.new) }
+    ensures later_zone { (Z.source.told zone.old).faults ≤ (Z.source.told zone.new).faults }
+    ensures later_events { (E.source.told events.old).faults ≤ (E.source.told events.new).faults }
+    ensures later_output { (W.sink.told out.old).faults ≤ (W.sink.told out.new).faults }
 {
     match service_of(alloc, words.as_slice()) {
         Ok(Some(service)) => serve(rt, alloc, service, zone, events, keeper, hub, clock, out),
@@ -118,20 +117,20 @@ where
     requires workers { (0 < service.listening.workers) × (service.listening.workers ≤ 64) }
     requires some { 0 < seats_of service.listening }
     ensures keeper { IsSome result.keeper }
-    ensures ends { IfSome result.keeper (λ left. (words : List (List ℕ)) → service_of words ≡ Some service → let w : World = record {
-      words = words;
-      zone = around Z.left Z.faults zone.old zone.new;
-      events = around E.left E.faults until.old until.new;
-      journal = around K.rows K.faults keeper left;
-      output = around_sink W.taken W.flushed W.faults out.old out.new;
-      moment = C.last clock.new;
-    } in ServeEnds K.rows K.faults (socket_by H.Udp.left H.Udp.received H.Udp.taken H.Udp.faults)
-        (listener_by H.Tcp.left H.Tcp.accepted H.Tcp.ended H.Tcp.faults H.Tcp.In.left H.Tcp.In.faults H.Tcp.Out.taken H.Tcp.Out.flushed H.Tcp.Out.faults H.Tcp.Time.last) w
-        (around_hub H.openings H.closed_udp H.closed_tcp H.lent_udp H.lent_tcp H.faults hub.old hub.new) result.status) }
-    ensures back { HasAllBack (around_hub H.openings H.closed_udp H.closed_tcp H.lent_udp H.lent_tcp H.faults hub.old hub.new) }
-    ensures later_zone { Z.faults zone.old ≤ Z.faults zone.new }
-    ensures later_events { E.faults until.old ≤ E.faults until.new }
-    ensures later_output { W.faults out.old ≤ W.faults out.new }
+    ensures ends { IfSome result.keeper (λ left. (moment : Option ℕ) × IsAsked C.clock clock.old clock.new moment × ((words : List (List ℕ))
+        → service_of words ≡ Some service → ServeEnds
+        (meanings K.rows K.faults H.Udp.told (listener_of H.Tcp.told H.Tcp.In.source H.Tcp.Out.sink H.Tcp.Time.clock)) (record {
+          words = words;
+          zone = around Z.source.told zone.old zone.new;
+          events = around E.source.told until.old until.new;
+          journal = around (journal_told K.rows K.faults) keeper left;
+          output = around W.sink.told out.old out.new;
+          moment = moment;
+        }) (around H.told hub.old hub.new) result.status)) }
+    ensures back { HasAllBack (around H.told hub.old hub.new) }
+    ensures later_zone { (Z.source.told zone.old).faults ≤ (Z.source.told zone.new).faults }
+    ensures later_events { (E.source.told until.old).faults ≤ (E.source.told until.new).faults }
+    ensures later_output { (W.sink.told out.old).faults ≤ (W.sink.told out.new).faults }
 {
     let opening = match find_opening(alloc, &service.options.origin, zone, &mut keeper) {
         Ok(opening) => opening,
@@ -177,14 +176,15 @@ where
     requires limit { service.listening.limit < 2 ^ 47 }
     requires workers { (0 < service.listening.workers) × (service.listening.workers ≤ 64) }
     requires some { 0 < seats_of service.listening }
-    ensures ok { IfOk result (ServesOpened K.rows K.faults (socket_by H.Udp.left H.Udp.received H.Udp.taken H.Udp.faults)
-        (listener_by H.Tcp.left H.Tcp.accepted H.Tcp.ended H.Tcp.faults H.Tcp.In.left H.Tcp.In.faults H.Tcp.Out.taken H.Tcp.Out.flushed H.Tcp.Out.faults H.Tcp.Time.last)
-        (around_hub H.openings H.closed_udp H.closed_tcp H.lent_udp H.lent_tcp H.faults hub.old hub.new) (around E.left E.faults until.old until.new) keeper service opening moment) }
-    ensures err { IfErr result (λ refusal. ServesNone K.rows K.faults (socket_by H.Udp.left H.Udp.received H.Udp.taken H.Udp.faults)
-        (listener_by H.Tcp.left H.Tcp.accepted H.Tcp.ended H.Tcp.faults H.Tcp.In.left H.Tcp.In.faults H.Tcp.Out.taken H.Tcp.Out.flushed H.Tcp.Out.faults H.Tcp.Time.last)
-        (around_hub H.openings H.closed_udp H.closed_tcp H.lent_udp H.lent_tcp H.faults hub.old hub.new) (around E.left E.faults until.old until.new) keeper service opening moment refusal.status refusal.keeper) }
-    ensures back { HasAllBack (around_hub H.openings H.closed_udp H.closed_tcp H.lent_udp H.lent_tcp H.faults hub.old hub.new) }
-    ensures later { E.faults until.old ≤ E.faults until.new }
+    ensures ok { IfOk result (ServesOpened
+        (meanings K.rows K.faults H.Udp.told (listener_of H.Tcp.told H.Tcp.In.source H.Tcp.Out.sink H.Tcp.Time.clock))
+        (around H.told hub.old hub.new) (around E.source.told until.old until.new) keeper service opening moment) }
+    ensures err { IfErr result (λ refusal. ServesNone
+        (meanings K.rows K.faults H.Udp.told (listener_of H.Tcp.told H.Tcp.In.source H.Tcp.Out.sink H.Tcp.Time.clock))
+        (around H.told hub.old hub.new) (around E.source.told until.old until.new)
+        keeper service opening moment refusal.status refusal.keeper) }
+    ensures back { HasAllBack (around H.told hub.old hub.new) }
+    ensures later { (E.source.told until.old).faults ≤ (E.source.told until.new).faults }
 {
     let book = open_book(alloc, &service.options, opening, keeper, moment)?;
     let served = serve_book(rt, alloc, book, service, until, hub)?;
@@ -209,14 +209,14 @@ where
     requires limit { service.listening.limit < 2 ^ 47 }
     requires workers { (0 < service.listening.workers) × (service.listening.workers ≤ 64) }
     requires some { 0 < seats_of service.listening }
-    ensures ok { IfOk result (ServesBook K.rows K.faults (socket_by H.Udp.left H.Udp.received H.Udp.taken H.Udp.faults)
-        (listener_by H.Tcp.left H.Tcp.accepted H.Tcp.ended H.Tcp.faults H.Tcp.In.left H.Tcp.In.faults H.Tcp.Out.taken H.Tcp.Out.flushed H.Tcp.Out.faults H.Tcp.Time.last)
-        (around_hub H.openings H.closed_udp H.closed_tcp H.lent_udp H.lent_tcp H.faults hub.old hub.new) (around E.left E.faults until.old until.new) service book) }
-    ensures err { IfErr result (λ refusal. ServesNot K.rows K.faults (socket_by H.Udp.left H.Udp.received H.Udp.taken H.Udp.faults)
-        (listener_by H.Tcp.left H.Tcp.accepted H.Tcp.ended H.Tcp.faults H.Tcp.In.left H.Tcp.In.faults H.Tcp.Out.taken H.Tcp.Out.flushed H.Tcp.Out.faults H.Tcp.Time.last)
-        (around_hub H.openings H.closed_udp H.closed_tcp H.lent_udp H.lent_tcp H.faults hub.old hub.new) (around E.left E.faults until.old until.new) service book refusal.status refusal.keeper) }
-    ensures back { HasAllBack (around_hub H.openings H.closed_udp H.closed_tcp H.lent_udp H.lent_tcp H.faults hub.old hub.new) }
-    ensures later { E.faults until.old ≤ E.faults until.new }
+    ensures ok { IfOk result (ServesBook
+        (meanings K.rows K.faults H.Udp.told (listener_of H.Tcp.told H.Tcp.In.source H.Tcp.Out.sink H.Tcp.Time.clock))
+        (around H.told hub.old hub.new) (around E.source.told until.old until.new) service book) }
+    ensures err { IfErr result (λ refusal. ServesNot
+        (meanings K.rows K.faults H.Udp.told (listener_of H.Tcp.told H.Tcp.In.source H.Tcp.Out.sink H.Tcp.Time.clock))
+        (around H.told hub.old hub.new) (around E.source.told until.old until.new) service book refusal.status refusal.keeper) }
+    ensures back { HasAllBack (around H.told hub.old hub.new) }
+    ensures later { (E.source.told until.old).faults ≤ (E.source.told until.new).faults }
 {
     let Service { options, listening } = service;
     let access = AccessControl::from_networks(
@@ -249,9 +249,9 @@ fn refused<K: Keeper>(book: Book<K>, status: Status) -> Refusal<K>
 
 /// Writes the two closing lines, and tells how the program ends.
 fn finish<K: Keeper, W: Sink>(alloc: Global, book: &Book<K>, out: &mut W) -> Status
-    ensures ends { EndsWriting (around_sink W.taken W.flushed W.faults out.old out.new)
+    ensures ends { EndsWriting (around W.sink.told out.old out.new)
         (serve_lines (serial_of book.now.zone.records) book.now.row_count) status.Ok result }
-    ensures later { W.faults out.old ≤ W.faults out.new }
+    ensures later { (W.sink.told out.old).faults ≤ (W.sink.told out.new).faults }
 {
     let serial = book.serial();
     let length = book.journal_len();

@@ -1,15 +1,14 @@
 //! The commands `events` and `load`: the messages of a list of events are settled in order.
 
-ghost use Rattle.std.specs.Prelude.{◌≡◌, ◌<◌, ◌≤◌, ◌^◌, length, IsSome, IfSome, IfOk, IfErr, map, string_bytes};
-ghost use Rattle.dns_io.specs.Around.{around, around_sink};
-ghost use Rattle.dns_io.specs.Edge.{Keeps};
+ghost use Rattle.std.specs.Prelude.{◌≡◌, ◌<◌, ◌≤◌, ◌^◌, ℕ, Option, None, length, IsSome, IfSome, IfOk, IfErr, map, string_bytes};
+ghost use Rattle.dns_edges.specs.Edges.{around};
+ghost use Rattle.dns_io.specs.Told.{Keeps};
 ghost use Rattle.dns_zone_map.specs.Zone.{serial_of};
 ghost use Rattle.dns_command.specs.declared.status.Status.TheVariants as status;
 ghost use Rattle.dns_command.specs.Lines.{lines_by};
 ghost use Rattle.dns_command.specs.Steps.{LoadsEvents, LoadsNoEvents, HearsBy, HearsNotBy, IsRefused};
-ghost use Rattle.dns_command.specs.World.{World};
-ghost use Rattle.dns_command.specs.Ends.{Ends};
-ghost use Rattle.dns_command.specs.Completeness.{Completes};
+ghost use Rattle.dns_command.specs.World.{IsAsked, journal_told};
+ghost use Rattle.dns_command.specs.ServeEnds.{ListTells};
 ghost use Rattle.dns_command.specs.Parts.{Prepares, IsReady, SettlesEach, SettlesPart, SettlesAll, SettlesNot};
 ghost use Rattle.dns_command.specs.Writing.{EndsWriting};
 
@@ -19,8 +18,9 @@ use crate::opening::{Opening, Refusal, find_opening_by, open_book};
 use crate::output::{put_answers, refuse};
 use crate::status::{Ended, Status, after_writing};
 use dns_book::Book;
+use dns_edges::{Clock, Sink, Source, read_to_end};
 use dns_generator::loaded;
-use dns_io::{Clock, OutOfMemory, Sink, Source, read_to_end};
+use dns_io::OutOfMemory;
 use dns_keeper::Keeper;
 use dns_server_core::{Event, Out, Server};
 use std::alloc::Global;
@@ -58,17 +58,18 @@ pub fn run_list<Z: Source, E: Source, W: Sink, K: Keeper, C: Clock>(
     out: &mut W,
 ) -> Ended<K>
     ensures keeper { IsSome result.keeper }
-    ensures ends { IfSome result.keeper (λ left. let w : World = record {
-      words = map string_bytes words.now.items;
-      zone = around Z.left Z.faults zone.old zone.new;
-      events = around E.left E.faults events.old events.new;
-      journal = around K.rows K.faults keeper left;
-      output = around_sink W.taken W.flushed W.faults out.old out.new;
-      moment = C.last clock.new;
-    } in Ends K.rows K.faults w result.status × Completes w result.status) }
-    ensures later_zone { Z.faults zone.old ≤ Z.faults zone.new }
-    ensures later_events { E.faults events.old ≤ E.faults events.new }
-    ensures later_output { W.faults out.old ≤ W.faults out.new }
+    ensures ends { IfSome result.keeper (λ left. (moment : Option ℕ) × IsAsked C.clock clock.old clock.new moment
+        × ListTells K.rows K.faults (record {
+          words = map string_bytes words.now.items;
+          zone = around Z.source.told zone.old zone.new;
+          events = around E.source.told events.old events.new;
+          journal = around (journal_told K.rows K.faults) keeper left;
+          output = around W.sink.told out.old out.new;
+          moment = moment;
+        }) result.status) }
+    ensures later_zone { (Z.source.told zone.old).faults ≤ (Z.source.told zone.new).faults }
+    ensures later_events { (E.source.told events.old).faults ≤ (E.source.told events.new).faults }
+    ensures later_output { (W.sink.told out.old).faults ≤ (W.sink.told out.new).faults }
 {
     let inputs = match prepare(alloc, words, zone, events, &mut keeper) {
         Ok(inputs) => inputs,
@@ -102,16 +103,16 @@ fn prepare<Z: Source, E: Source, K: Keeper>(
     keeper: &mut K,
 ) -> Result<Inputs, Status>
     ensures ok { IfOk result (Prepares (map string_bytes words.now.items)
-        (around Z.left Z.faults zone.old zone.new) (around E.left E.faults events.old events.new)
-        (around K.rows K.faults keeper.old keeper.new)) }
+        (around Z.source.told zone.old zone.new) (around E.source.told events.old events.new)
+        (around (journal_told K.rows K.faults) keeper.old keeper.new)) }
     ensures err { IfErr result (IsRefused (map string_bytes words.now.items)
-        (around Z.left Z.faults zone.old zone.new) (around E.left E.faults events.old events.new)
-        (around K.rows K.faults keeper.old keeper.new)) }
+        (around Z.source.told zone.old zone.new) (around E.source.told events.old events.new)
+        (around (journal_told K.rows K.faults) keeper.old keeper.new) None) }
     ensures ready { IfOk result (λ inputs. IsReady inputs.opening (K.rows keeper.new)) }
     ensures kept { Keeps (K.rows keeper.old) (K.rows keeper.new) }
     ensures later { K.faults keeper.old ≤ K.faults keeper.new }
-    ensures later_zone { Z.faults zone.old ≤ Z.faults zone.new }
-    ensures later_events { E.faults events.old ≤ E.faults events.new }
+    ensures later_zone { (Z.source.told zone.old).faults ≤ (Z.source.told zone.new).faults }
+    ensures later_events { (E.source.told events.old).faults ≤ (E.source.told events.new).faults }
 {
     let options = match options_of(alloc, words.as_slice()) {
         Ok(Some(options)) => options,
@@ -134,9 +135,9 @@ fn load_events<E: Source>(
     source: &mut E,
 ) -> Result<Vec<Event>, Status>
     requires { IfSome options.now.drawn (λ drawn. drawn.count ≤ 100000) }
-    ensures ok { IfOk result (λ events. HearsBy (around E.left E.faults source.old source.new) options.now events.items) }
-    ensures err { IfErr result (HearsNotBy (around E.left E.faults source.old source.new) options.now) }
-    ensures later { E.faults source.old ≤ E.faults source.new }
+    ensures ok { IfOk result (λ events. HearsBy (around E.source.told source.old source.new) options.now events.items) }
+    ensures err { IfErr result (HearsNotBy (around E.source.told source.old source.new) options.now) }
+    ensures later { (E.source.told source.old).faults ≤ (E.source.told source.new).faults }
 {
     let Some(drawn) = options.drawn else {
         return read_events(alloc, source);
@@ -149,9 +150,9 @@ fn load_events<E: Source>(
 
 /// The events of a text, which is read to its end.
 fn read_events<E: Source>(alloc: Global, source: &mut E) -> Result<Vec<Event>, Status>
-    ensures ok { IfOk result (λ events. LoadsEvents (around E.left E.faults source.old source.new) events.items) }
-    ensures err { IfErr result (LoadsNoEvents (around E.left E.faults source.old source.new)) }
-    ensures later { E.faults source.old ≤ E.faults source.new }
+    ensures ok { IfOk result (λ events. LoadsEvents (around E.source.told source.old source.new) events.items) }
+    ensures err { IfErr result (LoadsNoEvents (around E.source.told source.old source.new)) }
+    ensures later { (E.source.told source.old).faults ≤ (E.source.told source.new).faults }
 {
     let text = read_to_end(alloc, source, EVENT_BOUND)?;
     match events_of(alloc, text.as_slice()) {
@@ -228,11 +229,11 @@ fn finish<K: Keeper, W: Sink>(
     served: &Served<K>,
     out: &mut W,
 ) -> Status
-    ensures ends { EndsWriting (around_sink W.taken W.flushed W.faults out.old out.new)
+    ensures ends { EndsWriting (around W.sink.told out.old out.new)
         (lines_by drawn served.now.outs.items (serial_of served.now.server.handler.zone.records)
         served.now.server.handler.row_count (length served.now.server.kept.connections))
         status.Ok result }
-    ensures later { W.faults out.old ≤ W.faults out.new }
+    ensures later { (W.sink.told out.old).faults ≤ (W.sink.told out.new).faults }
 {
     let serial = served.server.serial();
     let length = served.server.journal_len();

@@ -5,7 +5,8 @@ ghost use Rattle.std.specs.Process.{exit_status};
 ghost use Rattle.dns_command.specs.Status.{status_number, zone_kind_text, replay_kind_text, refusal_line, read_status};
 ghost use Rattle.dns_command.specs.Writing.{after_writing};
 
-use dns_io::{IoFault, OutOfMemory, ReadFault};
+use dns_edges::ReadFault;
+use dns_io::{IoFault, OutOfMemory};
 use dns_zone::{ReplayKind, ZoneTextKind};
 use std::alloc::Global;
 use std::process::ExitCode;

@@ -1,8 +1,8 @@
 -- The texts of files, and what the files in memory do at each read.
 use Rattle.std.specs.Prelude.{◌≡◌, ℕ, List, [], ◌∷◌, if◌then◌else◌, Option, Some, None, Result, Err, MatchBool, MatchResult}
 use Rattle.std.specs.Str.{bytes_eq}
-use Rattle.dns_io.specs.Edge.{one_more}
-use Rattle.dns_io.specs.Memory.{next_fails}
+use Rattle.dns_io.specs.Told.{one_more}
+use Rattle.dns_edges.specs.Memory.{next_fails}
 use Rattle.dns_keeper.specs.declared.keeper.KeepFault.{KeepFault}
 use Rattle.dns_keeper.specs.declared.keeper.KeepFault.TheVariants.{Failed, OutOfMemory}
 

@@ -1,6 +1,6 @@
 -- A zone that came from a file, and why none came.
 use Rattle.std.specs.Prelude.{◌≡◌, ℕ, List, Option, Some, None, Result, Err}
-use Rattle.dns_io.specs.Edge.{Rose}
+use Rattle.dns_io.specs.Told.{Rose}
 use Rattle.dns_wire.specs.declared.record.Record.{Record}
 use Rattle.dns_zone_map.specs.Zone.{Contents}
 use Rattle.dns_zone.specs.declared.zone_text.ZoneTextFault.{ZoneTextFault}

@@ -8,7 +8,7 @@ use dns_keeper::KeepFault;
 /// Files with their texts, each at a path.
 pub trait Files {
     ghost use Rattle.std.specs.Prelude.{ℕ, List, Option};
-    ghost use Rattle.dns_io.specs.Edge.{Keeps};
+    ghost use Rattle.dns_io.specs.Told.{Keeps};
     ghost use Rattle.dns_keeper.specs.Keeping.{HasCause};
     ghost use Rattle.dns_configuration.specs.Files.{File, IsTextAt};
 

@@ -3,7 +3,7 @@
 ghost use Rattle.std.specs.Prelude.{◌≡◌, ◌≤◌, Ok, IfOk, IfErr};
 ghost use Rattle.std.specs.Borrow.{Lends, sem};
 ghost use Rattle.std.specs.Option.{option_copied};
-ghost use Rattle.dns_io.specs.Edge.{Keeps};
+ghost use Rattle.dns_io.specs.Told.{Keeps};
 ghost use Rattle.dns_name.specs.Name.{fold_of};
 ghost use Rattle.dns_zone.specs.contracts.zone.Zone.{the_row as zone_row};
 ghost use Rattle.dns_configuration.specs.contracts.handler.FileZoneHandler.{the_row};

@@ -1,8 +1,8 @@
 -- The message of a request has at most 65,535 bytes.
 use Rattle.std.proofs.Common.{◌≡◌, ℕ, ◌≤◌, Bool, true, false, List, length, Option, Result, Ok, Err, IfOk, IfErr, refl, arith}
-use Rattle.std.specs.Prelude.{nat_lt, if◌then◌else◌}
+use Rattle.std.specs.Prelude.{nat_lt}
 use Rattle.std.proofs.lemmas.Bool.Decides.{nat_tests}
-use Rattle.dns_net.specs.Bodies.{IsFetched, is_said, whole_body}
+use Rattle.dns_net.specs.Bodies.{IsFetched, whole_body}
 use Rattle.dns_transport.specs.declared.error.NetError.{NetError}
 use Rattle.dns_transport.specs.declared.error.NetError.TheVariants.{RequestTooLarge}
 

@@ -1,10 +1,9 @@
 -- Messages as a handler is asked them.
-use Rattle.std.specs.Prelude.{◌≡◌, ◌⊎◌, ℕ, List, Result, Ok, Err}
+use Rattle.std.specs.Prelude.{ℕ, List}
 use Rattle.dns_io.specs.declared.peer.Peer.{Peer}
 use Rattle.dns_io.specs.declared.peer.Protocol.{Protocol}
 use Rattle.dns_io.specs.declared.peer.Protocol.TheVariants.{Https, H3}
 use Rattle.dns_book.specs.declared.ask.Ask.{Ask}
-use Rattle.dns_book.specs.declared.ask.Settled.{Settled}
 use Rattle.dns_net.specs.declared.version.Version.{Version}
 use Rattle.dns_net.specs.declared.version.Version.TheVariants.{Http2, Http3}
 

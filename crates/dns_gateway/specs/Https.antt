@@ -4,25 +4,29 @@ use Rattle.http.specs.Request.{head_of, body_of}
 use Rattle.http.specs.Response.{head_of as response_head_of}
 use Rattle.http.specs.declared.request.Request.{Request}
 use Rattle.http.specs.declared.response.Response.{Response}
-use Rattle.dns_io.specs.Edge.{Told}
+use Rattle.dns_io.specs.Told.{Told}
 use Rattle.dns_book.specs.declared.ask.Ask.{Ask}
 use Rattle.dns_book.specs.declared.ask.Settled.{Settled}
 use Rattle.dns_net.specs.Bodies.{AsksNext, Fetches, FetchesBytes, IsFetched, IsReadOnce}
 use Rattle.dns_net.specs.Building.{IsResponse}
 use Rattle.dns_net.specs.Checks.{taken}
 use Rattle.dns_net.specs.declared.version.Version.{Version}
+use Rattle.dns_transport.specs.Pieces.{BodyTold}
 use Rattle.dns_transport.specs.declared.error.NetError.{NetError}
 use Rattle.dns_transport.specs.declared.error.NetError.TheVariants.{OutOfMemory}
 
 -- the message of a request is taken, or it is refused by its head, and then stays as it was
-pub record TakesMessage {R : Type 0} (left : R → Option (List (List ℕ))) (left_bytes : R → Option (List ℕ)) (faults : R → ℕ) (version : Version) (name : Option (List ℕ)) (path : List ℕ)
+pub record TakesMessage {R : Type 0} (told : R → BodyTold) (version : Version) (name : Option (List ℕ)) (path : List ℕ)
     (before : Request R) (received : Result (List ℕ) NetError) (after : Request R) : Type 0 where
   pub head : head_of after ≡ head_of before
   pub refused : IfErr (taken version name path (head_of before)) (λ fault. (received ≡ Err fault) × (after ≡ before))
-  pub pieces : IfOk (taken version name path (head_of before)) (λ said. Told (Fetches said received) (left (body_of before)) (left (body_of after)))
-  pub read : IfOk (taken version name path (head_of before)) (λ said. IsReadOnce (AsksNext left left_bytes faults) said (body_of before) received (body_of after))
+  pub pieces : IfOk (taken version name path (head_of before))
+      (λ said. Told (Fetches said received) (told (body_of before)).left (told (body_of after)).left)
+  pub read : IfOk (taken version name path (head_of before))
+      (λ said. IsReadOnce (AsksNext told) said (body_of before) received (body_of after))
   pub whole : IfOk (taken version name path (head_of before)) (λ said. IsFetched said received)
-  pub bytes : IfOk (taken version name path (head_of before)) (λ said. Told (FetchesBytes said received) (left_bytes (body_of before)) (left_bytes (body_of after)))
+  pub bytes : IfOk (taken version name path (head_of before))
+      (λ said. Told (FetchesBytes said received) (told (body_of before)).left_bytes (told (body_of after)).left_bytes)
 
 -- what is given for a reply: itself, behind the head of a response of its length; or nothing, where none is owed
 abbrev pub GivesReply : Version → Option (List ℕ) → Result (Option (Response (Unit {0}) × List ℕ)) NetError → Type 0
@@ -38,10 +42,10 @@ AnswersRequest serves skips version before ask answer now =
     ⊎ (skips before now × (answer ≡ Err OutOfMemory))
 
 -- the message of a request is taken and answered; where none is taken, the handler stays as it is
-abbrev pub SettlesRequest : {H R : Type 0} → (H → Ask → Settled → H → Type 0) → (H → H → Type 0) → (R → Option (List (List ℕ))) → (R → Option (List ℕ)) → (R → ℕ)
+abbrev pub SettlesRequest : {H R : Type 0} → (H → Ask → Settled → H → Type 0) → (H → H → Type 0) → (R → BodyTold)
     → Version → Option (List ℕ) → List ℕ → (List ℕ → Ask) → H → Request R → Result (Option (Response (Unit {0}) × List ℕ)) NetError → H → Request R → Type 0
-SettlesRequest serves skips left left_bytes faults version name path ask before request answer now after =
-    (received : Result (List ℕ) NetError) × TakesMessage left left_bytes faults version name path request received after
+SettlesRequest serves skips told version name path ask before request answer now after =
+    (received : Result (List ℕ) NetError) × TakesMessage told version name path request received after
     × MatchResult received
     (λ bytes. AnswersRequest serves skips version before (ask bytes) answer now)
     (λ fault. (now ≡ before) × (answer ≡ Err fault))

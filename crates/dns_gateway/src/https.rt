@@ -30,9 +30,9 @@ pub fn settle_http<T: RequestHandler, R: BodyPieces>(
     at: u64,
 ) -> Result<Option<(Response<()>, Octets)>, NetError>
     requires moment { at < 2 ^ 47 }
-    ensures settles { SettlesRequest (T.serves access.now) T.skips R.left R.left_bytes R.faults version (option_copied server_name.entry) endpoint.now
+    ensures settles { SettlesRequest (T.serves access.now) T.skips R.told version (option_copied server_name.entry) endpoint.now
         (ask_of peer (protocol_of version) at) handler.old request.old result handler.new request.new }
-    ensures cause { HasCause (R.faults (body_of request.old)) (R.faults (body_of request.new)) result }
+    ensures cause { HasCause (R.told (body_of request.old)).faults (R.told (body_of request.new)).faults result }
 {
     match message_of(alloc, version, server_name, endpoint, request) {
         Ok(bytes) => {
@@ -57,9 +57,9 @@ fn message_of<R: BodyPieces>(
     endpoint: &str,
     request: &mut Request<R>,
 ) -> Result<Octets, NetError>
-    ensures takes { TakesMessage R.left R.left_bytes R.faults version (option_copied server_name.entry) endpoint.now request.old result request.new }
+    ensures takes { TakesMessage R.told version (option_copied server_name.entry) endpoint.now request.old result request.new }
     ensures short { IfOk result (λ bytes. length bytes ≤ 65535) }
-    ensures cause { HasCause (R.faults (body_of request.old)) (R.faults (body_of request.new)) result }
+    ensures cause { HasCause (R.told (body_of request.old)).faults (R.told (body_of request.new)).faults result }
 {
     message_from(alloc, version, server_name, endpoint, request)
 }

@@ -1,10 +1,12 @@
 //! One message on a stream of QUIC (RFC 9250 4.2).
 
-ghost use Rattle.std.specs.Prelude.{◌≡◌, ◌⊎◌, ◌≤◌, ◌<◌, ◌^◌, length, Some, IsErrOf};
-ghost use Rattle.dns_io.specs.Edge.{Rose};
+ghost use Rattle.std.specs.Prelude.{◌≡◌, ◌≤◌, ◌<◌, ◌^◌, length, Some, IsErrOf};
+ghost use Rattle.dns_io.specs.Told.{Rose};
 ghost use Rattle.dns_io.specs.declared.peer.Protocol.TheVariants as protocol;
 ghost use Rattle.dns_gateway.specs.Asks.{ask_of};
-ghost use Rattle.dns_quic.specs.Halves.{EndsHalf};
+ghost use Rattle.dns_quic.specs.Connections.{HasStreamCause};
+ghost use Rattle.dns_quic.specs.Streams.{IsOtherId};
+ghost use Rattle.dns_transport.specs.Faults.{HasCause};
 ghost use Rattle.dns_gateway.specs.Quic.{other_id, AnswersMessage, Refuses, SendsReply, SettlesMessage, SettlesStream};
 
 use dns_book::{AccessControl, Ask, ReplyBytes, Settled};
@@ -31,11 +33,9 @@ pub fn settle_quic<T: RequestHandler, S: SendHalf, R: RecvHalf>(
     at: u64,
 ) -> Result<Settled, NetError>
     requires moment { at < 2 ^ 47 }
-    ensures settles { SettlesStream (T.serves access.now) T.skips S.taken S.ends (EndsHalf S.ending S.faults) R.left R.stops (ask_of peer protocol.Quic at)
+    ensures settles { SettlesStream (T.serves access.now) T.skips S.sending R.told (ask_of peer protocol.Quic at)
         handler.old stream.old result handler.new stream.new }
-    ensures recv_faults { R.faults stream.old.recv ≤ R.faults stream.new.recv }
-    ensures send_faults { S.faults stream.old.send ≤ S.faults stream.new.send }
-    ensures failed { IsErrOf result NetError.Io → Rose (R.faults stream.old.recv) (R.faults stream.new.recv) ⊎ Rose (S.faults stream.old.send) (S.faults stream.new.send) }
+    ensures cause { HasStreamCause S.sending R.told stream.old result stream.new }
 {
     match stream.receive_bytes(alloc) {
         Ok(bytes) => {
@@ -61,10 +61,13 @@ fn answer<T: RequestHandler, S: SendHalf, R: RecvHalf>(
 ) -> Result<Settled, NetError>
     requires moment { ask.now.at < 2 ^ 47 }
     requires bytes { length ask.now.bytes ≤ 65535 }
-    ensures answers { AnswersMessage (T.serves access.now) T.skips S.taken S.ends (EndsHalf S.ending S.faults) (other_id ask.now.bytes) handler.old stream.old ask.now result handler.new stream.new }
+    ensures answers { AnswersMessage (T.serves access.now) T.skips S.sending (other_id ask.now.bytes)
+        handler.old stream.old ask.now result handler.new stream.new }
     ensures recv { stream.new.recv ≡ stream.old.recv }
-    ensures send_faults { S.faults stream.old.send ≤ S.faults stream.new.send }
-    ensures failed { IsErrOf result NetError.Io → Rose (S.faults stream.old.send) (S.faults stream.new.send) }
+    ensures later { (S.sending.told stream.old.send).faults ≤ (S.sending.told stream.new.send).faults }
+    ensures failed { IsErrOf result NetError.Io → Rose (S.sending.told stream.old.send).faults (S.sending.told stream.new.send).faults }
+    ensures calm { ¬ (IsErrOf result NetError.Io) → ¬ (IsOtherId result)
+        → (S.sending.told stream.new.send).faults ≡ (S.sending.told stream.old.send).faults }
 {
     match other_id(ask.bytes.as_slice()) {
         Some(id) => refuse(stream, id),
@@ -91,9 +94,9 @@ fn refuse<S: SendHalf, R: RecvHalf>(
     stream: &mut QuicStream<S, R>,
     id: u16,
 ) -> Result<Settled, NetError>
-    ensures refuses { Refuses S.taken S.ends (EndsHalf S.ending S.faults) stream.old id result stream.new }
+    ensures refuses { Refuses S.sending stream.old id result stream.new }
     ensures recv { stream.new.recv ≡ stream.old.recv }
-    ensures send_faults { S.faults stream.old.send ≤ S.faults stream.new.send }
+    ensures later { (S.sending.told stream.old.send).faults ≤ (S.sending.told stream.new.send).faults }
     ensures calm { IsErrOf result NetError.Io → ⊥ }
 {
     match stream.reset(DoqErrorCode::ProtocolError) {
@@ -111,10 +114,9 @@ fn settle<T: RequestHandler, S: SendHalf, R: RecvHalf>(
 ) -> Result<Settled, NetError>
     requires moment { ask.now.at < 2 ^ 47 }
     requires bytes { length ask.now.bytes ≤ 65535 }
-    ensures settles { SettlesMessage (T.serves access.now) T.skips S.taken S.ends (EndsHalf S.ending S.faults) handler.old stream.old ask.now result handler.new stream.new }
+    ensures settles { SettlesMessage (T.serves access.now) T.skips S.sending handler.old stream.old ask.now result handler.new stream.new }
     ensures recv { stream.new.recv ≡ stream.old.recv }
-    ensures send_faults { S.faults stream.old.send ≤ S.faults stream.new.send }
-    ensures failed { IsErrOf result NetError.Io → Rose (S.faults stream.old.send) (S.faults stream.new.send) }
+    ensures cause { HasCause (S.sending.told stream.old.send).faults (S.sending.told stream.new.send).faults result }
 {
     let settled = handler.handle_request(access, ask)?;
     match send_reply(stream, &settled.reply) {
@@ -128,10 +130,9 @@ fn send_reply<S: SendHalf, R: RecvHalf>(
     stream: &mut QuicStream<S, R>,
     reply: &Option<ReplyBytes>,
 ) -> Result<(), NetError>
-    ensures sends { SendsReply S.taken S.ends (EndsHalf S.ending S.faults) stream.old reply.now result stream.new }
+    ensures sends { SendsReply S.sending stream.old reply.now result stream.new }
     ensures recv { stream.new.recv ≡ stream.old.recv }
-    ensures send_faults { S.faults stream.old.send ≤ S.faults stream.new.send }
-    ensures failed { IsErrOf result NetError.Io → Rose (S.faults stream.old.send) (S.faults stream.new.send) }
+    ensures cause { HasCause (S.sending.told stream.old.send).faults (S.sending.told stream.new.send).faults result }
 {
     match reply {
         None => Ok(()),
@@ -144,10 +145,9 @@ fn send_whole<S: SendHalf, R: RecvHalf>(
     stream: &mut QuicStream<S, R>,
     bytes: &[u8],
 ) -> Result<(), NetError>
-    ensures sends { SendsReply S.taken S.ends (EndsHalf S.ending S.faults) stream.old (Some bytes.now) result stream.new }
+    ensures sends { SendsReply S.sending stream.old (Some bytes.now) result stream.new }
     ensures recv { stream.new.recv ≡ stream.old.recv }
-    ensures send_faults { S.faults stream.old.send ≤ S.faults stream.new.send }
-    ensures failed { IsErrOf result NetError.Io → Rose (S.faults stream.old.send) (S.faults stream.new.send) }
+    ensures cause { HasCause (S.sending.told stream.old.send).faults (S.sending.told stream.new.send).faults result }
 {
     match stream.send_bytes(bytes) {
         Ok(()) => stream.finish(),

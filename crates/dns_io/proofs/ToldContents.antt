@@ -1,7 +1,7 @@
 -- How what is told goes on over several calls.
 use Rattle.std.proofs.Common.{◌≡◌, ℕ, List, [], ◌++◌, take, drop, Option, Some, None, refl, sym, ap, ◌∙◌, append_assoc}
 use Rattle.std.proofs.lemmas.List.{append-nil, take-append-drop}
-use Rattle.dns_io.specs.Edge.{Told, Keeps, Takes, Grows, GrowsByPrefix}
+use Rattle.dns_io.specs.Told.{Told, Keeps, Takes, Grows, GrowsByPrefix}
 
 -- two calls, and what holds over both
 pub Told-more : {A B C : Type 0} (R : A → B → Type 0) (S : B → C → Type 0) (T : A → C → Type 0) → ((a : A) (b : B) (c : C) → R a b → S b c → T a c) → (a : Option A) (b : Option B) (c : Option C) → Told R a b → Told S b c → Told T a c

@@ -1,5 +1,3 @@
 pub mod Octets
-pub mod Edge
-pub mod Around
-pub mod Memory
-pub mod Adapters
+pub mod Faults
+pub mod Told

@@ -1,19 +1,15 @@
-//! How bytes and moments come in and go out: sources, sinks and clocks, over memory and over the operating system; and
-//! the octets and peers that they carry.
+//! What comes in and goes out: octets and the peers that send them, why nothing was read or written, and the words for what an
+//! object tells of its content.
 #![tactic(auto)]
 
-mod adapters;
-mod edge;
 mod fault;
-mod memory;
+mod io_fault;
 mod octets;
 mod peer;
-mod to_end;
+mod told;
 
-pub use adapters::{FileSource, Opened, Reading, SystemClock, Writing};
-pub use edge::{Clock, IoFault, Sink, Source, told_contents, write_all};
 pub use fault::OutOfMemory;
-pub use memory::{MemoryClock, MemorySink, MemorySource};
+pub use io_fault::IoFault;
 pub use octets::Octets;
 pub use peer::{Ip, Peer, Protocol};
-pub use to_end::{ReadFault, read_to_end};
+pub use told::told_contents;

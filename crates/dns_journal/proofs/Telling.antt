@@ -8,7 +8,7 @@ use Rattle.sqlite.specs.Effect.{Database}
 use Rattle.sqlite.specs.State.{State, HasCleanDisk}
 use Rattle.sqlite_trees.specs.View.{doubt}
 use Rattle.sqlite_trees.proofs.Doubt.{clean_of, no_doubt}
-use Rattle.dns_io.specs.Edge.{Keeps}
+use Rattle.dns_io.specs.Told.{Keeps}
 use Rattle.dns_wire.specs.declared.record.Record.{Record}
 use Rattle.dns_wire.specs.WireFormat.{record_bytes}
 use Rattle.dns_sqlite.specs.Tables.{journal_schema}

@@ -5,7 +5,7 @@ ghost use Rattle.sqlite_trees.specs.View.{doubt};
 ghost use Rattle.sqlite.specs.Held.{state};
 ghost use Rattle.sqlite.specs.State.{HasCleanDisk};
 ghost use Rattle.dns_sqlite.specs.Reads.{HasPage};
-ghost use Rattle.dns_io.specs.Edge.{Keeps, Rose, one_more};
+ghost use Rattle.dns_io.specs.Told.{Keeps, Rose, one_more};
 ghost use Rattle.dns_wire.specs.WireFormat.{record_bytes, IsShort, AreShort};
 ghost use Rattle.dns_keeper.specs.declared.keeper.KeepFault.TheVariants.{Failed, OutOfMemory as NoRoom};
 ghost use Rattle.dns_keeper.specs.Keeping.{GrowsByBatch, TellsAscending, IsRowFrom, IsFirstRow, HasCause};

@@ -5,7 +5,7 @@ ghost use Rattle.std.specs.Int.{w64};
 ghost use Rattle.std.specs.Option.{option_to_list};
 ghost use Rattle.sqlite_trees.specs.View.{doubt};
 ghost use Rattle.sqlite.specs.Held.{state};
-ghost use Rattle.dns_io.specs.Edge.{Keeps, Rose, one_more};
+ghost use Rattle.dns_io.specs.Told.{Keeps, Rose, one_more};
 ghost use Rattle.dns_journal.specs.Told.{told_rows};
 ghost use Rattle.dns_journal.specs.Crash.{LeavesTrees};
 ghost use Rattle.dns_journal.specs.Records.{AreRecordsOf, TellsNoRecord, IsRecordFault};

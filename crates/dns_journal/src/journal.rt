@@ -3,7 +3,7 @@
 ghost use Rattle.std.specs.Prelude.{◌≡◌, ◌≢◌, ◌≤◌, ◌⊎◌, ◌↔◌, pos, negsuc, [], Some, Ok, Err, false, IsTrue, IfOk, IfErr, OnOk, OnErr, IsErrOf};
 ghost use Rattle.sqlite.specs.Held.{state};
 ghost use Rattle.sqlite.specs.State.{HasCleanDisk};
-ghost use Rattle.dns_io.specs.Edge.{Rose, one_more};
+ghost use Rattle.dns_io.specs.Told.{Rose, one_more};
 ghost use Rattle.dns_sqlite.specs.Versions.{IsAtVersion, KeepsNow, BecomesNewJournal};
 ghost use Rattle.dns_journal.specs.Told.{told_rows, TellsOnly};
 ghost use Rattle.dns_journal.specs.Crash.{LeftAs, LeavesTrees};

@@ -1,6 +1,6 @@
 -- What the calls of a keeper do to its rows, where it tells them afterwards, and to its count of faults.
 use Rattle.std.specs.Prelude.{◌≡◌, ℕ, ℤ, ◌≤◌, List, [], ◌∷◌, Option, Some, None, Result, IsErrOf}
-use Rattle.dns_io.specs.Edge.{Rose, Told}
+use Rattle.dns_io.specs.Told.{Rose, Told}
 use Rattle.dns_stamp.specs.Stamp.{IsStampOf}
 use Rattle.dns_wire.specs.declared.record.Record.{Record}
 use Rattle.dns_keeper.specs.declared.row.Row.{Row}

@@ -48,7 +48,7 @@ impl<T: Drop> From<AllocFailed<T>> for KeepFault {
 /// What keeps the rows of a journal, by ascending id.
 pub trait Keeper {
     ghost use Rattle.dns_keeper.specs.declared.row.Row.{Row};
-    ghost use Rattle.dns_io.specs.Edge.{Keeps};
+    ghost use Rattle.dns_io.specs.Told.{Keeps};
     ghost use Rattle.dns_keeper.specs.Keeping.{GrowsByBatch, TellsAscending, IsRowFrom, IsFirstRow, HasCause};
     ghost use Rattle.dns_keeper.specs.Crash.{LeavesTold, LeavesNoOther, LeavesWhole};
 

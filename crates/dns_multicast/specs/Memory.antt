@@ -1,10 +1,11 @@
 -- What the source of packets in memory does at each call.
 use Rattle.std.specs.Prelude.{◌≡◌, ℕ, List, [], ◌∷◌, Option, Some, None, Result, Ok, Err, MatchBool}
-use Rattle.dns_io.specs.Edge.{one_more}
-use Rattle.dns_io.specs.Memory.{next_fails}
-use Rattle.dns_io.specs.declared.edge.IoFault.{IoFault}
-use Rattle.dns_io.specs.declared.edge.IoFault.TheVariants.{Failed}
+use Rattle.dns_io.specs.Told.{one_more}
+use Rattle.dns_edges.specs.Memory.{next_fails}
+use Rattle.dns_io.specs.declared.io_fault.IoFault.{IoFault}
+use Rattle.dns_io.specs.declared.io_fault.IoFault.TheVariants.{Failed}
 use Rattle.dns_multicast.specs.declared.packet.Packet.{Packet}
+use Rattle.dns_multicast.specs.Polls.{PacketsTold}
 use Rattle.dns_transport.specs.declared.poll.Poll.{Poll}
 use Rattle.dns_transport.specs.declared.poll.Poll.TheVariants.{Ready, Pending}
 
@@ -16,6 +17,10 @@ pub record PacketsState : Type 0 where
   pub pending : List ℕ
   pub calls : ℕ
   pub faults : ℕ
+
+-- what it tells
+abbrev pub packets_told : PacketsState → PacketsTold
+packets_told s = record { left = Some s.left; faults = s.faults }
 
 -- the source after a call
 abbrev pub called : PacketsState → PacketsState

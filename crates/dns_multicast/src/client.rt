@@ -2,8 +2,7 @@
 
 ghost use Rattle.std.specs.Prelude.{◌≡◌, ◌⊎◌, ◌<◌, ◌≤◌, ◌&&◌, not, Ok, Err, IfSome, MatchBool};
 ghost use Rattle.std.specs.Option.{is_some};
-ghost use Rattle.dns_io.specs.Edge.{Rose};
-ghost use Rattle.dns_multicast.specs.Polls.{IsIo, PollsNext, faults_of};
+ghost use Rattle.dns_multicast.specs.Polls.{HasStreamCause, PollsNext};
 ghost use Rattle.dns_multicast.specs.Queries.{group_v4, group_v6, is_group, is_joined, is_sender};
 ghost use Rattle.dns_transport.specs.declared.error.NetError.TheVariants.{NotMulticast};
 
@@ -78,13 +77,11 @@ impl<D: PacketPoll + Drop, M: PacketPoll + Drop> MdnsClientStream<D, M> {
 
     /// The next packet of its stream, as `MdnsStream::poll_next` gives it.
     pub fn poll_next(&mut self) -> Poll<Option<Result<Packet, NetError>>>
-        ensures polls { PollsNext D.polls M.polls self.old.stream.datagram self.old.stream.multicast result self.new.stream.datagram self.new.stream.multicast }
+        ensures polls { PollsNext D.packets M.packets (self.old.stream.datagram, self.old.stream.multicast) result
+            (self.new.stream.datagram, self.new.stream.multicast) }
         ensures kept { self.new.stream ≡ record self.old.stream { datagram = self.new.stream.datagram; multicast = self.new.stream.multicast } }
-        ensures later_datagram { faults_of D.faults self.old.stream.datagram ≤ faults_of D.faults self.new.stream.datagram }
-        ensures later_multicast { faults_of M.faults self.old.stream.multicast ≤ faults_of M.faults self.new.stream.multicast }
-        ensures cause { IsIo result → Rose (faults_of D.faults self.old.stream.datagram) (faults_of D.faults self.new.stream.datagram) ⊎ Rose (faults_of M.faults self.old.stream.multicast) (faults_of M.faults self.new.stream.multicast) }
-        ensures calm_datagram { ¬ (IsIo result) → faults_of D.faults self.new.stream.datagram ≡ faults_of D.faults self.old.stream.datagram }
-        ensures calm_multicast { ¬ (IsIo result) → faults_of M.faults self.new.stream.multicast ≡ faults_of M.faults self.old.stream.multicast }
+        ensures cause { HasStreamCause D.packets M.packets (self.old.stream.datagram, self.old.stream.multicast) result
+            (self.new.stream.datagram, self.new.stream.multicast) }
     {
         self.stream.poll_next()
     }

@@ -1,8 +1,8 @@
 //! A source of packets in memory, for tests. It always tells its content, and the calls fail whose numbers it was made with.
 
-ghost use Rattle.std.specs.Prelude.{◌≡◌, Some};
-ghost use Rattle.dns_multicast.specs.Memory.{PacketNext};
-ghost use Rattle.dns_multicast.specs.Polls.{GivesPacket, HasPollCause};
+ghost use Rattle.std.specs.Prelude.{◌≡◌};
+ghost use Rattle.dns_multicast.specs.Memory.{PacketNext, packets_told};
+ghost use Rattle.dns_multicast.specs.Polls.{Polls};
 
 use crate::packet::{Packet, PacketPoll};
 use dns_io::IoFault;
@@ -45,11 +45,7 @@ impl MemoryPackets {
 }
 
 impl PacketPoll for MemoryPackets {
-    ghost left = { λ s. Some s.left };
-
-    ghost faults = { λ s. s.faults };
-
-    ghost polls = { PacketNext };
+    ghost packets = { record { told = packets_told; polls = PacketNext } };
 
     fn poll_packet(&mut self) -> Poll<Option<Result<Packet, IoFault>>> {
         self.calls = self.calls.saturating_add(1);

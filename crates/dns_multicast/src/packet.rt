@@ -1,10 +1,6 @@
 //! Packets, and how it is asked for the next one.
 
-ghost use Rattle.std.specs.Prelude.{◌≡◌, ℕ, ◌≤◌, List, Option, Result};
-ghost use Rattle.dns_io.specs.declared.edge.IoFault.{IoFault as Fault};
-ghost use Rattle.dns_multicast.specs.Polls.{GivesPacket, HasPollCause};
-ghost use Rattle.dns_multicast.specs.declared.packet.Packet.{Packet as Datagram};
-ghost use Rattle.dns_transport.specs.declared.poll.Poll.{Poll as Answer};
+ghost use Rattle.dns_multicast.specs.Polls.{PacketsOf, Polls};
 
 use dns_io::{IoFault, Octets, Peer};
 use dns_transport::Poll;
@@ -20,19 +16,12 @@ pub struct Packet {
 
 /// A source of packets that is asked, and may have none yet.
 pub trait PacketPoll {
-    /// The packets that are left, where they are told. A source may stop telling them at any call, and then never tells
-    /// them again.
-    ghost left: { Self → Option (List Datagram) };
-
-    /// How many calls failed, up to `u64::MAX`.
-    ghost faults: { Self → ℕ };
-
-    /// What one asking may answer, and how it may leave the source.
-    ghost polls: { Self → Answer (Option (Result Datagram Fault)) → Self → Type 0 };
+    /// What is known of it: the packets that are left, where they are told, how many calls failed, up to `u64::MAX`, and what an asking
+    /// does. A source may stop telling its packets at any call, and then never tells them again.
+    ghost packets: { PacketsOf Self };
 
     /// Gives the next packet, `None` at the end, or that there is none yet. After a fault none was taken.
     fn poll_packet(&mut self) -> Poll<Option<Result<Packet, IoFault>>>
-        ensures next { polls self.old result self.new }
-        ensures given { GivesPacket (left self.old) (left self.new) result }
-        ensures cause { HasPollCause (faults self.old) (faults self.new) result };
+        ensures told { Polls (packets.told self.old) (packets.told self.new) result }
+        ensures next { packets.polls self.old result self.new };
 }

@@ -2,8 +2,7 @@
 
 ghost use Rattle.std.specs.Prelude.{◌≡◌, ◌⊎◌, ◌<◌, ◌≤◌, ◌&&◌, not, true, Ok, Err, IsOk, IfOk, IfSome, MatchBool, MatchResult};
 ghost use Rattle.std.specs.Option.{is_some};
-ghost use Rattle.dns_io.specs.Edge.{Rose};
-ghost use Rattle.dns_multicast.specs.Polls.{HasPollCause, IsAsked, IsIo, PollsNext, faults_of, told_as};
+ghost use Rattle.dns_multicast.specs.Polls.{HasPollCause, HasStreamCause, IsAsked, PollsNext, faults_of, told_as};
 ghost use Rattle.dns_multicast.specs.Queries.{group_v4, group_v6, is_group, is_joined, is_sender};
 ghost use Rattle.dns_transport.specs.declared.error.NetError.TheVariants.{NotMulticast};
 
@@ -91,13 +90,11 @@ impl<D: PacketPoll + Drop, M: PacketPoll + Drop> MdnsStream<D, M> {
     /// The next packet, `None` at the end, or that there is none yet. The datagram source is asked first, and the multicast
     /// source only where that has none yet or is missing; the first answer is given.
     pub fn poll_next(&mut self) -> Poll<Option<Result<Packet, NetError>>>
-        ensures polls { PollsNext D.polls M.polls self.old.datagram self.old.multicast result self.new.datagram self.new.multicast }
+        ensures polls { PollsNext D.packets M.packets (self.old.datagram, self.old.multicast) result
+            (self.new.datagram, self.new.multicast) }
         ensures kept { self.new ≡ record self.old { datagram = self.new.datagram; multicast = self.new.multicast } }
-        ensures later_datagram { faults_of D.faults self.old.datagram ≤ faults_of D.faults self.new.datagram }
-        ensures later_multicast { faults_of M.faults self.old.multicast ≤ faults_of M.faults self.new.multicast }
-        ensures cause { IsIo result → Rose (faults_of D.faults self.old.datagram) (faults_of D.faults self.new.datagram) ⊎ Rose (faults_of M.faults self.old.multicast) (faults_of M.faults self.new.multicast) }
-        ensures calm_datagram { ¬ (IsIo result) → faults_of D.faults self.new.datagram ≡ faults_of D.faults self.old.datagram }
-        ensures calm_multicast { ¬ (IsIo result) → faults_of M.faults self.new.multicast ≡ faults_of M.faults self.old.multicast }
+        ensures cause { HasStreamCause D.packets M.packets (self.old.datagram, self.old.multicast) result
+            (self.new.datagram, self.new.multicast) }
     {
         match ask(&mut self.datagram) {
             Poll::Pending => told(ask(&mut self.multicast)),
@@ -108,8 +105,8 @@ impl<D: PacketPoll + Drop, M: PacketPoll + Drop> MdnsStream<D, M> {
 
 /// Asks a source, where there is one.
 fn ask<S: PacketPoll>(source: &mut Option<S>) -> Poll<Option<Result<Packet, IoFault>>>
-    ensures asked { IsAsked S.polls source.old result source.new }
-    ensures cause { HasPollCause (faults_of S.faults source.old) (faults_of S.faults source.new) result }
+    ensures asked { IsAsked S.packets source.old result source.new }
+    ensures cause { HasPollCause (faults_of S.packets source.old) (faults_of S.packets source.new) result }
 {
     match source {
         None => Poll::Pending,

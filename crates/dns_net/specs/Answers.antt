@@ -7,8 +7,7 @@ use Rattle.http.specs.declared.response.Response.{Response}
 use Rattle.http.specs.declared.response.Parts.{Parts}
 use Rattle.http_header.specs.HeaderMap.{Entries, get}
 use Rattle.http_header.specs.FieldValue.{FieldValue}
-use Rattle.dns_io.specs.Edge.{Told, Rose, Grows}
-use Rattle.dns_io.specs.declared.edge.IoFault.{IoFault}
+use Rattle.dns_io.specs.Told.{Told, Rose, Grows}
 use Rattle.dns_name.specs.declared.fault.ProtoError.{ProtoError}
 use Rattle.dns_wire.specs.declared.message.Message.{Message}
 use Rattle.dns_wire.specs.MessageBytes.{message_bytes, TellsTooLong}
@@ -17,14 +16,14 @@ use Rattle.dns_transport.specs.declared.error.LinkFault.{LinkFault}
 use Rattle.dns_transport.specs.declared.error.NetError.{NetError}
 use Rattle.dns_transport.specs.declared.error.NetError.TheVariants as net
 use Rattle.dns_transport.specs.declared.error.ResponseKind.TheVariants as bad
-use Rattle.dns_net.specs.declared.link.LinkCall.{LinkCall}
 use Rattle.dns_net.specs.declared.link.LinkCall.TheVariants.{Returned}
-use Rattle.dns_net.specs.Bodies.{Fetches, IsFetched, IsReadOnce}
+use Rattle.dns_net.specs.Bodies.{AsksNext, Fetches, FetchesBytes, IsFetched, IsReadOnce}
 use Rattle.dns_net.specs.Building.{IsRequest, CanBuild, TellsBuild}
 use Rattle.dns_net.specs.Checks.{said_length, is_dns_message}
 use Rattle.dns_transport.specs.Faults.{HasCause, of_proto, of_link}
 use Rattle.dns_transport.specs.Messages.{with_id_0, ReadsMessage}
-use Rattle.dns_net.specs.Links.{TellsAsked}
+use Rattle.dns_transport.specs.Pieces.{BodyTold}
+use Rattle.dns_net.specs.Links.{LinkOf, TellsAsked}
 
 -- a request that carries this message, by this version, to this server and path, with these header fields beside the
 -- usual ones
@@ -58,32 +57,36 @@ ReadsResponse head bytes result =
     (result ≡ Err (net.Response bad.ContentType)))
     (result ≡ Err (net.Response (bad.Status head.status)))
 
--- what a response says: how long its body is said to be, then the body, then the rest. Where its length is no number,
--- nothing of the body is read.
-abbrev pub Answers : {B : Type 0} → (B → Option (List (List ℕ))) → (B → Result (Option (List ℕ)) IoFault → B → Type 0) → Parts → B → B → Result Message NetError → Type 0
-Answers left next head before after result =
+-- what a response says: how long its body is said to be, then the body, by its pieces and by its bytes, then the rest. Where its
+-- length is no number, nothing of the body is read.
+abbrev pub Answers : {B : Type 0} → (B → BodyTold) → Parts → B → B → Result Message NetError → Type 0
+Answers told head before after result =
     MatchResult (said_length (net.Response bad.LengthText) (get head.headers (codes "content-length")))
-    (λ said. (fetched : Result (List ℕ) NetError) × Told (Fetches said fetched) (left before) (left after)
-    × IsReadOnce next said before fetched after × IsFetched said fetched
+    (λ said. (fetched : Result (List ℕ) NetError)
+    × Told (Fetches said fetched) (told before).left (told after).left
+    × Told (FetchesBytes said fetched) (told before).left_bytes (told after).left_bytes
+    × IsReadOnce (AsksNext told) said before fetched after × IsFetched said fetched
     × MatchResult fetched (λ bytes. ReadsResponse head bytes result) (λ fault. result ≡ Err fault))
     (λ fault. (result ≡ Err fault) × (after ≡ before))
 
 -- how an exchange over a link went: its answer, and where that is a response, what it says, and that its body came back,
 -- whose faults grew exactly where the answer is `Io`
-pub record WentOver {L B : Type 0} (left : B → Option (List (List ℕ))) (next : B → Result (Option (List ℕ)) IoFault → B → Type 0) (faults : B → ℕ) (calls : L → Option (List (LinkCall B))) (exchanges : L → Request (List ℕ) → Option ℕ → Result (Response B) LinkFault → L → Type 0)
+pub record WentOver {L B : Type 0} (told : B → BodyTold) (link : LinkOf L B)
     (before : L) (request : Request (List ℕ)) (limit : Option ℕ) (result : Result Message NetError) (after : L) : Type 0 where
   pub between : L
   pub answer : Result (Response B) LinkFault
-  pub exchanged : exchanges before request limit answer between
-  pub asked : TellsAsked (calls before) (calls between) request limit answer
+  pub exchanged : link.exchanges before request limit answer between
+  pub asked : TellsAsked (link.told before).calls (link.told between).calls request limit answer
   pub ended : MatchResult answer
-      (λ response. (body : B) × Answers left next (head_of response) (body_of response) body result
-      × HasCause (faults (body_of response)) (faults body) result × Grows (calls between) (calls after) (Returned body ∷ []))
+      (λ response. (body : B) × Answers told (head_of response) (body_of response) body result
+      × HasCause (told (body_of response)).faults (told body).faults result
+      × Grows (link.told between).calls (link.told after).calls (Returned body ∷ []))
       (λ fault. (result ≡ Err (of_link fault)) × (after ≡ between))
 
--- a count of faults did not fall, and `Io` and `Timeout` were answered only where it rose, or where the request was
--- refused with them
+-- a count of faults did not fall; `Io` and `Timeout` were answered only where it rose, or where the request was refused with them, and
+-- anything else only where it stood still
 pub record HasSendCause {T : Type 0} (before now : ℕ) (refused : Option NetError) (result : Result T NetError) : Type 0 where
   pub later : before ≤ now
   pub failed : IsErrOf result net.Io → Rose before now ⊎ (refused ≡ Some net.Io)
   pub late : IsErrOf result net.Timeout → Rose before now ⊎ (refused ≡ Some net.Timeout)
+  pub calm : ¬ (IsErrOf result net.Io) → ¬ (IsErrOf result net.Timeout) → now ≡ before

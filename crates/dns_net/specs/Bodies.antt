@@ -1,9 +1,8 @@
 -- What comes of fetching the body of a request or a response.
-use Rattle.std.specs.Prelude.{◌≡◌, ◌⊎◌, ℕ, ◌+◌, ◌<◌, ◌≤◌, ◌==◌, nat_lt, Bool, true, false, if◌then◌else◌, List, [], ◌∷◌, ◌++◌, length, Option, Some, None, IsSome, Result, Ok, Err, IsErrOf}
-use Rattle.dns_io.specs.Edge.{Rose, Keeps}
-use Rattle.dns_io.specs.declared.edge.IoFault.{IoFault}
-use Rattle.dns_io.specs.declared.edge.IoFault.TheVariants.{Failed, OutOfMemory as NoMemory}
-use Rattle.dns_transport.specs.Pieces.{joined, HasBytes, GivesNext, GivesBytes}
+use Rattle.std.specs.Prelude.{◌≡◌, ◌⊎◌, ℕ, ◌+◌, ◌<◌, ◌≤◌, ◌==◌, nat_lt, Bool, true, false, if◌then◌else◌, List, [], ◌∷◌, ◌++◌, length, Option, Some, None, IsSome, Result, Ok, Err}
+use Rattle.dns_io.specs.declared.io_fault.IoFault.{IoFault}
+use Rattle.dns_io.specs.declared.io_fault.IoFault.TheVariants.{Failed, OutOfMemory as NoMemory}
+use Rattle.dns_transport.specs.Pieces.{BodyTold, GivesPiece, joined}
 use Rattle.dns_transport.specs.declared.error.NetError.{NetError}
 use Rattle.dns_transport.specs.declared.error.NetError.TheVariants.{RequestTooLarge, BadRequest, Io, OutOfMemory}
 use Rattle.dns_transport.specs.declared.error.BadRequestKind.TheVariants.{Length}
@@ -73,16 +72,9 @@ IsFetched said (Err Io) = Unit {0}
 IsFetched said (Err OutOfMemory) = Unit {0}
 IsFetched said (Err _) = ⊥
 
--- one call for the next piece of a body, by what it tells of its pieces and its bytes, and by its count of faults, which
--- rises where the call fails, and only there
-abbrev pub AsksNext : {B : Type 0} → (B → Option (List (List ℕ))) → (B → Option (List ℕ)) → (B → ℕ) → B → Result (Option (List ℕ)) IoFault → B → Type 0
-AsksNext left left_bytes faults before (Ok piece) after =
-    HasBytes piece × GivesNext (left before) (left after) piece × GivesBytes (left_bytes before) (left_bytes after) piece
-    × (faults after ≡ faults before)
-AsksNext left left_bytes faults before (Err Failed) after =
-    Keeps (left before) (left after) × Keeps (left_bytes before) (left_bytes after) × Rose (faults before) (faults after)
-AsksNext left left_bytes faults before (Err NoMemory) after =
-    Keeps (left before) (left after) × Keeps (left_bytes before) (left_bytes after) × (faults after ≡ faults before)
+-- one call for the next piece of a body, by what it tells
+abbrev pub AsksNext : {B : Type 0} → (B → BodyTold) → B → Result (Option (List ℕ)) IoFault → B → Type 0
+AsksNext told before answer after = GivesPiece (told before) (told after) answer
 
 -- how far a body was read: these calls, each of which gave a piece, gave these bytes
 pub data ReadsUpTo {B : Type 0} (next : B → Result (Option (List ℕ)) IoFault → B → Type 0) (before : B) : List ℕ → B → Type 0 where

@@ -1,18 +1,19 @@
 -- What the body and the link in memory do at each call.
-use Rattle.std.specs.Prelude.{◌≡◌, ◌⊎◌, ℕ, ◌+◌, ◌-◌, nat_lt, nat_eq, if◌then◌else◌, List, [], ◌∷◌, ◌++◌, Option, Result, Ok, Err, MatchBool, IsOkAnd}
+use Rattle.std.specs.Prelude.{◌≡◌, ◌⊎◌, ℕ, ◌+◌, ◌-◌, nat_lt, nat_eq, if◌then◌else◌, List, [], ◌∷◌, ◌++◌, Option, Some, Result, Ok, Err, MatchBool, IsOkAnd}
 use Rattle.std.specs.List.{list_any}
 use Rattle.http.specs.Response.{body_of}
 use Rattle.http.specs.declared.request.Request.{Request}
 use Rattle.http.specs.declared.response.Response.{Response}
-use Rattle.dns_io.specs.Edge.{one_more}
-use Rattle.dns_io.specs.Memory.{next_fails}
-use Rattle.dns_io.specs.declared.edge.IoFault.{IoFault}
-use Rattle.dns_io.specs.declared.edge.IoFault.TheVariants.{Failed}
+use Rattle.dns_io.specs.Told.{one_more}
+use Rattle.dns_edges.specs.Memory.{next_fails}
+use Rattle.dns_io.specs.declared.io_fault.IoFault.{IoFault}
+use Rattle.dns_io.specs.declared.io_fault.IoFault.TheVariants.{Failed}
 use Rattle.dns_transport.specs.declared.error.LinkFault.{LinkFault}
 use Rattle.dns_transport.specs.declared.error.LinkFault.TheVariants.{Failed as LinkFailed, Late, OutOfMemory as NoMemory}
 use Rattle.dns_net.specs.declared.link.LinkCall.{LinkCall}
 use Rattle.dns_net.specs.declared.link.LinkCall.TheVariants.{Exchanged, Returned}
-use Rattle.dns_transport.specs.Pieces.{NextOf}
+use Rattle.dns_transport.specs.Pieces.{BodyTold, NextOf, joined}
+use Rattle.dns_net.specs.Links.{LinkTold}
 
 -- a body in memory: the pieces left, the numbers of the calls that fail, how many calls there were, and how many of them
 -- failed
@@ -21,6 +22,10 @@ pub record BodyState : Type 0 where
   pub failing : List ℕ
   pub calls : ℕ
   pub faults : ℕ
+
+-- what it tells
+abbrev pub body_told : BodyState → BodyTold
+body_told b = record { left = Some b.left; left_bytes = Some (joined b.left); faults = b.faults }
 
 -- the body after a call that failed
 abbrev pub failed_next : BodyState → BodyState
@@ -48,14 +53,18 @@ pub record LinkState : Type 0 where
   pub exchanges : ℕ
   pub faults : ℕ
 
+-- what it tells
+abbrev pub link_told : LinkState → LinkTold BodyState
+link_told l = record { calls = Some l.calls; given_out = l.given_out; faults = l.faults }
+
 -- none of these responses' bodies has a fault
 abbrev pub AreFresh : List (Response BodyState) → Type 0
 AreFresh [] = Unit {0}
 AreFresh (response ∷ responses) = ((body_of response).faults ≡ 0) × AreFresh responses
 
--- the next response is given; the exchange is late where none is to come
+-- the next response is given, of those that are left
 abbrev pub GivesResponse : List (Response BodyState) → Result (Response BodyState) LinkFault → List (Response BodyState) → Type 0
-GivesResponse [] result after = (result ≡ Err Late) × (after ≡ [])
+GivesResponse [] result after = ⊥
 GivesResponse (response ∷ rest) result after = (result ≡ Ok response) × (after ≡ rest)
 
 -- what the exchange of this number answers, where these fail and these are late, and which responses are left
@@ -76,7 +85,7 @@ abbrev pub answered : LinkState → Result (Response BodyState) LinkFault → Li
 answered l (Ok response) = record l { given_out = l.given_out + 1 }
 answered l (Err fault) = record l { faults = one_more l.faults }
 
--- what an exchange answers, and leaves: where memory ran out, nothing has changed
+-- what an exchange answers, and leaves: where memory ran out, as where no response is left, nothing has changed
 abbrev pub ExchangeNext : LinkState → Request (List ℕ) → Option ℕ → Result (Response BodyState) LinkFault → LinkState → Type 0
 ExchangeNext before request limit result after =
     ((result ≡ Err NoMemory) × (after ≡ before))

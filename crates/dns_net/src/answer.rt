@@ -3,7 +3,6 @@
 ghost use Rattle.std.specs.Prelude.{◌≡◌, codes, IsErrOf};
 ghost use Rattle.http_header.specs.HeaderMap.{get};
 ghost use Rattle.dns_net.specs.Answers.{Answers, ReadsResponse, is_answer_type, is_success};
-ghost use Rattle.dns_net.specs.Bodies.{AsksNext};
 ghost use Rattle.dns_transport.specs.Faults.{HasCause};
 
 use crate::checks::said_length;
@@ -21,8 +20,8 @@ pub(crate) fn answer_of<B: BodyPieces>(
     head: &Parts,
     body: &mut B,
 ) -> Result<Message, NetError>
-    ensures answer { Answers B.left (AsksNext B.left B.left_bytes B.faults) head.now body.old body.new result }
-    ensures cause { HasCause (B.faults body.old) (B.faults body.new) result }
+    ensures answer { Answers B.told head.now body.old body.new result }
+    ensures cause { HasCause (B.told body.old).faults (B.told body.new).faults result }
     ensures in_time { IsErrOf result NetError.Timeout → ⊥ }
 {
     let length = said_length(&head.headers, NetError::Response(ResponseKind::LengthText))?;

@@ -1,9 +1,8 @@
 //! How a message is sent over a link, by the clients of both versions of HTTP.
 
-ghost use Rattle.std.specs.Prelude.{◌≡◌, [], string_bytes, IsErrOf};
+ghost use Rattle.std.specs.Prelude.{◌≡◌, [], string_bytes};
 ghost use Rattle.std.specs.Option.{option_map_or, option_and_then};
 ghost use Rattle.dns_net.specs.Answers.{WentOver, HasSendCause};
-ghost use Rattle.dns_net.specs.Bodies.{AsksNext};
 ghost use Rattle.dns_net.specs.Clients.{Asks, SendsOver};
 ghost use Rattle.dns_transport.specs.Faults.{HasNetCause};
 
@@ -24,7 +23,7 @@ pub(crate) fn send_over<L: HttpLink>(
     limit: Option<u64>,
     message: &Message,
 ) -> Result<Message, NetError>
-    ensures sent { SendsOver L.Body.left (AsksNext L.Body.left L.Body.left_bytes L.Body.faults) L.Body.faults L.calls L.exchanges
+    ensures sent { SendsOver L.Body.told L.link
         (record {
           version = context.now.version;
           name = string_bytes context.now.server_name;
@@ -34,9 +33,9 @@ pub(crate) fn send_over<L: HttpLink>(
           limit = limit;
         })
         link.old message.now result link.new }
-    ensures cause { HasSendCause (L.faults link.old) (L.faults link.new) (option_and_then (λ object. refuses object) context.now.set_headers) result }
-    ensures calm { ¬ (IsErrOf result NetError.Io) → ¬ (IsErrOf result NetError.Timeout) → L.faults link.new ≡ L.faults link.old }
-    ensures out { L.given_out link.new ≡ L.given_out link.old }
+    ensures cause { HasSendCause (L.link.told link.old).faults (L.link.told link.new).faults
+        (option_and_then (λ object. refuses object) context.now.set_headers) result }
+    ensures out { (L.link.told link.new).given_out ≡ (L.link.told link.old).given_out }
 {
     let request = request_of(alloc, context, limit, message)?;
     exchange_over(alloc, link, request, limit)
@@ -70,10 +69,9 @@ fn exchange_over<L: HttpLink>(
     request: Request<Octets>,
     limit: Option<u64>,
 ) -> Result<Message, NetError>
-    ensures went { WentOver L.Body.left (AsksNext L.Body.left L.Body.left_bytes L.Body.faults) L.Body.faults L.calls L.exchanges link.old request limit result link.new }
-    ensures cause { HasNetCause (L.faults link.old) (L.faults link.new) result }
-    ensures calm { ¬ (IsErrOf result NetError.Io) → ¬ (IsErrOf result NetError.Timeout) → L.faults link.new ≡ L.faults link.old }
-    ensures out { L.given_out link.new ≡ L.given_out link.old }
+    ensures went { WentOver L.Body.told L.link link.old request limit result link.new }
+    ensures cause { HasNetCause (L.link.told link.old).faults (L.link.told link.new).faults result }
+    ensures out { (L.link.told link.new).given_out ≡ (L.link.told link.old).given_out }
 {
     let response = link.exchange(request, limit)?;
     let (head, mut body) = response.into_parts();

@@ -1,7 +1,7 @@
 //! A body, fetched piece by piece.
 
 ghost use Rattle.std.specs.Prelude.{◌≡◌, min, unwrap_or};
-ghost use Rattle.dns_io.specs.Edge.{Told};
+ghost use Rattle.dns_io.specs.Told.{Told};
 ghost use Rattle.dns_net.specs.Bodies.{AsksNext, Fetches, FetchesBytes, IsFetched, IsReadOnce, is_said};
 ghost use Rattle.dns_transport.specs.Faults.{HasCause};
 
@@ -17,11 +17,11 @@ pub fn fetch_body<P: BodyPieces>(
     stream: &mut P,
     length: Option<usize>,
 ) -> Result<Octets, NetError>
-    ensures told { Told (Fetches length result) (P.left stream.old) (P.left stream.new) }
-    ensures told_bytes { Told (FetchesBytes length result) (P.left_bytes stream.old) (P.left_bytes stream.new) }
-    ensures read { IsReadOnce (AsksNext P.left P.left_bytes P.faults) length stream.old result stream.new }
+    ensures told { Told (Fetches length result) (P.told stream.old).left (P.told stream.new).left }
+    ensures told_bytes { Told (FetchesBytes length result) (P.told stream.old).left_bytes (P.told stream.new).left_bytes }
+    ensures read { IsReadOnce (AsksNext P.told) length stream.old result stream.new }
     ensures kind { IsFetched length result }
-    ensures cause { HasCause (P.faults stream.old) (P.faults stream.new) result }
+    ensures cause { HasCause (P.told stream.old).faults (P.told stream.new).faults result }
 {
     let mut body = Octets::from_vec(Vec::with_capacity(alloc, room_for(length))?);
     while let Some(piece) = stream.next()? {

@@ -1,9 +1,8 @@
 //! Clients over HTTP/3 (RFC 9114).
 
-ghost use Rattle.std.specs.Prelude.{◌≡◌, [], true, false, Some, None, Ok, IsNone, IsErrOf, MatchOption, MatchBool, string_bytes};
+ghost use Rattle.std.specs.Prelude.{◌≡◌, [], true, false, Some, None, Ok, IsNone, MatchOption, MatchBool, string_bytes};
 ghost use Rattle.std.specs.Option.{option_map_or, option_and_then};
 ghost use Rattle.dns_net.specs.Answers.{HasSendCause};
-ghost use Rattle.dns_net.specs.Bodies.{AsksNext};
 ghost use Rattle.dns_net.specs.Clients.{Sends};
 ghost use Rattle.dns_transport.specs.declared.poll.Poll.TheVariants.{Ready};
 ghost use Rattle.dns_net.specs.declared.version.Version.TheVariants.{Http3};
@@ -105,7 +104,7 @@ impl<L: HttpLink> H3ClientStream<L> {
     /// the response's length is no number; what comes of its body; its status; its type; its message cannot be read. The
     /// body of a response goes back to the link whatever it says.
     pub fn send_message(&mut self, alloc: Global, request: &Message) -> Result<Message, NetError>
-        ensures sends { Sends L.Body.left (AsksNext L.Body.left L.Body.left_bytes L.Body.faults) L.Body.faults L.calls L.exchanges self.old.is_shut
+        ensures sends { Sends L.Body.told L.link self.old.is_shut
             (record {
               version = self.old.context.version;
               name = string_bytes self.old.context.server_name;
@@ -116,9 +115,9 @@ impl<L: HttpLink> H3ClientStream<L> {
             })
             self.old.link request.now result self.new.link }
         ensures kept { self.new ≡ record self.old { link = self.new.link } }
-        ensures cause { HasSendCause (L.faults self.old.link) (L.faults self.new.link) (option_and_then (λ object. refuses object) self.old.context.set_headers) result }
-        ensures calm { ¬ (IsErrOf result NetError.Io) → ¬ (IsErrOf result NetError.Timeout) → L.faults self.new.link ≡ L.faults self.old.link }
-        ensures out { L.given_out self.new.link ≡ L.given_out self.old.link }
+        ensures cause { HasSendCause (L.link.told self.old.link).faults (L.link.told self.new.link).faults
+            (option_and_then (λ object. refuses object) self.old.context.set_headers) result }
+        ensures out { (L.link.told self.new.link).given_out ≡ (L.link.told self.old.link).given_out }
     {
         if self.is_shut {
             return Err(NetError::ShutDown);

@@ -1,10 +1,9 @@
 //! A body in memory, for tests and for what is there already. It always tells its content, and the calls fail whose
 //! numbers it was made with.
 
-ghost use Rattle.std.specs.Prelude.{◌≡◌, nat_lt, ℕ, List, [], Some, IfOk, OnOk, OnErr, IsErrOf};
-ghost use Rattle.dns_io.specs.Edge.{HasCause, Keeps};
-ghost use Rattle.dns_transport.specs.Pieces.{GivesBytes, HasBytes, NextOf, GivesNext, joined};
-ghost use Rattle.dns_net.specs.Memory.{PieceNext};
+ghost use Rattle.std.specs.Prelude.{◌≡◌, nat_lt};
+ghost use Rattle.dns_transport.specs.Pieces.{GivesPiece, HasBytes, NextOf};
+ghost use Rattle.dns_net.specs.Memory.{PieceNext, body_told};
 
 use bytes::Bytes;
 use dns_io::IoFault;
@@ -52,21 +51,10 @@ impl MemoryBody {
 }
 
 impl BodyPieces for MemoryBody {
-    ghost left = { λ b. Some b.left };
-
-    ghost left_bytes = { λ b. Some (joined b.left) };
-
-    ghost faults = { λ b. b.faults };
+    ghost told = { body_told };
 
     fn next(&mut self) -> Result<Option<Bytes>, IoFault>
-        ensures bytes { IfOk result HasBytes }
-        ensures given { IfOk result (GivesNext (Some self.old.left) (Some self.new.left)) }
-        ensures kept { OnErr result (Keeps (Some self.old.left) (Some self.new.left)) }
-        ensures bytes_given { IfOk result (GivesBytes (Some (joined self.old.left)) (Some (joined self.new.left))) }
-        ensures bytes_kept { OnErr result (Keeps (Some (joined self.old.left)) (Some (joined self.new.left))) }
-        ensures cause { HasCause self.old.faults self.new.faults result }
-        ensures calm { OnOk result (self.new.faults ≡ self.old.faults) }
-        ensures uncounted { IsErrOf result IoFault.OutOfMemory → self.new.faults ≡ self.old.faults }
+        ensures told { GivesPiece (body_told self.old) (body_told self.new) result }
         ensures next { PieceNext self.old result self.new }
     {
         self.calls = self.calls.saturating_add(1);

@@ -1,12 +1,9 @@
 //! A link in memory, for tests. It always tells its calls, and the exchanges fail whose numbers it was made with.
 
-ghost use Rattle.std.specs.Prelude.{◌≡◌, ◌+◌, ◌<◌, ◌≤◌, ◌∷◌, [], Some, IfOk, IsErrOf, OnOk, OnErr};
+ghost use Rattle.std.specs.Prelude.{◌≡◌, ◌+◌, ◌<◌, ◌≤◌, [], IfOk, IfSome, IfNone, IsErrOf};
 ghost use Rattle.http.specs.Response.{body_of};
-ghost use Rattle.dns_io.specs.Edge.{Rose, Grows};
-ghost use Rattle.dns_net.specs.Links.{TellsAsked};
-ghost use Rattle.dns_transport.specs.Faults.{HasLinkCause};
-ghost use Rattle.dns_net.specs.Memory.{AreFresh, Answers, ExchangeNext, returned};
-ghost use Rattle.dns_net.specs.declared.link.LinkCall.TheVariants.{Returned};
+ghost use Rattle.dns_net.specs.Links.{TakesBack};
+ghost use Rattle.dns_net.specs.Memory.{AreFresh, Answers, ExchangeNext, link_told, returned};
 
 use crate::link::{HttpLink, LinkCall};
 use crate::memory::MemoryBody;
@@ -43,8 +40,9 @@ impl Model for MemoryLink {
 
 impl MemoryLink {
     /// A link that gives these responses in turn, whose bodies have no fault yet. Its exchanges are counted from 1;
-    /// those whose numbers stand in `failing` fail, and those in `late` are late, as is one for which no response is left.
-    /// The count of faults rises by one at each of them, and where a body comes back with faults, and nowhere else.
+    /// those whose numbers stand in `failing` fail, and those in `late` are late. An exchange for which no response is left wants
+    /// memory, and is not counted among them. The count of faults rises by one at each that fails or is late, and where a body comes
+    /// back with faults, and nowhere else.
     pub fn new(
         alloc: Global,
         responses: LinkedList<Response<MemoryBody>>,
@@ -83,13 +81,7 @@ impl MemoryLink {
 impl HttpLink for MemoryLink {
     type Body = MemoryBody;
 
-    ghost calls = { λ l. Some l.calls };
-
-    ghost faults = { λ l. l.faults };
-
-    ghost given_out = { λ l. l.given_out };
-
-    ghost exchanges = { ExchangeNext };
+    ghost link = { record { told = link_told; exchanges = ExchangeNext } };
 
     fn exchange(
         &mut self,
@@ -102,16 +94,20 @@ impl HttpLink for MemoryLink {
         if self.calls.reserve(room).is_err() {
             return Err(LinkFault::OutOfMemory);
         }
-        self.exchanges = self.exchanges.saturating_add(1);
-        self.calls
-            .push(LinkCall::Exchanged(request, limit))
-            .unwrap();
-        match answer(
+        let number = self.exchanges.saturating_add(1);
+        let Some(answer) = answer(
             &mut self.responses,
             self.failing.as_slice(),
             self.late.as_slice(),
-            self.exchanges,
-        ) {
+            number,
+        ) else {
+            return Err(LinkFault::OutOfMemory);
+        };
+        self.exchanges = number;
+        self.calls
+            .push(LinkCall::Exchanged(request, limit))
+            .unwrap();
+        match answer {
             Ok(response) => {
                 self.given_out += 1;
                 Ok(response)
@@ -125,11 +121,7 @@ impl HttpLink for MemoryLink {
 
     fn done(&mut self, body: MemoryBody)
         requires { 0 < self.old.given_out }
-        ensures told { Grows (Some self.old.calls) (Some self.new.calls) (Returned body ∷ []) }
-        ensures back { self.new.given_out + 1 ≡ self.old.given_out }
-        ensures later { self.old.faults ≤ self.new.faults }
-        ensures counted { 0 < body.faults → Rose self.old.faults self.new.faults }
-        ensures calm { body.faults ≡ 0 → self.new.faults ≡ self.old.faults }
+        ensures told { TakesBack (link_told self.old) (link_told self.new) body body.faults }
         ensures next { self.new ≡ returned self.old body }
     {
         if body.has_faults() {
@@ -140,26 +132,27 @@ impl HttpLink for MemoryLink {
     }
 }
 
-/// What the exchange of this number answers, where these fail and these are late.
+/// What the exchange of this number answers, where these fail and these are late; `None` where no response is left.
 fn answer(
     responses: &mut LinkedList<Response<MemoryBody>>,
     failing: &[u64],
     late: &[u64],
     number: u64,
-) -> Result<Response<MemoryBody>, LinkFault>
-    ensures answer { Answers failing.now late.now number responses.old result responses.new }
-    ensures fresh { AreFresh responses.old → IfOk result (λ response. (body_of response).faults ≡ 0) }
+) -> Option<Result<Response<MemoryBody>, LinkFault>>
+    ensures answer { IfSome result (λ given. Answers failing.now late.now number responses.old given responses.new) }
+    ensures none { IfNone result (responses.new ≡ responses.old) }
+    ensures fresh { AreFresh responses.old → IfSome result (λ given. IfOk given (λ response. (body_of response).faults ≡ 0)) }
     ensures rest { AreFresh responses.old → AreFresh responses.new }
-    ensures memory { IsErrOf result LinkFault.OutOfMemory → ⊥ }
+    ensures memory { IfSome result (λ given. IsErrOf given LinkFault.OutOfMemory → ⊥) }
 {
     if failing.contains(&number) {
-        return Err(LinkFault::Failed);
+        return Some(Err(LinkFault::Failed));
     }
     if late.contains(&number) {
-        return Err(LinkFault::Late);
+        return Some(Err(LinkFault::Late));
     }
     match responses.pop_front() {
-        None => Err(LinkFault::Late),
-        Some(response) => Ok(response),
+        None => None,
+        Some(response) => Some(Ok(response)),
     }
 }

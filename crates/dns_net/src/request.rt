@@ -2,7 +2,7 @@
 
 ghost use Rattle.std.specs.Prelude.{◌≡◌, Err, IfOk, IfErr, option_copied};
 ghost use Rattle.http.specs.Request.{head_of, body_of};
-ghost use Rattle.dns_io.specs.Edge.{Told};
+ghost use Rattle.dns_io.specs.Told.{Told};
 ghost use Rattle.dns_net.specs.Bodies.{AsksNext, Fetches, FetchesBytes, IsFetched, IsReadOnce};
 ghost use Rattle.dns_net.specs.Checks.{verdict, taken};
 ghost use Rattle.dns_transport.specs.Faults.{HasCause, IsBadRequest};
@@ -60,15 +60,15 @@ pub fn message_from<R: BodyPieces>(
     ensures refused { IfErr (taken version (option_copied name.entry) endpoint.now (head_of request.old))
         (λ fault. (result ≡ Err fault) × (request.new ≡ request.old)) }
     ensures told { IfOk (taken version (option_copied name.entry) endpoint.now (head_of request.old))
-        (λ length. Told (Fetches length result) (R.left (body_of request.old)) (R.left (body_of request.new))) }
+        (λ length. Told (Fetches length result) (R.told (body_of request.old)).left (R.told (body_of request.new)).left) }
     ensures read { IfOk (taken version (option_copied name.entry) endpoint.now (head_of request.old))
-        (λ length. IsReadOnce (AsksNext R.left R.left_bytes R.faults) length (body_of request.old) result (body_of request.new)) }
+        (λ length. IsReadOnce (AsksNext R.told) length (body_of request.old) result (body_of request.new)) }
     ensures kind { IfOk (taken version (option_copied name.entry) endpoint.now (head_of request.old))
         (λ length. IsFetched length result) }
     ensures told_bytes { IfOk (taken version (option_copied name.entry) endpoint.now (head_of request.old))
-        (λ length. Told (FetchesBytes length result) (R.left_bytes (body_of request.old)) (R.left_bytes (body_of request.new))) }
+        (λ length. Told (FetchesBytes length result) (R.told (body_of request.old)).left_bytes (R.told (body_of request.new)).left_bytes) }
     ensures head { head_of request.new ≡ head_of request.old }
-    ensures cause { HasCause (R.faults (body_of request.old)) (R.faults (body_of request.new)) result }
+    ensures cause { HasCause (R.told (body_of request.old)).faults (R.told (body_of request.new)).faults result }
 {
     let length = taken(version, name, endpoint, &*request)?;
     fetch_body(alloc, request.body_mut(), length)

@@ -2,7 +2,8 @@
 
 use crate::steps::{Steps, all_steps};
 use crate::words::{numbers, put, put_bytes, show, two};
-use dns_io::{IoFault, Ip, MemorySink, MemorySource, Octets, Peer, Sink, Source};
+use dns_edges::{MemorySink, MemorySource, Sink, Source};
+use dns_io::{IoFault, Ip, Octets, Peer};
 use dns_runtime::{
     DnsTcpStream, DnsUdpSocket, LastTask, MemorySocket, MemoryTime, RuntimeProvider, Spawn, Time,
 };
@@ -85,11 +86,12 @@ struct MemoryConnection {
 }
 
 impl Source for MemoryConnection {
-    ghost use Rattle.std.specs.Prelude.{Some};
+    ghost use Rattle.dns_edges.specs.Memory.{ReadsNext, source_told};
 
-    ghost left = { λ c. Some c.source.left };
-
-    ghost faults = { λ c. c.source.faults };
+    ghost source = { record {
+      told = λ c. source_told c.source;
+      reads = λ before room given after. ReadsNext before.source room given after.source;
+    } };
 
     fn read(&mut self, room: &mut [u8]) -> Result<usize, IoFault> {
         self.source.read(room)
@@ -97,16 +99,12 @@ impl Source for MemoryConnection {
 }
 
 impl Sink for MemoryConnection {
-    ghost use Rattle.std.specs.Prelude.{Some};
-    ghost use Rattle.dns_io.specs.Memory.{WritesNext};
+    ghost use Rattle.dns_edges.specs.Memory.{WritesNext, sink_told};
 
-    ghost taken = { λ c. Some c.sink.taken };
-
-    ghost flushed = { λ c. Some c.sink.flushed };
-
-    ghost faults = { λ c. c.sink.faults };
-
-    ghost writes = { λ before bytes result after. WritesNext before.sink bytes result after.sink };
+    ghost sink = { record {
+      told = λ c. sink_told c.sink;
+      writes = λ before bytes result after. WritesNext before.sink bytes result after.sink;
+    } };
 
     fn write(&mut self, bytes: &[u8]) -> Result<usize, IoFault> {
         self.sink.write(bytes)
@@ -134,13 +132,12 @@ impl RuntimeProvider for MemoryRuntime {
 
     type Tcp = MemoryConnection;
 
-    ghost faults = { λ _. 0 };
-
-    ghost handles = { λ _ _. Unit {0} };
-
-    ghost connects = { λ _ _ _ _ _ _. Unit {0} };
-
-    ghost binds = { λ _ _ _ _ _. Unit {0} };
+    ghost runtime = { record {
+      faults = λ _. 0;
+      handles = λ _ _. Unit {0};
+      connects = λ _ _ _ _ _ _. Unit {0};
+      binds = λ _ _ _ _ _. Unit {0};
+    } };
 
     fn create_handle(&self) -> LastTask<u64> {
         LastTask { last: None }

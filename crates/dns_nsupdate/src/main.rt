@@ -1,7 +1,8 @@
 //! The program: it sends the updates of a script to a server.
 #![tactic(auto)]
 
-use dns_io::{FileSource, Ip, OutOfMemory, Peer, Sink, Writing};
+use dns_edges::{FileSource, Sink, Writing};
+use dns_io::{Ip, OutOfMemory, Peer};
 use dns_update_client::{HELP, UpdateStatus, VERSION, after_writing, nsupdate, settings_of};
 use dns_words::{Action, action_of, put_text, unread_words};
 use std::env;

@@ -1,11 +1,11 @@
 -- What the socket, the listener and the hub in memory do at each call.
 use Rattle.std.specs.Prelude.{◌≡◌, ◌≤◌, ◌<◌, ◌^◌, ◌+◌, ◌-◌, ℕ, zero, suc, nat_eq, if◌then◌else◌, List, [], ◌∷◌, ◌++◌, length, drop, Option, Some, None, Result, Err, MatchBool, MatchResult}
-use Rattle.dns_io.specs.Edge.{one_more}
-use Rattle.dns_io.specs.Memory.{SourceState, SinkState, ClockState, next_fails}
-use Rattle.dns_io.specs.declared.edge.IoFault.{IoFault}
-use Rattle.dns_io.specs.declared.edge.IoFault.TheVariants.{Failed, OutOfMemory}
+use Rattle.dns_io.specs.Told.{one_more}
+use Rattle.dns_edges.specs.Memory.{SourceState, SinkState, ClockState, next_fails}
+use Rattle.dns_io.specs.declared.io_fault.IoFault.{IoFault}
+use Rattle.dns_io.specs.declared.io_fault.IoFault.TheVariants.{Failed, OutOfMemory}
 use Rattle.dns_io.specs.declared.peer.Peer.{Peer}
-use Rattle.dns_ports.specs.Ports.{Datagram, Reply, IsFresh, came_into}
+use Rattle.dns_ports.specs.Ports.{Datagram, Reply, UdpTold, TcpTold, HubTold, IsFreshSocket, IsFreshListener, came_into}
 use Rattle.dns_ports.specs.declared.hub.Opening.{Opening}
 use Rattle.dns_ports.specs.declared.hub.Opening.TheVariants.{Socket, Listeners}
 use Rattle.dns_ports.specs.declared.port.Accepted.{Accepted}
@@ -32,6 +32,10 @@ pub record UdpState : Type 0 where
   pub receives : ℕ
   pub answers : ℕ
   pub faults : ℕ
+
+-- what it tells
+abbrev pub udp_told : UdpState → UdpTold
+udp_told s = record { left = Some s.left; received = Some s.received; taken = Some s.taken; faults = s.faults }
 
 -- a socket at which these datagrams arrive
 abbrev pub udp_of : List Datagram → List ℕ → List ℕ → UdpState
@@ -87,6 +91,10 @@ pub record TcpState : Type 0 where
   pub accepts : ℕ
   pub faults : ℕ
 
+-- what it tells
+abbrev pub tcp_told : TcpState → TcpTold SourceState SinkState ClockState
+tcp_told s = record { left = Some s.left; accepted = Some s.accepted; ended = Some s.ended; lent = s.lent; faults = s.faults }
+
 -- a listener to which these connections come
 abbrev pub tcp_of : List Connection → List ℕ → TcpState
 tcp_of connections accepts = record { left = connections; accepted = []; ended = []; lent = 0; failing_accepts = accepts; accepts = 0; faults = 0 }
@@ -125,12 +133,23 @@ pub record HubState : Type 0 where
   pub calls : ℕ
   pub faults : ℕ
 
+-- what it tells
+abbrev pub hub_told : HubState → HubTold UdpState TcpState
+hub_told s = record {
+  openings = Some s.openings;
+  closed_udp = Some s.closed_udp;
+  closed_tcp = Some s.closed_tcp;
+  lent_udp = s.lent_udp;
+  lent_tcp = s.lent_tcp;
+  faults = s.faults;
+}
+
 -- a socket, and a listener, that were not used yet
 abbrev pub IsUnusedUdp : UdpState → Type 0
-IsUnusedUdp = IsFresh (λ (s : UdpState). Some s.received) (λ s. Some s.taken) (λ s. s.faults)
+IsUnusedUdp s = IsFreshSocket (udp_told s)
 
 abbrev pub IsUnusedTcp : TcpState → Type 0
-IsUnusedTcp = IsFresh (λ (s : TcpState). Some s.accepted) (λ s. Some s.ended) (λ s. s.faults)
+IsUnusedTcp s = IsFreshListener (tcp_told s)
 
 -- a hub of these ports
 abbrev pub hub_of : List UdpState → List TcpState → List ℕ → HubState

@@ -1,17 +1,21 @@
 //! The two directions of a connection of the operating system.
 
-ghost use Rattle.std.specs.Prelude.{◌≡◌, ◌<◌, ◌≤◌, None, length, IfOk, IsErrOf};
-ghost use Rattle.dns_io.specs.Edge.{HasCause, counted};
+ghost use Rattle.std.specs.Prelude.{◌≡◌, ◌<◌, ◌≤◌, length, IfOk};
+ghost use Rattle.std.specs.Io.KnownBytes.{WriteAppends};
+ghost use Rattle.dns_io.specs.Told.{counted};
+ghost use Rattle.dns_edges.specs.Edges.{Reads, Flushes, given_by};
+ghost use Rattle.dns_ports.specs.Sockets.{untold_input, untold_output, ReadsCounted, WritesCounted, ReadsWaiting, heard};
 
-use crate::faults::{count, is_wait};
-use crate::stop_token::StopToken;
-use dns_io::{IoFault, Sink, Source};
+use crate::faults::{count, waits_after};
+use crate::stop_token::{StopToken, Waited};
+use dns_edges::{Sink, Source};
+use dns_io::IoFault;
 use std::io::{Read, Write};
 use std::marker::Model;
 use std::net::TcpStream;
 
-/// What the peer of a connection sends. It ends where the peer ends it, where the token is stopped, and where the peer sent
-/// nothing for the limit that the listener was opened with. A read that fails is counted once, up to `u64::MAX`.
+/// What the peer of a connection sends. It ends where the peer ends it, and where the token is stopped. A read fails where the peer
+/// sent nothing for the limit that the listener was opened with. One that fails is counted once, up to `u64::MAX`.
 #[derive(Drop)]
 pub struct ConnectionInput {
     stream: TcpStream,
@@ -29,7 +33,7 @@ impl Model for ConnectionInput {
 }
 
 impl ConnectionInput {
-    /// The input of a stream whose reads wait for some time: a read ends after so many waits.
+    /// The input of a stream whose reads wait for some time: a read fails after so many waits.
     pub(crate) fn new(stream: TcpStream, stop: StopToken, waits: u64) -> ConnectionInput
         ensures { result ≡ 0 }
     {
@@ -43,29 +47,25 @@ impl ConnectionInput {
 }
 
 impl Source for ConnectionInput {
-    ghost left = { λ _. None };
-
-    ghost faults = { λ s. s };
+    ghost source = { record { told = untold_input; reads = ReadsCounted } };
 
     fn read(&mut self, room: &mut [u8]) -> Result<usize, IoFault>
         requires { 0 < length room.old }
-        ensures count { IfOk result (λ n. n ≤ length room.new) }
+        ensures told { Reads (untold_input self.old) (untold_input self.new) room.new result }
+        ensures next { ReadsCounted self.old (length room.old) (given_by room.new result) self.new }
         ensures faults { self.new ≡ counted self.old result }
-        ensures cause { HasCause self.old self.new result }
-        ensures uncounted { IsErrOf result IoFault.OutOfMemory → self.new ≡ self.old }
     {
-        let outcome = read_waiting(&mut self.stream, &self.stop, self.waits, room);
-        count(outcome, &mut self.faults)
+        let ended = read_waiting(&mut self.stream, &self.stop, self.waits, room);
+        count(heard(ended), &mut self.faults)
     }
 }
 
 /// What is sent to the peer of a connection. A write fails where the peer took nothing for the limit that the listener was
-/// opened with, or for 5 seconds where there is none, and where the token is stopped while the write waits. A write that fails
-/// is counted once, up to `u64::MAX`. It holds nothing back, so that a flush does nothing.
+/// opened with, or for 5 seconds where there is none; it is given that time also where the token is stopped. A write that fails is
+/// counted once, up to `u64::MAX`. It holds nothing back, so that a flush does nothing.
 #[derive(Drop)]
 pub struct ConnectionOutput {
     stream: TcpStream,
-    stop: StopToken,
     waits: u64,
     faults: u64,
 }
@@ -80,12 +80,11 @@ impl Model for ConnectionOutput {
 
 impl ConnectionOutput {
     /// The output of a stream whose writes wait for some time: a write fails after so many waits.
-    pub(crate) fn new(stream: TcpStream, stop: StopToken, waits: u64) -> ConnectionOutput
+    pub(crate) fn new(stream: TcpStream, waits: u64) -> ConnectionOutput
         ensures { result ≡ 0 }
     {
         ConnectionOutput {
             stream,
-            stop,
             waits,
             faults: 0,
         }
@@ -93,20 +92,15 @@ impl ConnectionOutput {
 }
 
 impl Sink for ConnectionOutput {
-    ghost taken = { λ _. None };
-
-    ghost flushed = { λ _. None };
-
-    ghost faults = { λ s. s };
-
-    ghost writes = { λ before bytes result after. after ≡ counted before result };
+    ghost sink = { record { told = untold_output; writes = WritesCounted } };
 
     fn write(&mut self, bytes: &[u8]) -> Result<usize, IoFault> {
-        let outcome = write_waiting(&mut self.stream, &self.stop, self.waits, bytes);
+        let outcome = write_waiting(&mut self.stream, self.waits, bytes);
         count(outcome, &mut self.faults)
     }
 
     fn flush(&mut self) -> Result<(), IoFault>
+        ensures told { Flushes (untold_output self.old) (untold_output self.new) result }
         ensures ok { result ≡ Ok tt }
         ensures calm { self.new ≡ self.old }
     {
@@ -114,55 +108,52 @@ impl Sink for ConnectionOutput {
     }
 }
 
-/// One read, which waits for a byte; 0 where none came in so many waits, or where the token is stopped.
-fn read_waiting(
-    stream: &mut TcpStream,
+/// What a read of a connection answers, by how its wait ended.
+fn heard(ended: Result<Waited<usize>, IoFault>) -> Result<usize, IoFault>
+    ensures { result ≡ heard ended }
+{
+    match ended {
+        Ok(Waited::Came(count)) => Ok(count),
+        Ok(Waited::Stopped(_)) => Ok(0),
+        Err(fault) => Err(fault),
+    }
+}
+
+/// One read, which waits for a byte. It fails behind so many waits.
+fn read_waiting<R: Read>(
+    reader: &mut R,
     stop: &StopToken,
     waits: u64,
     room: &mut [u8],
-) -> Result<usize, IoFault>
-    ensures { IfOk result (λ n. n ≤ length room.new) }
+) -> Result<Waited<usize>, IoFault>
+    ensures { ReadsWaiting (R.remaining reader.old) (R.remaining reader.new) result room.new }
 {
-    for _ in 0..waits {
-        if stop.is_stopped() {
-            return Ok(0);
+    let mut left = waits;
+    for _ in 0..u64::MAX {
+        if let Some(seen) = stop.look() {
+            return Ok(Waited::Stopped(seen));
         }
-        match stream.read(room) {
-            Ok(count) => return Ok(count),
-            Err(error) => {
-                if !is_wait(error.kind()) {
-                    return Err(error.into());
-                }
-            }
+        match reader.read(room) {
+            Ok(count) => return Ok(Waited::Came(count)),
+            Err(error) => left = waits_after(error.kind(), left)?,
         }
     }
-    Ok(0)
+    Err(IoFault::Failed)
 }
 
-/// One write, which waits until some bytes are taken. It fails where none is taken in so many waits, or where the token is
-/// stopped after a wait.
-fn write_waiting(
-    stream: &mut TcpStream,
-    stop: &StopToken,
-    waits: u64,
-    bytes: &[u8],
-) -> Result<usize, IoFault>
+/// One write, which waits until some bytes are taken. It fails behind so many waits, and where the stream takes nothing.
+fn write_waiting<W: Write>(writer: &mut W, waits: u64, bytes: &[u8]) -> Result<usize, IoFault>
     requires { 0 < length bytes.now }
     ensures some { IfOk result (λ n. 0 < n) }
     ensures count { IfOk result (λ n. n ≤ length bytes.now) }
+    ensures bytes { WriteAppends (W.contents writer.old) (W.contents writer.new) result bytes.now }
 {
-    for _ in 0..waits {
-        match stream.write(bytes) {
+    let mut left = waits;
+    for _ in 0..u64::MAX {
+        match writer.write(bytes) {
             Ok(0) => return Err(IoFault::Failed),
             Ok(count) => return Ok(count),
-            Err(error) => {
-                if !is_wait(error.kind()) {
-                    return Err(error.into());
-                }
-            }
-        }
-        if stop.is_stopped() {
-            return Err(IoFault::Failed);
+            Err(error) => left = waits_after(error.kind(), left)?,
         }
     }
     Err(IoFault::Failed)

@@ -1,8 +1,11 @@
-//! Which calls of the operating system fail, and how they are counted.
+//! What an error of the operating system means, and how faults are counted.
 
-ghost use Rattle.std.specs.Prelude.{◌≡◌, ◌<◌, ◌≤◌, IsErrOf};
-ghost use Rattle.dns_io.specs.Edge.{HasCause, Rose, counted};
+ghost use Rattle.std.specs.Prelude.{◌≡◌};
+ghost use Rattle.dns_io.specs.Told.{counted};
+ghost use Rattle.dns_edges.specs.Edges.{HasCause};
+ghost use Rattle.dns_ports.specs.Ports.{CountsPort};
 ghost use Rattle.dns_ports.specs.Memory.{faults_behind};
+ghost use Rattle.dns_ports.specs.Sockets.{arrival_after, ready_after, sending_after, sent_whole, waits_after, waits_behind};
 
 use dns_io::IoFault;
 use std::io::ErrorKind;
@@ -12,7 +15,6 @@ pub(crate) fn count<T>(outcome: Result<T, IoFault>, faults: &mut u64) -> Result<
     ensures outcome { result ≡ outcome }
     ensures faults { faults.new ≡ counted faults.old result }
     ensures cause { HasCause faults.old faults.new result }
-    ensures uncounted { IsErrOf result IoFault.OutOfMemory → faults.new ≡ faults.old }
 {
     if let Err(IoFault::Failed) = outcome {
         *faults = faults.saturating_add(1);
@@ -23,9 +25,7 @@ pub(crate) fn count<T>(outcome: Result<T, IoFault>, faults: &mut u64) -> Result<
 /// The count of faults of a hub after a port with this count was taken back.
 pub(crate) fn faults_behind(faults: u64, port: u64) -> u64
     ensures next { result ≡ faults_behind faults port }
-    ensures later { faults ≤ result }
-    ensures raised { 0 < port → Rose faults result }
-    ensures calm { port ≡ 0 → result ≡ faults }
+    ensures cause { CountsPort port faults result }
 {
     if port == 0 {
         faults
@@ -34,26 +34,75 @@ pub(crate) fn faults_behind(faults: u64, port: u64) -> u64
     }
 }
 
-/// Whether a wait ended with nothing.
-pub(crate) fn is_wait(kind: ErrorKind) -> bool {
+/// Whether a receive or an accept is made again after an error of this kind, or the fault that it answers.
+pub(crate) fn arrival_after(kind: ErrorKind) -> Result<(), IoFault>
+    ensures { result ≡ arrival_after kind }
+{
     match kind {
-        ErrorKind::WouldBlock => true,
-        ErrorKind::TimedOut => true,
-        ErrorKind::Interrupted => true,
-        _ => false,
+        ErrorKind::Interrupted => Ok(()),
+        ErrorKind::WouldBlock => Ok(()),
+        ErrorKind::TimedOut => Ok(()),
+        ErrorKind::ConnectionAborted => Ok(()),
+        ErrorKind::ConnectionReset => Ok(()),
+        ErrorKind::ConnectionRefused => Ok(()),
+        ErrorKind::HostUnreachable => Ok(()),
+        ErrorKind::NetworkUnreachable => Ok(()),
+        ErrorKind::NetworkDown => Ok(()),
+        other => Err(IoFault::from(other)),
     }
 }
 
-/// Whether a socket or a listener goes on after an error of this kind: a wait ended with nothing, or one peer is gone, or cannot
-/// be reached, which says nothing of the others (accept(2)).
-pub(crate) fn is_passed_over(kind: ErrorKind) -> bool {
+/// Whether the next connection is taken where one was accepted and could not be made ready, or the fault that the accept
+/// answers.
+pub(crate) fn ready_after(kind: ErrorKind) -> Result<(), IoFault>
+    ensures { result ≡ ready_after kind }
+{
     match kind {
-        ErrorKind::ConnectionAborted => true,
-        ErrorKind::ConnectionReset => true,
-        ErrorKind::ConnectionRefused => true,
-        ErrorKind::HostUnreachable => true,
-        ErrorKind::NetworkUnreachable => true,
-        ErrorKind::NetworkDown => true,
-        _ => is_wait(kind),
+        ErrorKind::NotConnected => Ok(()),
+        ErrorKind::InvalidInput => Ok(()),
+        other => arrival_after(other),
+    }
+}
+
+/// Whether a sending of a datagram is made again after an error of this kind, or the fault that it answers.
+pub(crate) fn sending_after(kind: ErrorKind) -> Result<(), IoFault>
+    ensures { result ≡ sending_after kind }
+{
+    match kind {
+        ErrorKind::Interrupted => Ok(()),
+        other => Err(IoFault::from(other)),
+    }
+}
+
+/// Whether a datagram of this size went out whole.
+pub(crate) fn sent_whole(sent: usize, size: usize) -> Result<(), IoFault>
+    ensures { result ≡ sent_whole sent size }
+{
+    if sent == size {
+        Ok(())
+    } else {
+        Err(IoFault::Failed)
+    }
+}
+
+/// How many waits are left to a read or a write of a connection after an error of this kind, or the fault that it answers.
+pub(crate) fn waits_after(kind: ErrorKind, left: u64) -> Result<u64, IoFault>
+    ensures { result ≡ waits_after kind left }
+{
+    match kind {
+        ErrorKind::Interrupted => Ok(left),
+        ErrorKind::WouldBlock => waits_behind(left),
+        ErrorKind::TimedOut => waits_behind(left),
+        other => Err(IoFault::from(other)),
+    }
+}
+
+/// How many waits are left after one ended with nothing.
+fn waits_behind(left: u64) -> Result<u64, IoFault>
+    ensures { result ≡ waits_behind left }
+{
+    match left.saturating_sub(1) {
+        0 => Err(IoFault::Failed),
+        left => Ok(left),
     }
 }

@@ -1,25 +1,24 @@
 //! A listener of the operating system.
 
-ghost use Rattle.std.specs.Prelude.{◌≡◌, ◌<◌, ◌≤◌, ◌+◌, None, All, length, IfOk, IsErrOf, vec_len, vec_capacity};
-ghost use Rattle.dns_io.specs.Edge.{HasCause, counted};
-ghost use Rattle.dns_ports.specs.Ports.{given_by};
+ghost use Rattle.std.specs.Prelude.{◌≡◌, ◌<◌, ◌≤◌, ◌+◌, All, length, IfOk, vec_len, vec_capacity};
+ghost use Rattle.dns_io.specs.Told.{counted};
+ghost use Rattle.dns_ports.specs.Ports.{Accepts, TakesBack};
+ghost use Rattle.dns_ports.specs.Sockets.{untold_listener};
 
 use crate::address::{address_of, peer_at};
 use crate::connection::{ConnectionInput, ConnectionOutput};
-use crate::faults::{count, is_passed_over};
-use crate::patience::Patience;
+use crate::faults::{arrival_after, count, ready_after};
+use crate::patience::{Patience, one_wait};
 use crate::port::{Accepted, TcpPort};
-use crate::stop_token::StopToken;
-use dns_io::{IoFault, Peer, SystemClock};
+use crate::stop_token::{StopToken, Waited};
+use dns_edges::SystemClock;
+use dns_io::{IoFault, Peer};
 use std::alloc::Global;
 use std::marker::Model;
 use std::net::{Net, SocketAddr, TcpListener, TcpStream, UdpSocket};
 use std::os::fd::OwnedFd;
 use std::time::Duration;
 use std::{io, rt};
-
-/// How long one wait for a connection is at most, in milliseconds.
-const WAIT: u64 = 100;
 
 /// A listener of the operating system, which its token stops within 100 milliseconds.
 ///
@@ -109,8 +108,8 @@ impl<R: Net<Listener = TcpListener, Stream = TcpStream> + rt::Clock + Copy> List
         &self,
     ) -> Result<Option<Accepted<ConnectionInput, ConnectionOutput, SystemClock<R>>>, IoFault> {
         match next_stream(&self.listener, &self.stop, &self.patience)? {
-            Some((stream, from)) => Ok(Some(self.connection(stream, from)?)),
-            None => Ok(None),
+            Waited::Came((stream, from)) => Ok(Some(self.connection(stream, from)?)),
+            Waited::Stopped(_) => Ok(None),
         }
     }
 
@@ -121,7 +120,7 @@ impl<R: Net<Listener = TcpListener, Stream = TcpStream> + rt::Clock + Copy> List
         from: SocketAddr,
     ) -> Result<Accepted<ConnectionInput, ConnectionOutput, SystemClock<R>>, IoFault> {
         let back = stream.try_clone()?;
-        let output = ConnectionOutput::new(back, self.stop.again()?, self.patience.writes);
+        let output = ConnectionOutput::new(back, self.patience.writes);
         let input = ConnectionInput::new(stream, self.stop.again()?, self.patience.reads);
         Ok(Accepted {
             input,
@@ -140,23 +139,13 @@ impl<R: Net<Listener = TcpListener, Stream = TcpStream> + rt::Clock + Copy> TcpP
 
     type Time = SystemClock<R>;
 
-    ghost left = { λ _. None };
-
-    ghost accepted = { λ _. None };
-
-    ghost ended = { λ _. None };
-
-    ghost lent = { λ p. p.lent };
-
-    ghost faults = { λ p. p.faults };
+    ghost told = { untold_listener };
 
     fn accept(
         &mut self,
     ) -> Result<Option<Accepted<ConnectionInput, ConnectionOutput, SystemClock<R>>>, IoFault>
-        ensures lends { self.new.lent ≡ self.old.lent + given_by result }
+        ensures told { Accepts (untold_listener self.old) (untold_listener self.new) result }
         ensures faults { self.new.faults ≡ counted self.old.faults result }
-        ensures cause { HasCause self.old.faults self.new.faults result }
-        ensures uncounted { IsErrOf result IoFault.OutOfMemory → self.new.faults ≡ self.old.faults }
     {
         let Some(lent) = self.lent.checked_add(1) else {
             return Err(IoFault::OutOfMemory);
@@ -173,8 +162,7 @@ impl<R: Net<Listener = TcpListener, Stream = TcpStream> + rt::Clock + Copy> TcpP
 
     fn done(&mut self, connection: Accepted<ConnectionInput, ConnectionOutput, SystemClock<R>>)
         requires { 0 < self.old.lent }
-        ensures lends { self.new.lent + 1 ≡ self.old.lent }
-        ensures calm { self.new.faults ≡ self.old.faults }
+        ensures told { TakesBack (untold_listener self.old) (untold_listener self.new) connection }
     {
         self.lent -= 1;
         drop(connection);
@@ -189,31 +177,26 @@ fn bound<R: Net<Listener = TcpListener, Stream = TcpStream>>(
 ) -> io::Result<TcpListener> {
     let listener = TcpListener::bind(runtime, address_of(at))?;
     let socket = UdpSocket::from(OwnedFd::from(listener));
-    socket.set_read_timeout(Some(Duration::from_millis(WAIT)))?;
+    socket.set_read_timeout(Some(one_wait()))?;
     Ok(TcpListener::from(OwnedFd::from(socket)))
 }
 
-/// The next stream that could be made ready, and its peer; `None` where the token is stopped.
+/// The next stream that could be made ready, and its peer.
 fn next_stream(
     listener: &TcpListener,
     stop: &StopToken,
     patience: &Patience,
-) -> Result<Option<(TcpStream, SocketAddr)>, IoFault> {
+) -> Result<Waited<(TcpStream, SocketAddr)>, IoFault> {
     for _ in 0..u64::MAX {
-        if stop.is_stopped() {
-            return Ok(None);
+        if let Some(seen) = stop.look() {
+            return Ok(Waited::Stopped(seen));
         }
         match listener.accept() {
-            Ok((stream, from)) => {
-                if make_ready(&stream, patience.wait()).is_ok() {
-                    return Ok(Some((stream, from)));
-                }
-            }
-            Err(error) => {
-                if !is_passed_over(error.kind()) {
-                    return Err(error.into());
-                }
-            }
+            Ok((stream, from)) => match make_ready(&stream, patience.wait()) {
+                Ok(()) => return Ok(Waited::Came((stream, from))),
+                Err(error) => ready_after(error.kind())?,
+            },
+            Err(error) => arrival_after(error.kind())?,
         }
     }
     Err(IoFault::Failed)

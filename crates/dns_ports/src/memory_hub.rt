@@ -1,11 +1,8 @@
 //! A hub in memory, for tests. It always tells its content, and the openings fail whose numbers it was made with.
 
-ghost use Rattle.std.specs.Prelude.{◌≡◌, ◌<◌, ◌≤◌, ◌+◌, ◌∷◌, ◌++◌, [], ℕ, Some, length, drop, vec_len, vec_capacity, All, OnOk, OnErr, IfOk, IfErr, IsErrOf, IsErrAnd};
-ghost use Rattle.std.specs.Result.{result_ok};
-ghost use Rattle.dns_io.specs.Edge.{HasCause, Keeps, Grows, Rose, one_more};
-ghost use Rattle.dns_io.specs.declared.edge.IoFault.TheVariants.{OutOfMemory as NoMemory};
-ghost use Rattle.dns_ports.specs.Ports.{IsFresh, if_given};
-ghost use Rattle.dns_ports.specs.Memory.{IsUnusedUdp, IsUnusedTcp, hub_of, next_socket, next_listener, next_listeners, OpensSocket, OpensListeners, socket_closed, listener_closed};
+ghost use Rattle.std.specs.Prelude.{◌≡◌, ◌<◌, ◌≤◌, ◌+◌, ◌∷◌, ◌++◌, [], length, drop, vec_len, vec_capacity, All, OnOk, OnErr, IfOk};
+ghost use Rattle.dns_ports.specs.Ports.{Opens, ClosesSocket, ClosesListener};
+ghost use Rattle.dns_ports.specs.Memory.{IsUnusedUdp, IsUnusedTcp, hub_of, hub_told, next_socket, next_listener, next_listeners, OpensSocket, OpensListeners, socket_closed, listener_closed};
 ghost use Rattle.dns_ports.specs.declared.hub.Opening.TheVariants.{Socket, Listeners};
 
 use crate::faults::faults_behind;
@@ -101,28 +98,11 @@ impl Hub for MemoryHub {
 
     type Tcp = MemoryTcp;
 
-    ghost openings = { λ h. Some h.openings };
-
-    ghost closed_udp = { λ h. Some h.closed_udp };
-
-    ghost closed_tcp = { λ h. Some h.closed_tcp };
-
-    ghost lent_udp = { λ h. h.lent_udp };
-
-    ghost lent_tcp = { λ h. h.lent_tcp };
-
-    ghost faults = { λ h. h.faults };
+    ghost told = { hub_told };
 
     fn open_udp(&mut self, at: Peer, _stop: &StopToken) -> Result<MemoryUdp, IoFault>
         ensures fresh { IfOk result IsUnusedUdp }
-        ensures grows { OnOk result (Grows (Some self.old.openings) (Some self.new.openings) (Socket at ∷ [])) }
-        ensures kept { OnErr result (Keeps (Some self.old.openings) (Some self.new.openings)) }
-        ensures udp_kept { Keeps (Some self.old.closed_udp) (Some self.new.closed_udp) }
-        ensures tcp_kept { Keeps (Some self.old.closed_tcp) (Some self.new.closed_tcp) }
-        ensures udp_lent { self.new.lent_udp ≡ self.old.lent_udp + if_given 1 result }
-        ensures tcp_lent { self.new.lent_tcp ≡ self.old.lent_tcp }
-        ensures cause { HasCause self.old.faults self.new.faults result }
-        ensures uncounted { IsErrOf result IoFault.OutOfMemory → self.new.faults ≡ self.old.faults }
+        ensures told { Opens (hub_told self.old) (hub_told self.new) (Socket at) 1 0 result }
         ensures next { OpensSocket self.old at result self.new }
     {
         self.calls = self.calls.saturating_add(1);
@@ -145,14 +125,7 @@ impl Hub for MemoryHub {
     ) -> Result<Vec<MemoryTcp>, IoFault>
         ensures count { IfOk result (λ ports. length ports.items ≡ workers) }
         ensures fresh { IfOk result (λ ports. All IsUnusedTcp ports.items) }
-        ensures grows { OnOk result (Grows (Some self.old.openings) (Some self.new.openings) (Listeners at limit workers ∷ [])) }
-        ensures kept { OnErr result (Keeps (Some self.old.openings) (Some self.new.openings)) }
-        ensures udp_kept { Keeps (Some self.old.closed_udp) (Some self.new.closed_udp) }
-        ensures tcp_kept { Keeps (Some self.old.closed_tcp) (Some self.new.closed_tcp) }
-        ensures udp_lent { self.new.lent_udp ≡ self.old.lent_udp }
-        ensures tcp_lent { self.new.lent_tcp ≡ self.old.lent_tcp + if_given workers result }
-        ensures cause { HasCause self.old.faults self.new.faults result }
-        ensures uncounted { IsErrOf result IoFault.OutOfMemory → self.new.faults ≡ self.old.faults }
+        ensures told { Opens (hub_told self.old) (hub_told self.new) (Listeners at limit workers) 0 workers result }
         ensures next { OpensListeners (λ ports. ports.items) self.old at limit workers result self.new }
     {
         self.calls = self.calls.saturating_add(1);
@@ -172,14 +145,7 @@ impl Hub for MemoryHub {
 
     fn close_udp(&mut self, port: MemoryUdp)
         requires { 0 < self.old.lent_udp }
-        ensures grows { Grows (Some self.old.closed_udp) (Some self.new.closed_udp) (port ∷ []) }
-        ensures kept { Keeps (Some self.old.openings) (Some self.new.openings) }
-        ensures tcp_kept { Keeps (Some self.old.closed_tcp) (Some self.new.closed_tcp) }
-        ensures udp_lent { self.new.lent_udp + 1 ≡ self.old.lent_udp }
-        ensures tcp_lent { self.new.lent_tcp ≡ self.old.lent_tcp }
-        ensures later { self.old.faults ≤ self.new.faults }
-        ensures raised { 0 < port.faults → Rose self.old.faults self.new.faults }
-        ensures calm { port.faults ≡ 0 → self.new.faults ≡ self.old.faults }
+        ensures told { ClosesSocket (hub_told self.old) (hub_told self.new) port port.faults }
         ensures next { self.new ≡ socket_closed self.old port }
     {
         self.faults = faults_behind(self.faults, port.faults());
@@ -189,14 +155,7 @@ impl Hub for MemoryHub {
 
     fn close_tcp(&mut self, port: MemoryTcp)
         requires { 0 < self.old.lent_tcp }
-        ensures grows { Grows (Some self.old.closed_tcp) (Some self.new.closed_tcp) (port ∷ []) }
-        ensures kept { Keeps (Some self.old.openings) (Some self.new.openings) }
-        ensures udp_kept { Keeps (Some self.old.closed_udp) (Some self.new.closed_udp) }
-        ensures udp_lent { self.new.lent_udp ≡ self.old.lent_udp }
-        ensures tcp_lent { self.new.lent_tcp + 1 ≡ self.old.lent_tcp }
-        ensures later { self.old.faults ≤ self.new.faults }
-        ensures raised { 0 < port.faults → Rose self.old.faults self.new.faults }
-        ensures calm { port.faults ≡ 0 → self.new.faults ≡ self.old.faults }
+        ensures told { ClosesListener (hub_told self.old) (hub_told self.new) port port.faults }
         ensures next { self.new ≡ listener_closed self.old port }
     {
         self.faults = faults_behind(self.faults, port.faults());

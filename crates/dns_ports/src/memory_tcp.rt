@@ -1,13 +1,13 @@
 //! A listener in memory, for tests. It always tells its content, and the calls fail whose numbers it was made with.
 
-ghost use Rattle.std.specs.Prelude.{◌≡◌, ◌<◌, ◌≤◌, ◌+◌, ◌∷◌, [], Some, OnOk, OnErr, IfOk, IsErrOf, vec_len, vec_capacity};
-ghost use Rattle.dns_io.specs.Edge.{HasCause, Keeps, Grows};
-ghost use Rattle.dns_ports.specs.Ports.{GivesNext, GrowsBy, given_by};
-ghost use Rattle.dns_ports.specs.Memory.{tcp_of, AcceptsNext, taken_back};
+ghost use Rattle.std.specs.Prelude.{◌≡◌, ◌<◌, ◌≤◌, ◌+◌, IfOk, vec_len, vec_capacity};
+ghost use Rattle.dns_ports.specs.Ports.{Accepts, TakesBack};
+ghost use Rattle.dns_ports.specs.Memory.{tcp_of, tcp_told, AcceptsNext, taken_back};
 
 use crate::history::History;
 use crate::port::{Accepted, TcpPort};
-use dns_io::{IoFault, MemoryClock, MemorySink, MemorySource, OutOfMemory};
+use dns_edges::{MemoryClock, MemorySink, MemorySource};
+use dns_io::{IoFault, OutOfMemory};
 use std::alloc::Global;
 use std::collections::VecDeque;
 use std::marker::Model;
@@ -78,25 +78,10 @@ impl TcpPort for MemoryTcp {
 
     type Time = MemoryClock;
 
-    ghost left = { λ s. Some s.left };
-
-    ghost accepted = { λ s. Some s.accepted };
-
-    ghost ended = { λ s. Some s.ended };
-
-    ghost lent = { λ s. s.lent };
-
-    ghost faults = { λ s. s.faults };
+    ghost told = { tcp_told };
 
     fn accept(&mut self) -> Result<Option<Accepted<MemorySource, MemorySink, MemoryClock>>, IoFault>
-        ensures given { IfOk result (GivesNext (Some self.old.left) (Some self.new.left)) }
-        ensures grows { IfOk result (GrowsBy (Some self.old.accepted) (Some self.new.accepted)) }
-        ensures kept { OnErr result (Keeps (Some self.old.left) (Some self.new.left)) }
-        ensures unaccepted { OnErr result (Keeps (Some self.old.accepted) (Some self.new.accepted)) }
-        ensures unended { Keeps (Some self.old.ended) (Some self.new.ended) }
-        ensures lends { self.new.lent ≡ self.old.lent + given_by result }
-        ensures cause { HasCause self.old.faults self.new.faults result }
-        ensures uncounted { IsErrOf result IoFault.OutOfMemory → self.new.faults ≡ self.old.faults }
+        ensures told { Accepts (tcp_told self.old) (tcp_told self.new) result }
         ensures next { AcceptsNext self.old result self.new }
     {
         self.accepts = self.accepts.saturating_add(1);
@@ -115,11 +100,7 @@ impl TcpPort for MemoryTcp {
 
     fn done(&mut self, connection: Accepted<MemorySource, MemorySink, MemoryClock>)
         requires { 0 < self.old.lent }
-        ensures grows { Grows (Some self.old.ended) (Some self.new.ended) (connection ∷ []) }
-        ensures kept { Keeps (Some self.old.left) (Some self.new.left) }
-        ensures unaccepted { Keeps (Some self.old.accepted) (Some self.new.accepted) }
-        ensures lends { self.new.lent + 1 ≡ self.old.lent }
-        ensures calm { self.new.faults ≡ self.old.faults }
+        ensures told { TakesBack (tcp_told self.old) (tcp_told self.new) connection }
         ensures next { self.new ≡ taken_back self.old connection }
     {
         self.ended.push_reserved(connection);

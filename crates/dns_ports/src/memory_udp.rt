@@ -1,10 +1,9 @@
 //! A socket of datagrams in memory, for tests. It always tells its content, and the calls fail whose numbers it was made
 //! with.
 
-ghost use Rattle.std.specs.Prelude.{◌≡◌, ◌<◌, ◌≤◌, ◌^◌, ◌∷◌, [], Some, length, All, IfOk, IfSome, OnOk, OnErr, IsErrOf};
-ghost use Rattle.dns_io.specs.Edge.{HasCause, Keeps, Grows};
-ghost use Rattle.dns_ports.specs.Ports.{came_into, GivesNext, GrowsBy};
-ghost use Rattle.dns_ports.specs.Memory.{MayArrive, udp_of, first_of, received_from, ReceivesNext, AnswersNext};
+ghost use Rattle.std.specs.Prelude.{◌≡◌, ◌<◌, ◌≤◌, ◌^◌, Some, length, All, IfSome};
+ghost use Rattle.dns_ports.specs.Ports.{came_into, Receives, Answers};
+ghost use Rattle.dns_ports.specs.Memory.{MayArrive, udp_of, udp_told, first_of, received_from, ReceivesNext, AnswersNext};
 
 use crate::port::{Arrived, UdpPort};
 use dns_io::{IoFault, Octets, Peer};
@@ -92,25 +91,11 @@ impl MemoryUdp {
 }
 
 impl UdpPort for MemoryUdp {
-    ghost left = { λ s. Some s.left };
-
-    ghost received = { λ s. Some s.received };
-
-    ghost taken = { λ s. Some s.taken };
-
-    ghost faults = { λ s. s.faults };
+    ghost told = { udp_told };
 
     fn receive(&mut self, room: &mut [u8]) -> Result<Option<Arrived>, IoFault>
         requires { 65535 ≤ length room.old }
-        ensures size { IfOk result (λ came. IfSome came (λ arrived. arrived.len ≤ 65535)) }
-        ensures moment { IfOk result (λ came. IfSome came (λ arrived. arrived.at < 2 ^ 47)) }
-        ensures given { IfOk result (λ came. GivesNext (Some self.old.left) (Some self.new.left) (came_into room.new came)) }
-        ensures grows { IfOk result (λ came. GrowsBy (Some self.old.received) (Some self.new.received) (came_into room.new came)) }
-        ensures kept { OnErr result (Keeps (Some self.old.left) (Some self.new.left)) }
-        ensures unreceived { OnErr result (Keeps (Some self.old.received) (Some self.new.received)) }
-        ensures unanswered { Keeps (Some self.old.taken) (Some self.new.taken) }
-        ensures cause { HasCause self.old.faults self.new.faults result }
-        ensures uncounted { IsErrOf result IoFault.OutOfMemory → self.new.faults ≡ self.old.faults }
+        ensures told { Receives (udp_told self.old) (udp_told self.new) room.new result }
         ensures next { ReceivesNext self.old result self.new room.new }
     {
         self.receives = self.receives.saturating_add(1);
@@ -122,12 +107,7 @@ impl UdpPort for MemoryUdp {
     }
 
     fn answer(&mut self, to: Peer, bytes: &[u8]) -> Result<(), IoFault>
-        ensures grows { OnOk result (Grows (Some self.old.taken) (Some self.new.taken) ((bytes.now, to) ∷ [])) }
-        ensures kept { OnErr result (Keeps (Some self.old.taken) (Some self.new.taken)) }
-        ensures unread { Keeps (Some self.old.left) (Some self.new.left) }
-        ensures unreceived { Keeps (Some self.old.received) (Some self.new.received) }
-        ensures cause { HasCause self.old.faults self.new.faults result }
-        ensures uncounted { IsErrOf result IoFault.OutOfMemory → self.new.faults ≡ self.old.faults }
+        ensures told { Answers (udp_told self.old) (udp_told self.new) (bytes.now, to) result }
         ensures next { AnswersNext self.old (bytes.now, to) result self.new }
     {
         self.answers = self.answers.saturating_add(1);

@@ -1,6 +1,8 @@
-//! How long a connection waits.
+//! How long ports and connections wait.
 
-ghost use Rattle.std.specs.Prelude.{◌≡◌, ◌<◌, ◌≤◌, ◌+◌, ◌*◌, ◌^◌, ◌-◌};
+ghost use Rattle.std.specs.Prelude.{◌≡◌, ◌*◌};
+ghost use Rattle.std.specs.Duration.{as_nanos};
+ghost use Rattle.dns_ports.specs.Sockets.{WaitsFor, one_wait};
 
 use std::time::Duration;
 
@@ -15,7 +17,7 @@ const WRITES: u64 = 50;
 pub(crate) struct Patience {
     /// How long one wait is, in milliseconds, 1 to 100.
     wait: u64,
-    /// After so many waits without a byte a read tells the end.
+    /// After so many waits without a byte a read fails.
     pub(crate) reads: u64,
     /// After so many waits in which nothing was taken a write fails.
     pub(crate) writes: u64,
@@ -24,12 +26,7 @@ pub(crate) struct Patience {
 impl Patience {
     /// That of connections with this limit, in milliseconds; 0 for none.
     pub(crate) fn within(limit: u64) -> Patience
-        ensures wait { result.wait ≤ 100 }
-        ensures some { 0 < result.wait }
-        ensures endless { limit ≡ 0 → result.reads ≡ 2 ^ 64 - 1 }
-        ensures long { 0 < limit → limit ≤ result.wait * result.reads }
-        ensures short { 0 < limit → result.wait * result.reads < limit + result.wait }
-        ensures writes { 0 < limit → result.writes ≡ result.reads }
+        ensures { WaitsFor limit result.wait result.reads result.writes }
     {
         if limit == 0 {
             return Patience {
@@ -48,7 +45,16 @@ impl Patience {
     }
 
     /// How long one wait is.
-    pub(crate) fn wait(&self) -> Duration {
+    pub(crate) fn wait(&self) -> Duration
+        ensures { as_nanos result ≡ self.now.wait * 1000000 }
+    {
         Duration::from_millis(self.wait)
     }
+}
+
+/// How long one wait of a port is, after which its token is looked at.
+pub(crate) fn one_wait() -> Duration
+    ensures { as_nanos result ≡ one_wait * 1000000 }
+{
+    Duration::from_millis(WAIT)
 }

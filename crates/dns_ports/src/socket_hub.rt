@@ -1,9 +1,11 @@
 //! A hub over the operating system.
 
-ghost use Rattle.std.specs.Prelude.{◌≡◌, ◌<◌, ◌≤◌, ◌+◌, None, All, length, IfOk, IsErrOf};
-ghost use Rattle.dns_io.specs.Edge.{HasCause, Rose, counted};
-ghost use Rattle.dns_ports.specs.Ports.{if_given};
+ghost use Rattle.std.specs.Prelude.{◌≡◌, ◌<◌, All, length, IfOk};
+ghost use Rattle.dns_io.specs.Told.{counted};
+ghost use Rattle.dns_ports.specs.Ports.{IsFreshSocket, IsFreshListener, Opens, ClosesSocket, ClosesListener};
 ghost use Rattle.dns_ports.specs.Memory.{faults_behind};
+ghost use Rattle.dns_ports.specs.Sockets.{untold_hub, untold_socket, untold_listener};
+ghost use Rattle.dns_ports.specs.declared.hub.Opening.TheVariants.{Socket, Listeners};
 
 use crate::faults::{count, faults_behind};
 use crate::hub::Hub;
@@ -54,25 +56,12 @@ impl<R: Net<Listener = TcpListener, Stream = TcpStream> + rt::Clock + Copy> Hub 
 
     type Tcp = ListenerPort<R>;
 
-    ghost openings = { λ _. None };
-
-    ghost closed_udp = { λ _. None };
-
-    ghost closed_tcp = { λ _. None };
-
-    ghost lent_udp = { λ h. h.lent_udp };
-
-    ghost lent_tcp = { λ h. h.lent_tcp };
-
-    ghost faults = { λ h. h.faults };
+    ghost told = { untold_hub };
 
     fn open_udp(&mut self, at: Peer, stop: &StopToken) -> Result<SocketPort<R>, IoFault>
-        ensures unused { IfOk result (λ port. port ≡ 0) }
-        ensures udp_lent { self.new.lent_udp ≡ self.old.lent_udp + if_given 1 result }
-        ensures tcp_lent { self.new.lent_tcp ≡ self.old.lent_tcp }
+        ensures fresh { IfOk result (λ port. IsFreshSocket (untold_socket port)) }
+        ensures told { Opens (untold_hub self.old) (untold_hub self.new) (Socket at) 1 0 result }
         ensures faults { self.new.faults ≡ counted self.old.faults result }
-        ensures cause { HasCause self.old.faults self.new.faults result }
-        ensures uncounted { IsErrOf result IoFault.OutOfMemory → self.new.faults ≡ self.old.faults }
     {
         let Some(lent) = self.lent_udp.checked_add(1) else {
             return Err(IoFault::OutOfMemory);
@@ -91,12 +80,9 @@ impl<R: Net<Listener = TcpListener, Stream = TcpStream> + rt::Clock + Copy> Hub 
         stop: &StopToken,
     ) -> Result<Vec<ListenerPort<R>>, IoFault>
         ensures count { IfOk result (λ ports. length ports.items ≡ workers) }
-        ensures unused { IfOk result (λ ports. All (λ port. port.faults ≡ 0) ports.items) }
-        ensures udp_lent { self.new.lent_udp ≡ self.old.lent_udp }
-        ensures tcp_lent { self.new.lent_tcp ≡ self.old.lent_tcp + if_given workers result }
+        ensures fresh { IfOk result (λ ports. All (λ port. IsFreshListener (untold_listener port)) ports.items) }
+        ensures told { Opens (untold_hub self.old) (untold_hub self.new) (Listeners at limit workers) 0 workers result }
         ensures faults { self.new.faults ≡ counted self.old.faults result }
-        ensures cause { HasCause self.old.faults self.new.faults result }
-        ensures uncounted { IsErrOf result IoFault.OutOfMemory → self.new.faults ≡ self.old.faults }
     {
         let Some(lent) = self.lent_tcp.checked_add(u64::from(workers)) else {
             return Err(IoFault::OutOfMemory);
@@ -109,12 +95,8 @@ impl<R: Net<Listener = TcpListener, Stream = TcpStream> + rt::Clock + Copy> Hub 
 
     fn close_udp(&mut self, port: SocketPort<R>)
         requires { 0 < self.old.lent_udp }
-        ensures udp_lent { self.new.lent_udp + 1 ≡ self.old.lent_udp }
-        ensures tcp_lent { self.new.lent_tcp ≡ self.old.lent_tcp }
+        ensures told { ClosesSocket (untold_hub self.old) (untold_hub self.new) port port }
         ensures faults { self.new.faults ≡ faults_behind self.old.faults port }
-        ensures later { self.old.faults ≤ self.new.faults }
-        ensures raised { 0 < port → Rose self.old.faults self.new.faults }
-        ensures calm { port ≡ 0 → self.new.faults ≡ self.old.faults }
     {
         self.faults = faults_behind(self.faults, port.faults());
         self.lent_udp -= 1;
@@ -122,12 +104,8 @@ impl<R: Net<Listener = TcpListener, Stream = TcpStream> + rt::Clock + Copy> Hub 
 
     fn close_tcp(&mut self, port: ListenerPort<R>)
         requires { 0 < self.old.lent_tcp }
-        ensures udp_lent { self.new.lent_udp ≡ self.old.lent_udp }
-        ensures tcp_lent { self.new.lent_tcp + 1 ≡ self.old.lent_tcp }
+        ensures told { ClosesListener (untold_hub self.old) (untold_hub self.new) port port.faults }
         ensures faults { self.new.faults ≡ faults_behind self.old.faults port.faults }
-        ensures later { self.old.faults ≤ self.new.faults }
-        ensures raised { 0 < port.faults → Rose self.old.faults self.new.faults }
-        ensures calm { port.faults ≡ 0 → self.new.faults ≡ self.old.faults }
     {
         self.faults = faults_behind(self.faults, port.faults());
         self.lent_tcp -= 1;

@@ -1,23 +1,23 @@
 //! A socket of datagrams of the operating system.
 
-ghost use Rattle.std.specs.Prelude.{◌≡◌, ◌<◌, ◌≤◌, ◌^◌, None, length, IfOk, IfSome, IsErrOf};
-ghost use Rattle.dns_io.specs.Edge.{HasCause, counted};
+ghost use Rattle.std.specs.Prelude.{◌≡◌, ◌≤◌, length, IfOk};
+ghost use Rattle.dns_io.specs.Told.{counted};
+ghost use Rattle.dns_ports.specs.Ports.{Receives, Answers};
+ghost use Rattle.dns_ports.specs.Sockets.{untold_socket, IfCame};
 
 use crate::address::{address_of, peer_at};
-use crate::faults::{count, is_passed_over};
+use crate::faults::{arrival_after, count, sending_after, sent_whole};
+use crate::patience::one_wait;
 use crate::port::{Arrived, UdpPort};
-use crate::stop_token::StopToken;
-use dns_io::{Clock, IoFault, Peer, SystemClock};
+use crate::stop_token::{StopToken, Waited};
+use dns_edges::{Clock, SystemClock};
+use dns_io::{IoFault, Peer};
 use std::marker::Model;
 use std::net::{Net, SocketAddr, UdpSocket};
-use std::time::Duration;
 use std::{io, rt};
 
 /// The most bytes that a datagram may have.
 const MOST: usize = 65_535;
-
-/// How long one wait is at most, in milliseconds.
-const WAIT: u64 = 100;
 
 /// A socket of datagrams of the operating system, which its token stops within 100 milliseconds.
 ///
@@ -70,37 +70,27 @@ impl<R> SocketPort<R> {
 }
 
 impl<R: rt::Clock> UdpPort for SocketPort<R> {
-    ghost left = { λ _. None };
-
-    ghost received = { λ _. None };
-
-    ghost taken = { λ _. None };
-
-    ghost faults = { λ p. p };
+    ghost told = { untold_socket };
 
     fn receive(&mut self, room: &mut [u8]) -> Result<Option<Arrived>, IoFault>
         requires { 65535 ≤ length room.old }
-        ensures size { IfOk result (λ came. IfSome came (λ arrived. arrived.len ≤ 65535)) }
-        ensures moment { IfOk result (λ came. IfSome came (λ arrived. arrived.at < 2 ^ 47)) }
+        ensures told { Receives (untold_socket self.old) (untold_socket self.new) room.new result }
         ensures faults { self.new ≡ counted self.old result }
-        ensures cause { HasCause self.old self.new result }
-        ensures uncounted { IsErrOf result IoFault.OutOfMemory → self.new ≡ self.old }
     {
         let outcome = next_datagram(&self.socket, &self.stop, room);
-        let Some((len, from)) = count(outcome, &mut self.faults)? else {
-            return Ok(None);
-        };
-        Ok(Some(Arrived {
-            len,
-            from: peer_at(from),
-            at: self.clock.now(),
-        }))
+        match count(outcome, &mut self.faults)? {
+            Waited::Came((len, from)) => Ok(Some(Arrived {
+                len,
+                from: peer_at(from),
+                at: self.clock.now(),
+            })),
+            Waited::Stopped(_) => Ok(None),
+        }
     }
 
     fn answer(&mut self, to: Peer, bytes: &[u8]) -> Result<(), IoFault>
+        ensures told { Answers (untold_socket self.old) (untold_socket self.new) (bytes.now, to) result }
         ensures faults { self.new ≡ counted self.old result }
-        ensures cause { HasCause self.old self.new result }
-        ensures uncounted { IsErrOf result IoFault.OutOfMemory → self.new ≡ self.old }
     {
         count(send(&self.socket, to, bytes), &mut self.faults)
     }
@@ -109,32 +99,27 @@ impl<R: rt::Clock> UdpPort for SocketPort<R> {
 /// A socket at this address, whose reads wait for at most 100 milliseconds.
 fn bound<R: Net>(runtime: &R, at: Peer) -> io::Result<UdpSocket> {
     let socket = UdpSocket::bind(runtime, address_of(at))?;
-    socket.set_read_timeout(Some(Duration::from_millis(WAIT)))?;
+    socket.set_read_timeout(Some(one_wait()))?;
     Ok(socket)
 }
 
-/// Puts the next datagram at the front of the room, and tells how many bytes it has, and who sent it; `None` where the token is
-/// stopped.
+/// Puts the next datagram at the front of the room, and tells how many bytes it has, and who sent it.
 fn next_datagram(
     socket: &UdpSocket,
     stop: &StopToken,
     room: &mut [u8],
-) -> Result<Option<(usize, SocketAddr)>, IoFault>
+) -> Result<Waited<(usize, SocketAddr)>, IoFault>
     requires { 65535 ≤ length room.old }
-    ensures size { IfOk result (λ came. IfSome came (λ datagram. datagram.0 ≤ 65535)) }
+    ensures size { IfOk result (λ ended. IfCame ended (λ datagram. datagram.0 ≤ 65535)) }
 {
     let (front, _) = room.split_at_mut(MOST);
     for _ in 0..u64::MAX {
-        if stop.is_stopped() {
-            return Ok(None);
+        if let Some(seen) = stop.look() {
+            return Ok(Waited::Stopped(seen));
         }
         match socket.recv_from(front) {
-            Ok(came) => return Ok(Some(came)),
-            Err(error) => {
-                if !is_passed_over(error.kind()) {
-                    return Err(error.into());
-                }
-            }
+            Ok(came) => return Ok(Waited::Came(came)),
+            Err(error) => arrival_after(error.kind())?,
         }
     }
     Err(IoFault::Failed)
@@ -142,10 +127,12 @@ fn next_datagram(
 
 /// Sends these bytes as one datagram.
 fn send(socket: &UdpSocket, to: Peer, bytes: &[u8]) -> Result<(), IoFault> {
-    let sent = socket.send_to(bytes, address_of(to))?;
-    if sent == bytes.len() {
-        Ok(())
-    } else {
-        Err(IoFault::Failed)
+    let address = address_of(to);
+    for _ in 0..u64::MAX {
+        match socket.send_to(bytes, address) {
+            Ok(sent) => return sent_whole(sent, bytes.len()),
+            Err(error) => sending_after(error.kind())?,
+        }
     }
+    Err(IoFault::Failed)
 }

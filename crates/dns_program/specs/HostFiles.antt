@@ -12,7 +12,9 @@ use Rattle.sqlite.below.sqlite_store.specs.contracts.store.FileStoreStore.TheImp
 use Rattle.sqlite.specs.contracts.FileStore as FileStore
 use Rattle.sqlite.specs.Store as Store
 use Rattle.dns_keeper.specs.declared.row.Row.{Row}
+use Rattle.sqlite.specs.Held.{state}
 use Rattle.dns_journal.specs.Told.{View, told_rows}
+use Rattle.dns_journal.specs.Crash.{MayLeaveClean}
 
 -- the files of the host, of which nothing is known before they are opened
 abbrev files : RattleType
@@ -31,3 +33,7 @@ store = FileStoreStore.ghosts files disk FileStoreStore.no_dict
 -- the rows that a journal over it tells: those of its connection, while the files give what was written to them
 unfoldable pub file_rows : View stores.Denot → Option (List Row)
 file_rows = told_rows store
+
+-- which rows a crash now may leave in it, where its files promise to be clean
+unfoldable pub file_may_leave : View stores.Denot → List Row → Type 0
+file_may_leave journal = MayLeaveClean (state store journal.conn)

@@ -3,6 +3,7 @@
 ghost use Rattle.std.specs.Prelude.{◌≡◌, None, IsErrOf};
 ghost use Rattle.dns_keeper.specs.declared.keeper.KeepFault.TheVariants.{OutOfMemory as NoMemory};
 ghost use Rattle.dns_keeper.specs.Keeping.{HasCause};
+ghost use Rattle.dns_program.specs.Choices.{refusal_after};
 
 use dns_journal::PersistenceError;
 use dns_keeper::{KeepFault, Keeper, Row};
@@ -18,7 +19,9 @@ pub struct ClosedJournal {
 
 impl ClosedJournal {
     /// What stands for the journal whose opening was refused so.
-    pub fn after(error: &PersistenceError) -> ClosedJournal {
+    pub fn after(error: &PersistenceError) -> ClosedJournal
+        ensures { result ≡ record { refusal = refusal_after error.now; faults = 0 } }
+    {
         let refusal = match error {
             PersistenceError::OutOfMemory => KeepFault::OutOfMemory,
             _ => KeepFault::Failed,

@@ -1,16 +1,17 @@
 //! The program: it does what the words of its command line say.
 #![tactic(auto)]
 
+mod choices;
 mod closed_journal;
 mod file_journal;
 
+use crate::choices::{journal_path, zone_path};
 use crate::closed_journal::ClosedJournal;
 use crate::file_journal::FileJournal;
 use dns_command::run::run;
-use dns_command::{
-    Ended, HELP, JOURNAL, Status, VERSION, ZONE, after_writing, is_command, path_of,
-};
-use dns_io::{FileSource, OutOfMemory, Reading, SystemClock, Writing};
+use dns_command::{Ended, HELP, Status, VERSION, after_writing};
+use dns_edges::{FileSource, Reading, SystemClock, Writing};
+use dns_io::OutOfMemory;
 use dns_journal::PersistenceError;
 use dns_keeper::{Keeper, MemoryKeeper};
 use dns_ports::SocketHub;
@@ -78,12 +79,9 @@ fn task_of(rt: &HostRuntime, words: &Vec<String>) -> Task {
 
 /// The command over the journal that the words name, or over one in memory. For words that are no command no file is opened.
 fn command_task(rt: &HostRuntime, words: &Vec<String>) -> Task {
-    let Some(path) = path_of(words.as_slice(), JOURNAL) else {
-        return Task::InMemory(MemoryKeeper::new(rt.alloc()));
-    };
-    match is_command(rt.alloc(), words.as_slice()) {
-        Ok(true) => file_task(rt, path),
-        Ok(false) => Task::InMemory(MemoryKeeper::new(rt.alloc())),
+    match journal_path(rt.alloc(), words.as_slice()) {
+        Ok(Some(path)) => file_task(rt, path),
+        Ok(None) => Task::InMemory(MemoryKeeper::new(rt.alloc())),
         Err(OutOfMemory) => Task::Closed(ClosedJournal::after(&PersistenceError::OutOfMemory)),
     }
 }
@@ -122,6 +120,6 @@ fn command_over<
 
 /// The zone text: that of the file that `--zone=` names, or none.
 fn zone_source(rt: &HostRuntime, words: &Vec<String>) -> FileSource<File> {
-    let opening = path_of(words.as_slice(), ZONE).map(|path| fs::open(rt, path));
+    let opening = zone_path(words.as_slice()).map(|path| fs::open(rt, path));
     FileSource::new(opening)
 }

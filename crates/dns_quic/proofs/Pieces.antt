@@ -4,7 +4,7 @@ use Rattle.std.proofs.lemmas.List.{append_assoc, append-nil}
 use Rattle.std.proofs.lemmas.Nat.{be_bytes_2}
 use Rattle.std.specs.Int.{w16, to_be_bytes}
 use Rattle.std.specs.Prelude.{Result, Ok, Err, OnErr}
-use Rattle.dns_io.specs.Edge.{Told, Takes, TakesFront}
+use Rattle.dns_io.specs.Told.{Told, Takes, TakesFront}
 use Rattle.dns_io.proofs.ToldContents.{Told-same}
 use Rattle.dns_transport.specs.Pieces.{GivesBytes}
 use Rattle.dns_transport.specs.declared.error.NetError.{NetError}

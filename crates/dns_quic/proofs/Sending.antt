@@ -2,14 +2,13 @@
 use Rattle.std.proofs.Common.{◌≡◌, ℕ, List, [], ◌++◌, Option, Some, Result, Ok, Err, false, refl, sym, ap, ◌∙◌, arith}
 use Rattle.std.proofs.lemmas.List.{append_assoc, append-nil}
 use Rattle.std.proofs.lemmas.Bool.Decides.{nat_tests}
-use Rattle.std.specs.Prelude.{◌==◌, IsErrOf}
-use Rattle.dns_io.specs.declared.edge.IoFault.{IoFault}
-use Rattle.dns_io.specs.declared.edge.IoFault.TheVariants as io
-use Rattle.dns_io.specs.Edge.{Grows, GrowsByPrefix, HasCause}
+use Rattle.std.specs.Prelude.{◌==◌}
+use Rattle.dns_io.specs.declared.io_fault.IoFault.{IoFault}
+use Rattle.dns_io.specs.declared.io_fault.IoFault.TheVariants as io
+use Rattle.dns_io.specs.Told.{Grows, GrowsByPrefix}
 use Rattle.dns_io.proofs.ToldContents.{Grows-more, Grows-GrowsByPrefix}
 use Rattle.dns_transport.specs.Faults.{of_io}
 use Rattle.dns_transport.specs.declared.error.NetError.{NetError}
-use Rattle.dns_quic.specs.Halves.{IsCounted}
 use Rattle.dns_quic.specs.Streams.{IsIoFault, TakesBytes}
 
 pub is_io : (fault : IoFault) → IsIoFault (of_io fault)
@@ -41,8 +40,3 @@ took-nothing a bytes now same = (bytes, record { front = []; parts = refl; grown
 
 pub not-zero : (n : ℕ) → ¬ (n ≡ 0) → (n == 0) ≡ false
 not-zero n other = grind (arith, nat_tests)
-
--- a call that failed is counted, and no other
-pub is-counted : {T : Type 0} (fault : IoFault) (before now : ℕ) → HasCause {T = T} before now (Err fault) → (IsErrOf {T = T} (Err fault) io.OutOfMemory → now ≡ before) → IsCounted {T = T} before now (Err fault)
-is-counted io.Failed before now cause calm = (cause.later, cause.failed refl)
-is-counted io.OutOfMemory before now cause calm = calm refl

@@ -1,10 +1,10 @@
 -- What was sent is received, and codes are read from their numbers.
-use Rattle.std.proofs.Common.{◌≡◌, ℕ, ◌+◌, ◌*◌, ◌/◌, ◌%◌, ◌<◌, ◌≤◌, ◌^◌, List, [], ◌∷◌, ◌++◌, length, get_or, take, drop, refl, sym, ap, ◌∙◌, arith, length-append}
+use Rattle.std.proofs.Common.{◌≡◌, ℕ, ◌+◌, ◌*◌, ◌/◌, ◌%◌, ◌≤◌, List, ◌++◌, length, get_or, take, drop, refl, sym, ap, ◌∙◌, arith, length-append}
 use Rattle.std.proofs.lemmas.List.{take_at, drop_at}
 use Rattle.std.specs.Prelude.{Result, Ok, Err, IsErrOf}
 use Rattle.dns_transport.specs.declared.error.NetError.{NetError}
 use Rattle.dns_transport.specs.declared.error.NetError.TheVariants.{RequestTooLarge, BadRequest, Build, Response, QuicMessageIdNot0, FinishedEarly, MaxBufferSizeExceeded, UnknownStream, NotMulticast, Timeout, Io, ShutDown, Proto, OutOfMemory}
-use Rattle.dns_quic.specs.Streams.{EndsEarly, IsReceived, ReceivesFrame, frame_bytes}
+use Rattle.dns_quic.specs.Streams.{IsReceived, ReceivesFrame, frame_bytes}
 
 said : (n : ℕ) → n ≤ 65535 → n / 256 % 256 * 256 + n % 256 ≡ n
 said n short = omega (arith, short)

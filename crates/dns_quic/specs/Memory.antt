@@ -1,16 +1,17 @@
 -- What the halves and the connection in memory do at each call.
 use Rattle.std.specs.Prelude.{◌≡◌, ◌⊎◌, ℕ, ◌+◌, ◌-◌, min, nat_lt, nat_eq, ◌==◌, ◌||◌, if◌then◌else◌, List, [], ◌∷◌, ◌++◌, length, take, drop, Option, Some, None, Result, Ok, Err, MatchBool, MatchResult, IsOkAnd}
 use Rattle.std.specs.List.{list_any}
-use Rattle.dns_io.specs.Edge.{one_more}
-use Rattle.dns_io.specs.Memory.{next_fails}
-use Rattle.dns_io.specs.declared.edge.IoFault.{IoFault}
-use Rattle.dns_io.specs.declared.edge.IoFault.TheVariants.{Failed, OutOfMemory}
+use Rattle.dns_io.specs.Told.{one_more}
+use Rattle.dns_edges.specs.Memory.{next_fails}
+use Rattle.dns_io.specs.declared.io_fault.IoFault.{IoFault}
+use Rattle.dns_io.specs.declared.io_fault.IoFault.TheVariants.{Failed, OutOfMemory}
 use Rattle.dns_transport.specs.declared.error.LinkFault.{LinkFault}
 use Rattle.dns_transport.specs.declared.error.LinkFault.TheVariants.{Failed as LinkFailed, Late, OutOfMemory as NoMemory}
 use Rattle.dns_quic.specs.declared.halves.StreamEnd.{StreamEnd}
 use Rattle.dns_quic.specs.declared.open_streams.StreamCall.{StreamCall}
 use Rattle.dns_quic.specs.declared.open_streams.StreamCall.TheVariants.{Opened, Returned}
-use Rattle.dns_quic.specs.Connections.{GivesHalves}
+use Rattle.dns_quic.specs.Connections.{GivesHalves, StreamsTold}
+use Rattle.dns_quic.specs.Halves.{SendTold, RecvTold}
 
 -- a sending half in memory: the bytes that it took, how many of its bytes a write that fails still takes, how it was ended,
 -- the numbers of the calls that fail, how many calls there were, and how many of them failed
@@ -21,6 +22,10 @@ pub record SendState : Type 0 where
   pub failing : List ℕ
   pub calls : ℕ
   pub faults : ℕ
+
+-- what it tells
+abbrev pub send_told : SendState → SendTold
+send_told s = record { taken = Some s.taken; ends = Some s.ends; faults = s.faults }
 
 -- the half after a call that failed
 abbrev pub failed_call : SendState → SendState
@@ -61,6 +66,10 @@ pub record RecvState : Type 0 where
   pub failing : List ℕ
   pub calls : ℕ
   pub faults : ℕ
+
+-- what it tells
+abbrev pub recv_told : RecvState → RecvTold
+recv_told r = record { left = Some r.left; stops = Some r.stops; faults = r.faults }
 
 -- the half after a call that failed
 abbrev pub failed_read : RecvState → RecvState
@@ -112,14 +121,18 @@ pub record StreamsState : Type 0 where
   pub accepts : ℕ
   pub faults : ℕ
 
+-- what it tells
+abbrev pub streams_told : StreamsState → StreamsTold SendState RecvState
+streams_told c = record { calls = Some c.calls; closed = Some c.closed; coming = Some c.coming; given_out = c.given_out; faults = c.faults }
+
 -- none of these halves has a fault
 abbrev pub AreFresh : List (SendState × RecvState) → Type 0
 AreFresh [] = Unit {0}
 AreFresh (halves ∷ rest) = (halves.0.faults ≡ 0) × (halves.1.faults ≡ 0) × AreFresh rest
 
--- the next stream is opened; the opening is late where none is to come
+-- the next stream is opened, of those that are left
 abbrev pub OpensNext : List (SendState × RecvState) → Result (SendState × RecvState) LinkFault → List (SendState × RecvState) → Type 0
-OpensNext [] result after = (result ≡ Err Late) × (after ≡ [])
+OpensNext [] result after = ⊥
 OpensNext (halves ∷ rest) result after = (result ≡ Ok halves) × (after ≡ rest)
 
 -- what the opening of this number answers, where these fail and these are late, and which streams are left
@@ -140,7 +153,7 @@ abbrev pub answered : StreamsState → Result (SendState × RecvState) LinkFault
 answered c (Ok halves) = record c { given_out = c.given_out + 1 }
 answered c (Err fault) = record c { faults = one_more c.faults }
 
--- what an opening answers, and leaves: where memory ran out, nothing has changed
+-- what an opening answers, and leaves: where memory ran out, as where no stream is left, nothing has changed
 abbrev pub OpenNext : StreamsState → Option ℕ → Result (SendState × RecvState) LinkFault → StreamsState → Type 0
 OpenNext before limit result after =
     ((result ≡ Err NoMemory) × (after ≡ before))

@@ -1,9 +1,10 @@
 //! The receiving half of a stream as the body of a message.
 
-ghost use Rattle.std.specs.Prelude.{◌≡◌, ◌++◌, ℕ, List, [], Option, Some, None, IfOk, OnOk, OnErr, IsErrOf};
-ghost use Rattle.dns_io.specs.Edge.{HasCause, Keeps};
-ghost use Rattle.dns_quic.specs.BodyStreams.{left_behind};
-ghost use Rattle.dns_transport.specs.Pieces.{GivesBytes, GivesNext, HasBytes};
+ghost use Rattle.std.specs.Prelude.{◌≡◌, None, IfOk, OnErr};
+ghost use Rattle.dns_io.specs.Told.{Keeps};
+ghost use Rattle.dns_edges.specs.Edges.{HasCause};
+ghost use Rattle.dns_quic.specs.BodyStreams.{left_behind, body_told};
+ghost use Rattle.dns_transport.specs.Pieces.{GivesBytes, GivesPiece, HasBytes};
 
 use crate::halves::RecvHalf;
 use bytes::Bytes;
@@ -45,13 +46,11 @@ impl<T: RecvHalf> BodyStream<T> {
     /// The bytes that wait, where there are any, or else the next ones of the half.
     fn next_bytes(&mut self) -> Result<Option<Octets>, IoFault>
         ensures bytes { IfOk result HasBytes }
-        ensures given { IfOk result (GivesBytes (left_behind self.old.waiting (T.left self.old.half)) (T.left self.new.half)) }
-        ensures kept { OnErr result (Keeps (left_behind self.old.waiting (T.left self.old.half)) (T.left self.new.half)) }
+        ensures given { IfOk result (GivesBytes (left_behind self.old.waiting (T.told self.old.half).left) (T.told self.new.half).left) }
+        ensures kept { OnErr result (Keeps (left_behind self.old.waiting (T.told self.old.half).left) (T.told self.new.half).left) }
         ensures none { self.new.waiting ≡ None }
-        ensures unstopped { Keeps (T.stops self.old.half) (T.stops self.new.half) }
-        ensures cause { HasCause (T.faults self.old.half) (T.faults self.new.half) result }
-        ensures calm { OnOk result (T.faults self.new.half ≡ T.faults self.old.half) }
-        ensures uncounted { IsErrOf result IoFault.OutOfMemory → T.faults self.new.half ≡ T.faults self.old.half }
+        ensures unstopped { Keeps (T.told self.old.half).stops (T.told self.new.half).stops }
+        ensures cause { HasCause (T.told self.old.half).faults (T.told self.new.half).faults result }
     {
         if let Some(piece) = self.waiting.take() {
             if piece.len() > 0 {
@@ -64,20 +63,12 @@ impl<T: RecvHalf> BodyStream<T> {
 
 /// It knows no pieces, and tells its bytes where the half does. Where a piece finds no memory, its bytes wait for the next call.
 impl<T: RecvHalf> BodyPieces for BodyStream<T> {
-    ghost left = { λ b. None };
-
-    ghost left_bytes = { λ b. left_behind b.waiting (T.left b.half) };
-
-    ghost faults = { λ b. T.faults b.half };
+    ghost told = { λ b. body_told b.waiting (T.told b.half) };
 
     fn next(&mut self) -> Result<Option<Bytes>, IoFault>
-        ensures bytes { IfOk result HasBytes }
-        ensures bytes_given { IfOk result (GivesBytes (left_behind self.old.waiting (T.left self.old.half)) (left_behind self.new.waiting (T.left self.new.half))) }
-        ensures bytes_kept { OnErr result (Keeps (left_behind self.old.waiting (T.left self.old.half)) (left_behind self.new.waiting (T.left self.new.half))) }
-        ensures unstopped { Keeps (T.stops self.old.half) (T.stops self.new.half) }
-        ensures cause { HasCause (T.faults self.old.half) (T.faults self.new.half) result }
-        ensures calm { OnOk result (T.faults self.new.half ≡ T.faults self.old.half) }
-        ensures uncounted { IsErrOf result IoFault.OutOfMemory → T.faults self.new.half ≡ T.faults self.old.half }
+        ensures told { GivesPiece (body_told self.old.waiting (T.told self.old.half))
+            (body_told self.new.waiting (T.told self.new.half)) result }
+        ensures unstopped { Keeps (T.told self.old.half).stops (T.told self.new.half).stops }
     {
         let Some(piece) = self.next_bytes()? else {
             return Ok(None);

@@ -1,11 +1,7 @@
 //! Clients over QUIC (RFC 9250).
 
-ghost use Rattle.std.specs.Prelude.{◌≡◌, ◌⊎◌, ◌≤◌, true, false, Some, None, Ok, IsErrOf, MatchBool, string_bytes};
-ghost use Rattle.dns_io.specs.Edge.{Keeps, Rose};
-ghost use Rattle.dns_quic.specs.Connections.{Asks, Awaits, ClosesBy, Talks, WentOver};
-ghost use Rattle.dns_quic.specs.Halves.{EndsHalf};
-ghost use Rattle.dns_quic.specs.Streams.{IsOtherId};
-ghost use Rattle.dns_transport.specs.Faults.{HasNetCause};
+ghost use Rattle.std.specs.Prelude.{◌≡◌, true, false, Some, None, Ok, IsErrOf, MatchBool, string_bytes};
+ghost use Rattle.dns_quic.specs.Connections.{Asks, AsksOver, Awaits, Closes, HasStreamCause, Talks, WentOver};
 ghost use Rattle.dns_transport.specs.declared.poll.Poll.TheVariants.{Ready};
 
 use crate::error_code::DoqErrorCode;
@@ -78,13 +74,10 @@ impl<O: OpenStreams> QuicClientStream<O> {
     /// cannot be written; what comes of sending it, of ending the half, and of receiving. The halves of a stream go back to
     /// the connection whatever it says.
     pub fn send_message(&mut self, alloc: Global, request: &Message) -> Result<Message, NetError>
-        ensures asks { Asks O.Out.taken O.Out.ends (EndsHalf O.Out.ending O.Out.faults) O.Out.faults O.In.left O.In.stops O.In.faults O.calls O.opens self.old.is_shut self.old.opener self.old.limit request.now result self.new.opener }
-        ensures unclosed { Keeps (O.closed self.old.opener) (O.closed self.new.opener) }
-        ensures unaccepted { Keeps (O.coming self.old.opener) (O.coming self.new.opener) }
+        ensures asks { Asks O.Out.sending O.In.told O.streams self.old.is_shut
+            self.old.opener self.old.limit request.now result self.new.opener }
         ensures kept { self.new ≡ record self.old { opener = self.new.opener } }
-        ensures cause { HasNetCause (O.faults self.old.opener) (O.faults self.new.opener) result }
-        ensures calm { ¬ (IsErrOf result NetError.Io) → ¬ (IsErrOf result NetError.Timeout) → ¬ (IsOtherId result) → O.faults self.new.opener ≡ O.faults self.old.opener }
-        ensures out { O.given_out self.new.opener ≡ O.given_out self.old.opener }
+        ensures told { AsksOver (O.streams.told self.old.opener) (O.streams.told self.new.opener) result }
     {
         if self.is_shut {
             return Err(NetError::ShutDown);
@@ -95,11 +88,7 @@ impl<O: OpenStreams> QuicClientStream<O> {
     /// Ends the client: it sends nothing any more, and its connection is closed with `NoError`.
     pub fn shutdown(&mut self)
         ensures shut { self.new ≡ record self.old { opener = self.new.opener; is_shut = true } }
-        ensures closed { ClosesBy 0 (O.closed self.old.opener) (O.closed self.new.opener) }
-        ensures untold { Keeps (O.calls self.old.opener) (O.calls self.new.opener) }
-        ensures unaccepted { Keeps (O.coming self.old.opener) (O.coming self.new.opener) }
-        ensures calm { O.faults self.new.opener ≡ O.faults self.old.opener }
-        ensures out { O.given_out self.new.opener ≡ O.given_out self.old.opener }
+        ensures told { Closes (O.streams.told self.old.opener) (O.streams.told self.new.opener) 0 }
     {
         self.is_shut = true;
         self.opener.close(u64::from(DoqErrorCode::NoError));
@@ -147,12 +136,8 @@ fn ask_over<O: OpenStreams>(
     limit: Option<u64>,
     message: &Message,
 ) -> Result<Message, NetError>
-    ensures went { WentOver O.Out.taken O.Out.ends (EndsHalf O.Out.ending O.Out.faults) O.Out.faults O.In.left O.In.stops O.In.faults O.calls O.opens opener.old limit message.now result opener.new }
-    ensures unclosed { Keeps (O.closed opener.old) (O.closed opener.new) }
-    ensures unaccepted { Keeps (O.coming opener.old) (O.coming opener.new) }
-    ensures cause { HasNetCause (O.faults opener.old) (O.faults opener.new) result }
-    ensures calm { ¬ (IsErrOf result NetError.Io) → ¬ (IsErrOf result NetError.Timeout) → ¬ (IsOtherId result) → O.faults opener.new ≡ O.faults opener.old }
-    ensures out { O.given_out opener.new ≡ O.given_out opener.old }
+    ensures went { WentOver O.Out.sending O.In.told O.streams opener.old limit message.now result opener.new }
+    ensures told { AsksOver (O.streams.told opener.old) (O.streams.told opener.new) result }
 {
     match opener.open(limit) {
         Err(fault) => Err(NetError::from(fault)),
@@ -172,12 +157,8 @@ fn talk<S: SendHalf, R: RecvHalf>(
     stream: &mut QuicStream<S, R>,
     message: &Message,
 ) -> Result<Message, NetError>
-    ensures talks { Talks S.taken S.ends (EndsHalf S.ending S.faults) R.left R.stops stream.old message.now result stream.new }
-    ensures later_send { S.faults stream.old.send ≤ S.faults stream.new.send }
-    ensures later_recv { R.faults stream.old.recv ≤ R.faults stream.new.recv }
-    ensures failed { IsErrOf result NetError.Io → Rose (S.faults stream.old.send) (S.faults stream.new.send) ⊎ Rose (R.faults stream.old.recv) (R.faults stream.new.recv) }
-    ensures calm_send { ¬ (IsErrOf result NetError.Io) → ¬ (IsOtherId result) → S.faults stream.new.send ≡ S.faults stream.old.send }
-    ensures calm_recv { ¬ (IsErrOf result NetError.Io) → R.faults stream.new.recv ≡ R.faults stream.old.recv }
+    ensures talks { Talks S.sending R.told stream.old message.now result stream.new }
+    ensures cause { HasStreamCause S.sending R.told stream.old result stream.new }
     ensures in_time { IsErrOf result NetError.Timeout → ⊥ }
 {
     match stream.send(alloc, message) {
@@ -191,12 +172,8 @@ fn await_answer<S: SendHalf, R: RecvHalf>(
     alloc: Global,
     stream: &mut QuicStream<S, R>,
 ) -> Result<Message, NetError>
-    ensures awaits { Awaits S.taken S.ends (EndsHalf S.ending S.faults) R.left R.stops stream.old result stream.new }
-    ensures later_send { S.faults stream.old.send ≤ S.faults stream.new.send }
-    ensures later_recv { R.faults stream.old.recv ≤ R.faults stream.new.recv }
-    ensures failed { IsErrOf result NetError.Io → Rose (S.faults stream.old.send) (S.faults stream.new.send) ⊎ Rose (R.faults stream.old.recv) (R.faults stream.new.recv) }
-    ensures calm_send { ¬ (IsErrOf result NetError.Io) → ¬ (IsOtherId result) → S.faults stream.new.send ≡ S.faults stream.old.send }
-    ensures calm_recv { ¬ (IsErrOf result NetError.Io) → R.faults stream.new.recv ≡ R.faults stream.old.recv }
+    ensures awaits { Awaits S.sending R.told stream.old result stream.new }
+    ensures cause { HasStreamCause S.sending R.told stream.old result stream.new }
     ensures in_time { IsErrOf result NetError.Timeout → ⊥ }
 {
     match stream.finish() {

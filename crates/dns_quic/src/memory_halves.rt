@@ -1,12 +1,12 @@
 //! The halves of a stream in memory, for tests. They always tell their content, and the calls fail whose numbers they were
 //! made with.
 
-ghost use Rattle.std.specs.Prelude.{◌≡◌, ◌⊎◌, ◌<◌, ◌≤◌, ◌∷◌, ◌++◌, [], ℕ, List, Some, length, min, take, IfOk, IsErrOf, OnOk, OnErr};
-ghost use Rattle.dns_io.specs.Edge.{HasCause, Keeps, Grows, GrowsByPrefix};
-ghost use Rattle.dns_quic.specs.Halves.{IsWithin};
-ghost use Rattle.dns_quic.specs.Memory.{WriteNext, EndNext, ReadNext, StopNext};
+ghost use Rattle.std.specs.Prelude.{◌≡◌, ◌⊎◌, ◌<◌, ◌≤◌, ◌++◌, [], List, ℕ, Some, length, min, take};
+ghost use Rattle.dns_edges.specs.Edges.{HasCause};
+ghost use Rattle.dns_io.specs.Told.{GrowsByPrefix};
+ghost use Rattle.dns_quic.specs.Halves.{Writes, Finishes, Reads, StopsBy};
+ghost use Rattle.dns_quic.specs.Memory.{WriteNext, EndNext, ReadNext, StopNext, send_told, recv_told};
 ghost use Rattle.dns_quic.specs.declared.halves.StreamEnd.TheVariants.{Finished, Reset};
-ghost use Rattle.dns_transport.specs.Pieces.{GivesBytes};
 
 use crate::halves::{RecvHalf, SendHalf, StreamEnd};
 use dns_io::{IoFault, Octets};
@@ -88,21 +88,10 @@ impl MemorySend {
 }
 
 impl SendHalf for MemorySend {
-    ghost taken = { λ s. Some s.taken };
-
-    ghost ends = { λ s. Some s.ends };
-
-    ghost faults = { λ s. s.faults };
-
-    ghost ending = { EndNext };
+    ghost sending = { record { told = send_told; ending = EndNext } };
 
     fn write(&mut self, bytes: &[u8]) -> Result<(), IoFault>
-        ensures ok { OnOk result (Grows (Some self.old.taken) (Some self.new.taken) bytes.now) }
-        ensures err { OnErr result ((rest : List ℕ) × GrowsByPrefix (Some self.old.taken) (Some self.new.taken) bytes.now rest) }
-        ensures unended { Keeps (Some self.old.ends) (Some self.new.ends) }
-        ensures cause { HasCause self.old.faults self.new.faults result }
-        ensures calm { OnOk result (self.new.faults ≡ self.old.faults) }
-        ensures uncounted { IsErrOf result IoFault.OutOfMemory → self.new.faults ≡ self.old.faults }
+        ensures told { Writes (send_told self.old) (send_told self.new) bytes.now result }
         ensures next { WriteNext self.old bytes.now result self.new }
     {
         self.calls = self.calls.saturating_add(1);
@@ -116,24 +105,14 @@ impl SendHalf for MemorySend {
     }
 
     fn finish(&mut self) -> Result<(), IoFault>
-        ensures ok { OnOk result (Grows (Some self.old.ends) (Some self.new.ends) (Finished ∷ [])) }
-        ensures err { OnErr result (Keeps (Some self.old.ends) (Some self.new.ends)) }
-        ensures unwritten { Keeps (Some self.old.taken) (Some self.new.taken) }
-        ensures cause { HasCause self.old.faults self.new.faults result }
-        ensures calm { OnOk result (self.new.faults ≡ self.old.faults) }
-        ensures uncounted { IsErrOf result IoFault.OutOfMemory → self.new.faults ≡ self.old.faults }
+        ensures told { Finishes (send_told self.old) (send_told self.new) Finished result }
         ensures next { EndNext self.old Finished result self.new }
     {
         self.end(StreamEnd::Finished)
     }
 
     fn reset(&mut self, code: u64) -> Result<(), IoFault>
-        ensures ok { OnOk result (Grows (Some self.old.ends) (Some self.new.ends) (Reset code ∷ [])) }
-        ensures err { OnErr result (Keeps (Some self.old.ends) (Some self.new.ends)) }
-        ensures unwritten { Keeps (Some self.old.taken) (Some self.new.taken) }
-        ensures cause { HasCause self.old.faults self.new.faults result }
-        ensures calm { OnOk result (self.new.faults ≡ self.old.faults) }
-        ensures uncounted { IsErrOf result IoFault.OutOfMemory → self.new.faults ≡ self.old.faults }
+        ensures told { Finishes (send_told self.old) (send_told self.new) (Reset code) result }
         ensures next { EndNext self.old (Reset code) result self.new }
     {
         self.end(StreamEnd::Reset(code))
@@ -211,21 +190,11 @@ impl MemoryRecv {
 }
 
 impl RecvHalf for MemoryRecv {
-    ghost left = { λ r. Some r.left };
-
-    ghost stops = { λ r. Some r.stops };
-
-    ghost faults = { λ r. r.faults };
+    ghost told = { recv_told };
 
     fn read(&mut self, most: usize) -> Result<Option<Octets>, IoFault>
         requires { 0 < most }
-        ensures within { IfOk result (IsWithin most) }
-        ensures given { IfOk result (GivesBytes (Some self.old.left) (Some self.new.left)) }
-        ensures kept { OnErr result (Keeps (Some self.old.left) (Some self.new.left)) }
-        ensures unstopped { Keeps (Some self.old.stops) (Some self.new.stops) }
-        ensures cause { HasCause self.old.faults self.new.faults result }
-        ensures calm { OnOk result (self.new.faults ≡ self.old.faults) }
-        ensures uncounted { IsErrOf result IoFault.OutOfMemory → self.new.faults ≡ self.old.faults }
+        ensures told { Reads (recv_told self.old) (recv_told self.new) most result }
         ensures next { ReadNext self.old most result self.new }
     {
         self.calls = self.calls.saturating_add(1);
@@ -245,12 +214,7 @@ impl RecvHalf for MemoryRecv {
     }
 
     fn stop(&mut self, code: u64) -> Result<(), IoFault>
-        ensures ok { OnOk result (Grows (Some self.old.stops) (Some self.new.stops) (code ∷ [])) }
-        ensures err { OnErr result (Keeps (Some self.old.stops) (Some self.new.stops)) }
-        ensures unread { Keeps (Some self.old.left) (Some self.new.left) }
-        ensures cause { HasCause self.old.faults self.new.faults result }
-        ensures calm { OnOk result (self.new.faults ≡ self.old.faults) }
-        ensures uncounted { IsErrOf result IoFault.OutOfMemory → self.new.faults ≡ self.old.faults }
+        ensures told { StopsBy (recv_told self.old) (recv_told self.new) code result }
         ensures next { StopNext self.old code result self.new }
     {
         self.calls = self.calls.saturating_add(1);

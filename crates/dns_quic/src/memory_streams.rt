@@ -1,11 +1,8 @@
 //! A connection in memory, for tests. It always tells its content, and the calls fail whose numbers it was made with.
 
-ghost use Rattle.std.specs.Prelude.{◌≡◌, ◌+◌, ◌<◌, ◌≤◌, ◌||◌, ◌∷◌, nat_lt, [], Some, None, IfOk, IsErrOf, OnOk, OnErr};
-ghost use Rattle.dns_io.specs.Edge.{HasCause, Keeps, Rose, Grows};
-ghost use Rattle.dns_quic.specs.Connections.{ClosesBy, GivesHalves, TellsOpened};
-ghost use Rattle.dns_quic.specs.Memory.{AcceptNext, AreFresh, Answers, OpenNext, returned};
-ghost use Rattle.dns_quic.specs.declared.open_streams.StreamCall.TheVariants.{Returned};
-ghost use Rattle.dns_transport.specs.Faults.{HasLinkCause};
+ghost use Rattle.std.specs.Prelude.{◌≡◌, ◌⊎◌, ◌+◌, ◌<◌, ◌≤◌, ◌||◌, nat_lt, [], None, IfOk, IfSome, IfNone, IsErrOf};
+ghost use Rattle.dns_quic.specs.Connections.{Accepts, Closes, TakesBack};
+ghost use Rattle.dns_quic.specs.Memory.{AcceptNext, AreFresh, Answers, OpenNext, returned, streams_told};
 
 use crate::memory_halves::{MemoryRecv, MemorySend};
 use crate::open_streams::{OpenStreams, StreamCall};
@@ -46,8 +43,9 @@ impl Model for MemoryStreams {
 impl MemoryStreams {
     /// A connection that opens the first streams in turn, whose halves have no fault yet, and accepts the others. Its openings
     /// are counted from 1, and its acceptings apart from them, from 1 too; those whose numbers stand in `failing` or
-    /// `failing_accepts` fail, and the openings in `late` are late, as is one for which no stream is left. The count of faults
-    /// rises by one at each of them, and where a half comes back with faults, and nowhere else.
+    /// `failing_accepts` fail, and the openings in `late` are late. An opening for which no stream is left wants memory, and is not
+    /// counted among them. The count of faults rises by one at each that fails or is late, and where a half comes back with faults, and
+    /// nowhere else.
     pub fn new(
         alloc: Global,
         opening: LinkedList<(MemorySend, MemoryRecv)>,
@@ -101,17 +99,7 @@ impl OpenStreams for MemoryStreams {
 
     type In = MemoryRecv;
 
-    ghost calls = { λ c. Some c.calls };
-
-    ghost closed = { λ c. Some c.closed };
-
-    ghost coming = { λ c. Some c.coming };
-
-    ghost faults = { λ c. c.faults };
-
-    ghost given_out = { λ c. c.given_out };
-
-    ghost opens = { OpenNext };
+    ghost streams = { record { told = streams_told; opens = OpenNext } };
 
     fn open(&mut self, limit: Option<u64>) -> Result<(MemorySend, MemoryRecv), LinkFault> {
         let Some(room) = self.given_out.checked_add(2) else {
@@ -120,14 +108,18 @@ impl OpenStreams for MemoryStreams {
         if self.calls.reserve(room).is_err() {
             return Err(LinkFault::OutOfMemory);
         }
-        self.opens = self.opens.saturating_add(1);
-        self.calls.push(StreamCall::Opened(limit)).unwrap();
-        match answer(
+        let number = self.opens.saturating_add(1);
+        let Some(answer) = answer(
             &mut self.opening,
             self.failing.as_slice(),
             self.late.as_slice(),
-            self.opens,
-        ) {
+            number,
+        ) else {
+            return Err(LinkFault::OutOfMemory);
+        };
+        self.opens = number;
+        self.calls.push(StreamCall::Opened(limit)).unwrap();
+        match answer {
             Ok(halves) => {
                 self.given_out += 1;
                 Ok(halves)
@@ -140,14 +132,7 @@ impl OpenStreams for MemoryStreams {
     }
 
     fn accept(&mut self) -> Result<Option<(MemorySend, MemoryRecv)>, IoFault>
-        ensures given { IfOk result (GivesHalves (Some self.old.coming) (Some self.new.coming)) }
-        ensures kept { OnErr result (Keeps (Some self.old.coming) (Some self.new.coming)) }
-        ensures untold { Keeps (Some self.old.calls) (Some self.new.calls) }
-        ensures unclosed { Keeps (Some self.old.closed) (Some self.new.closed) }
-        ensures out { self.new.given_out ≡ self.old.given_out }
-        ensures cause { HasCause self.old.faults self.new.faults result }
-        ensures calm { OnOk result (self.new.faults ≡ self.old.faults) }
-        ensures uncounted { IsErrOf result IoFault.OutOfMemory → self.new.faults ≡ self.old.faults }
+        ensures told { Accepts (streams_told self.old) (streams_told self.new) result }
         ensures next { AcceptNext self.old result self.new }
     {
         self.accepts = self.accepts.saturating_add(1);
@@ -159,11 +144,7 @@ impl OpenStreams for MemoryStreams {
     }
 
     fn close(&mut self, code: u64)
-        ensures closed { ClosesBy code (Some self.old.closed) (Some self.new.closed) }
-        ensures untold { Keeps (Some self.old.calls) (Some self.new.calls) }
-        ensures unaccepted { Keeps (Some self.old.coming) (Some self.new.coming) }
-        ensures out { self.new.given_out ≡ self.old.given_out }
-        ensures calm { self.new.faults ≡ self.old.faults }
+        ensures told { Closes (streams_told self.old) (streams_told self.new) code }
         ensures next { self.new ≡ record self.old { closed = self.new.closed } }
     {
         self.closed = Some(self.closed.unwrap_or(code));
@@ -171,14 +152,7 @@ impl OpenStreams for MemoryStreams {
 
     fn done(&mut self, out: MemorySend, back: MemoryRecv)
         requires { 0 < self.old.given_out }
-        ensures told { Grows (Some self.old.calls) (Some self.new.calls) (Returned out back ∷ []) }
-        ensures unclosed { Keeps (Some self.old.closed) (Some self.new.closed) }
-        ensures unaccepted { Keeps (Some self.old.coming) (Some self.new.coming) }
-        ensures back { self.new.given_out + 1 ≡ self.old.given_out }
-        ensures later { self.old.faults ≤ self.new.faults }
-        ensures counted_out { 0 < out.faults → Rose self.old.faults self.new.faults }
-        ensures counted_in { 0 < back.faults → Rose self.old.faults self.new.faults }
-        ensures calm { out.faults ≡ 0 → back.faults ≡ 0 → self.new.faults ≡ self.old.faults }
+        ensures told { TakesBack (streams_told self.old) (streams_told self.new) out back out.faults back.faults }
         ensures next { self.new ≡ returned self.old out back }
     {
         if has_faults(&out, &back) {
@@ -196,27 +170,28 @@ fn has_faults(out: &MemorySend, back: &MemoryRecv) -> bool
     0 < out.faults() || 0 < back.faults()
 }
 
-/// What the opening of this number answers, where these fail and these are late.
+/// What the opening of this number answers, where these fail and these are late; `None` where no stream is left.
 fn answer(
     streams: &mut LinkedList<(MemorySend, MemoryRecv)>,
     failing: &[u64],
     late: &[u64],
     number: u64,
-) -> Result<(MemorySend, MemoryRecv), LinkFault>
-    ensures answer { Answers failing.now late.now number streams.old result streams.new }
-    ensures fresh_out { AreFresh streams.old → IfOk result (λ halves. halves.0.faults ≡ 0) }
-    ensures fresh_in { AreFresh streams.old → IfOk result (λ halves. halves.1.faults ≡ 0) }
+) -> Option<Result<(MemorySend, MemoryRecv), LinkFault>>
+    ensures answer { IfSome result (λ given. Answers failing.now late.now number streams.old given streams.new) }
+    ensures none { IfNone result (streams.new ≡ streams.old) }
+    ensures fresh_out { AreFresh streams.old → IfSome result (λ given. IfOk given (λ halves. halves.0.faults ≡ 0)) }
+    ensures fresh_in { AreFresh streams.old → IfSome result (λ given. IfOk given (λ halves. halves.1.faults ≡ 0)) }
     ensures rest { AreFresh streams.old → AreFresh streams.new }
-    ensures memory { IsErrOf result LinkFault.OutOfMemory → ⊥ }
+    ensures memory { IfSome result (λ given. IsErrOf given LinkFault.OutOfMemory → ⊥) }
 {
     if failing.contains(&number) {
-        return Err(LinkFault::Failed);
+        return Some(Err(LinkFault::Failed));
     }
     if late.contains(&number) {
-        return Err(LinkFault::Late);
+        return Some(Err(LinkFault::Late));
     }
     match streams.pop_front() {
-        None => Err(LinkFault::Late),
-        Some(halves) => Ok(halves),
+        None => None,
+        Some(halves) => Some(Ok(halves)),
     }
 }

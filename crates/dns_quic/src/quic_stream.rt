@@ -2,9 +2,8 @@
 
 ghost use Rattle.std.specs.Prelude.{◌≡◌, ◌≤◌, ◌++◌, ℕ, List, false, length, IsErrOf, IfErr};
 ghost use Rattle.std.specs.Int.{w16, to_be_bytes};
-ghost use Rattle.dns_io.specs.Edge.{Keeps};
+ghost use Rattle.dns_io.specs.Told.{Keeps};
 ghost use Rattle.dns_quic.specs.Codes.{number_of};
-ghost use Rattle.dns_quic.specs.Halves.{EndsHalf};
 ghost use Rattle.dns_quic.specs.Streams.{ChecksId, Ends, EndsSo, Encodes, IsOtherId, ReceivesBytes, ReadsChecked, ReceivesMessage, SendsBytes, SendsMessage, Stops, TakesBytes, frame_bytes};
 ghost use Rattle.dns_quic.specs.declared.halves.StreamEnd.TheVariants.{Finished, Reset};
 ghost use Rattle.dns_transport.specs.Faults.{HasCause};
@@ -67,8 +66,8 @@ impl<S: SendHalf, R: RecvHalf> QuicStream<S, R> {
     /// Sends a message, with the id 0 (RFC 9250 4.2.1), behind its length. The answer is the first of these: the message
     /// cannot be written; the sending half was finished or reset before; writing failed, and a front of the bytes was sent.
     pub fn send(&mut self, alloc: Global, message: &Message) -> Result<(), NetError>
-        ensures sends { SendsMessage S.taken S.ends self.old message.now result self.new }
-        ensures cause { HasCause (S.faults self.old.send) (S.faults self.new.send) result }
+        ensures sends { SendsMessage S.sending self.old message.now result self.new }
+        ensures cause { HasCause (S.sending.told self.old.send).faults (S.sending.told self.new.send).faults result }
         ensures in_time { IsErrOf result NetError.Timeout → ⊥ }
     {
         let bytes = encoded(alloc, message)?;
@@ -78,8 +77,8 @@ impl<S: SendHalf, R: RecvHalf> QuicStream<S, R> {
     /// Sends these bytes as a message, behind their length. The answer is the first of these: they are more than 65,535; the
     /// sending half was finished or reset before; writing failed, and a front of the bytes was sent. Takes no memory.
     pub fn send_bytes(&mut self, bytes: &[u8]) -> Result<(), NetError>
-        ensures sends { SendsBytes S.taken S.ends self.old bytes.now result self.new }
-        ensures cause { HasCause (S.faults self.old.send) (S.faults self.new.send) result }
+        ensures sends { SendsBytes S.sending self.old bytes.now result self.new }
+        ensures cause { HasCause (S.sending.told self.old.send).faults (S.sending.told self.new.send).faults result }
         ensures in_time { IsErrOf result NetError.Timeout → ⊥ }
     {
         if bytes.len() > MAX_MESSAGE_LEN {
@@ -94,8 +93,8 @@ impl<S: SendHalf, R: RecvHalf> QuicStream<S, R> {
     /// Tells the other side that no more messages come. It is `UnknownStream` exactly where the sending half was finished
     /// or reset before. After a fault it is not finished.
     pub fn finish(&mut self) -> Result<(), NetError>
-        ensures ends { Ends S.taken S.ends (EndsHalf S.ending S.faults) self.old Finished result self.new }
-        ensures cause { HasCause (S.faults self.old.send) (S.faults self.new.send) result }
+        ensures ends { Ends S.sending self.old Finished result self.new }
+        ensures cause { HasCause (S.sending.told self.old.send).faults (S.sending.told self.new.send).faults result }
         ensures in_time { IsErrOf result NetError.Timeout → ⊥ }
     {
         if self.is_ended {
@@ -109,8 +108,8 @@ impl<S: SendHalf, R: RecvHalf> QuicStream<S, R> {
     /// Gives the sending half up with this code. It is `UnknownStream` exactly where that was finished or reset before.
     /// After a fault it is not reset.
     pub fn reset(&mut self, code: DoqErrorCode) -> Result<(), NetError>
-        ensures ends { Ends S.taken S.ends (EndsHalf S.ending S.faults) self.old (Reset (number_of code)) result self.new }
-        ensures cause { HasCause (S.faults self.old.send) (S.faults self.new.send) result }
+        ensures ends { Ends S.sending self.old (Reset (number_of code)) result self.new }
+        ensures cause { HasCause (S.sending.told self.old.send).faults (S.sending.told self.new.send).faults result }
     {
         if self.is_ended {
             return Err(NetError::UnknownStream);
@@ -123,8 +122,8 @@ impl<S: SendHalf, R: RecvHalf> QuicStream<S, R> {
     /// Tells the other side with this code that nothing more will be received. It is `UnknownStream` exactly where the
     /// receiving half was stopped before. After a fault it is not stopped.
     pub fn stop(&mut self, code: DoqErrorCode) -> Result<(), NetError>
-        ensures stops { Stops R.left R.stops self.old (number_of code) result self.new }
-        ensures cause { HasCause (R.faults self.old.recv) (R.faults self.new.recv) result }
+        ensures stops { Stops R.told self.old (number_of code) result self.new }
+        ensures cause { HasCause (R.told self.old.recv).faults (R.told self.new.recv).faults result }
     {
         if self.is_stopped {
             return Err(NetError::UnknownStream);
@@ -138,8 +137,8 @@ impl<S: SendHalf, R: RecvHalf> QuicStream<S, R> {
     /// was stopped, and `FinishedEarly` where the stream ends first, with how many bytes of the length or of the message
     /// came. After a fault a part of the message was taken, and what comes next is no message.
     pub fn receive_bytes(&mut self, alloc: Global) -> Result<Octets, NetError>
-        ensures receives { ReceivesBytes R.left R.stops self.old result self.new }
-        ensures cause { HasCause (R.faults self.old.recv) (R.faults self.new.recv) result }
+        ensures receives { ReceivesBytes R.told self.old result self.new }
+        ensures cause { HasCause (R.told self.old.recv).faults (R.told self.new.recv).faults result }
         ensures in_time { IsErrOf result NetError.Timeout → ⊥ }
     {
         if self.is_stopped {
@@ -151,10 +150,10 @@ impl<S: SendHalf, R: RecvHalf> QuicStream<S, R> {
     /// Receives a message. Where its id is not 0, the sending half is reset with `ProtocolError`, whatever that answers
     /// (RFC 9250 4.2.1, 4.3.3).
     pub fn receive(&mut self, alloc: Global) -> Result<Message, NetError>
-        ensures receives { ReceivesMessage S.taken S.ends (EndsHalf S.ending S.faults) R.left R.stops self.old result self.new }
-        ensures cause { HasCause (R.faults self.old.recv) (R.faults self.new.recv) result }
-        ensures later { S.faults self.old.send ≤ S.faults self.new.send }
-        ensures calm_send { ¬ (IsOtherId result) → S.faults self.new.send ≡ S.faults self.old.send }
+        ensures receives { ReceivesMessage S.sending R.told self.old result self.new }
+        ensures cause { HasCause (R.told self.old.recv).faults (R.told self.new.recv).faults result }
+        ensures later { (S.sending.told self.old.send).faults ≤ (S.sending.told self.new.send).faults }
+        ensures calm_send { ¬ (IsOtherId result) → (S.sending.told self.new.send).faults ≡ (S.sending.told self.old.send).faults }
         ensures in_time { IsErrOf result NetError.Timeout → ⊥ }
     {
         match self.receive_bytes(alloc) {
@@ -165,9 +164,9 @@ impl<S: SendHalf, R: RecvHalf> QuicStream<S, R> {
 
     /// The message that stands in the bytes, if its id is 0.
     fn read_checked(&mut self, alloc: Global, bytes: &[u8]) -> Result<Message, NetError>
-        ensures reads { ReadsChecked S.taken S.ends (EndsHalf S.ending S.faults) self.old bytes.now result self.new }
-        ensures later { S.faults self.old.send ≤ S.faults self.new.send }
-        ensures calm_send { ¬ (IsOtherId result) → S.faults self.new.send ≡ S.faults self.old.send }
+        ensures reads { ReadsChecked S.sending self.old bytes.now result self.new }
+        ensures later { (S.sending.told self.old.send).faults ≤ (S.sending.told self.new.send).faults }
+        ensures calm_send { ¬ (IsOtherId result) → (S.sending.told self.new.send).faults ≡ (S.sending.told self.old.send).faults }
         ensures calm { IsErrOf result NetError.Io → ⊥ }
         ensures in_time { IsErrOf result NetError.Timeout → ⊥ }
         ensures recv { self.new.recv ≡ self.old.recv }
@@ -178,9 +177,9 @@ impl<S: SendHalf, R: RecvHalf> QuicStream<S, R> {
 
     /// A message whose id is 0; else the sending half is reset.
     fn checked(&mut self, message: Message) -> Result<Message, NetError>
-        ensures checks { ChecksId S.taken S.ends (EndsHalf S.ending S.faults) self.old message result self.new }
-        ensures later { S.faults self.old.send ≤ S.faults self.new.send }
-        ensures calm_send { ¬ (IsOtherId result) → S.faults self.new.send ≡ S.faults self.old.send }
+        ensures checks { ChecksId S.sending self.old message result self.new }
+        ensures later { (S.sending.told self.old.send).faults ≤ (S.sending.told self.new.send).faults }
+        ensures calm_send { ¬ (IsOtherId result) → (S.sending.told self.new.send).faults ≡ (S.sending.told self.old.send).faults }
         ensures calm { IsErrOf result NetError.Io → ⊥ }
         ensures in_time { IsErrOf result NetError.Timeout → ⊥ }
         ensures recv { self.new.recv ≡ self.old.recv }
@@ -214,18 +213,18 @@ fn encoded(alloc: Global, message: &Message) -> Result<Octets, NetError>
 /// Writes these bytes behind their length.
 fn write_frame<S: SendHalf>(half: &mut S, bytes: &[u8]) -> Result<(), NetError>
     requires { length bytes.now ≤ 65535 }
-    ensures taken { TakesBytes (S.taken half.old) (S.taken half.new) (frame_bytes bytes.now) result }
-    ensures unended { Keeps (S.ends half.old) (S.ends half.new) }
-    ensures cause { HasCause (S.faults half.old) (S.faults half.new) result }
+    ensures taken { TakesBytes (S.sending.told half.old).taken (S.sending.told half.new).taken (frame_bytes bytes.now) result }
+    ensures unended { Keeps (S.sending.told half.old).ends (S.sending.told half.new).ends }
+    ensures cause { HasCause (S.sending.told half.old).faults (S.sending.told half.new).faults result }
 {
     write_both(half, &(bytes.len() as u16).to_be_bytes(), bytes)
 }
 
 /// Writes some bytes, and then others.
 fn write_both<S: SendHalf>(half: &mut S, front: &[u8], back: &[u8]) -> Result<(), NetError>
-    ensures taken { TakesBytes (S.taken half.old) (S.taken half.new) (front.now ++ back.now) result }
-    ensures unended { Keeps (S.ends half.old) (S.ends half.new) }
-    ensures cause { HasCause (S.faults half.old) (S.faults half.new) result }
+    ensures taken { TakesBytes (S.sending.told half.old).taken (S.sending.told half.new).taken (front.now ++ back.now) result }
+    ensures unended { Keeps (S.sending.told half.old).ends (S.sending.told half.new).ends }
+    ensures cause { HasCause (S.sending.told half.old).faults (S.sending.told half.new).faults result }
 {
     match write_to(half, front) {
         Ok(()) => write_to(half, back),
@@ -236,9 +235,9 @@ fn write_both<S: SendHalf>(half: &mut S, front: &[u8], back: &[u8]) -> Result<()
 /// Writes these bytes.
 #[tactic(auto, using(crate::proofs::Sending::is_io))]
 fn write_to<S: SendHalf>(half: &mut S, bytes: &[u8]) -> Result<(), NetError>
-    ensures taken { TakesBytes (S.taken half.old) (S.taken half.new) bytes.now result }
-    ensures unended { Keeps (S.ends half.old) (S.ends half.new) }
-    ensures cause { HasCause (S.faults half.old) (S.faults half.new) result }
+    ensures taken { TakesBytes (S.sending.told half.old).taken (S.sending.told half.new).taken bytes.now result }
+    ensures unended { Keeps (S.sending.told half.old).ends (S.sending.told half.new).ends }
+    ensures cause { HasCause (S.sending.told half.old).faults (S.sending.told half.new).faults result }
 {
     match half.write(bytes) {
         Ok(()) => Ok(()),

@@ -1,8 +1,7 @@
 //! The streams that the other side of a connection opens.
 
 ghost use Rattle.std.specs.Prelude.{◌≡◌};
-ghost use Rattle.dns_io.specs.Edge.{Keeps};
-ghost use Rattle.dns_quic.specs.Connections.{GivesStream, HasNextCause};
+ghost use Rattle.dns_quic.specs.Connections.{TakesNext};
 
 use crate::open_streams::OpenStreams;
 use crate::quic_stream::QuicStream;
@@ -24,11 +23,7 @@ impl<O: OpenStreams> QuicStreams<O> {
 
     /// The next stream that is accepted, `None` at the end, or why none is.
     pub fn next(&mut self) -> Option<Result<QuicStream<O::Out, O::In>, NetError>>
-        ensures gives { GivesStream (O.coming self.old.opener) (O.coming self.new.opener) result }
-        ensures untold { Keeps (O.calls self.old.opener) (O.calls self.new.opener) }
-        ensures unclosed { Keeps (O.closed self.old.opener) (O.closed self.new.opener) }
-        ensures out { O.given_out self.new.opener ≡ O.given_out self.old.opener }
-        ensures cause { HasNextCause (O.faults self.old.opener) (O.faults self.new.opener) result }
+        ensures told { TakesNext (O.streams.told self.old.opener) (O.streams.told self.new.opener) result }
     {
         match self.opener.accept() {
             Ok(None) => None,

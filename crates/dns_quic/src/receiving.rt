@@ -1,7 +1,7 @@
 //! How the bytes of one message are received.
 
 ghost use Rattle.std.specs.Prelude.{◌≡◌, ◌≤◌, ◌<◌, ◌+◌, ◌*◌, ◌++◌, ℕ, length, get_or, IfOk, IfErr, IfSome, IfNone, OnErr};
-ghost use Rattle.dns_io.specs.Edge.{Keeps, Told, TakesFront};
+ghost use Rattle.dns_io.specs.Told.{Keeps, Told, TakesFront};
 ghost use Rattle.dns_quic.specs.Receiving.{GivesUpTo};
 ghost use Rattle.dns_quic.specs.Streams.{IsIoFault, IsReceived, ReceivesFrame};
 ghost use Rattle.dns_transport.specs.Faults.{HasCause};
@@ -13,10 +13,10 @@ use std::alloc::Global;
 
 /// The bytes of the next message, which stand behind their length. After a fault a part of them was taken.
 pub(crate) fn receive_frame<R: RecvHalf>(alloc: Global, half: &mut R) -> Result<Octets, NetError>
-    ensures told { Told (ReceivesFrame result) (R.left half.old) (R.left half.new) }
+    ensures told { Told (ReceivesFrame result) (R.told half.old).left (R.told half.new).left }
     ensures kind { IsReceived result }
-    ensures unstopped { Keeps (R.stops half.old) (R.stops half.new) }
-    ensures cause { HasCause (R.faults half.old) (R.faults half.new) result }
+    ensures unstopped { Keeps (R.told half.old).stops (R.told half.new).stops }
+    ensures cause { HasCause (R.told half.old).faults (R.told half.new).faults result }
 {
     let prefix = read_up_to(alloc, half, 2)?;
     let Some(count) = said_length(prefix.as_slice()) else {
@@ -50,12 +50,12 @@ fn said_length(prefix: &[u8]) -> Option<usize>
 
 /// Reads until there are so many bytes, or the stream ends.
 fn read_up_to<R: RecvHalf>(alloc: Global, half: &mut R, count: usize) -> Result<Octets, NetError>
-    ensures given { IfOk result (GivesUpTo count (R.left half.old) (R.left half.new)) }
+    ensures given { IfOk result (GivesUpTo count (R.told half.old).left (R.told half.new).left) }
     ensures within { IfOk result (λ bytes. length bytes ≤ count) }
-    ensures part { OnErr result (TakesFront (R.left half.old) (R.left half.new) count) }
+    ensures part { OnErr result (TakesFront (R.told half.old).left (R.told half.new).left count) }
     ensures kind { IfErr result IsIoFault }
-    ensures unstopped { Keeps (R.stops half.old) (R.stops half.new) }
-    ensures cause { HasCause (R.faults half.old) (R.faults half.new) result }
+    ensures unstopped { Keeps (R.told half.old).stops (R.told half.new).stops }
+    ensures cause { HasCause (R.told half.old).faults (R.told half.new).faults result }
 {
     let mut bytes = Octets::new(alloc);
     while bytes.len() < count {

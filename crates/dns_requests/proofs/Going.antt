@@ -1,8 +1,9 @@
 -- A connection that is served, from read to read, and how it ends.
 use Rattle.std.proofs.Common.{◌≡◌, ◌≢◌, ◌≤◌, ◌<◌, ◌+◌, ◌*◌, ◌∙◌, ℕ, List, [], ◌∷◌, ◌++◌, length, map, true, false, Option, Some, None, Ok, Err, refl, sym, ap, subst, inl, arith, length-append}
 use Rattle.std.proofs.lemmas.List.{append-nil, append_assoc, length-map}
-use Rattle.dns_io.specs.Edge.{EndsAt, Grows, GrowsByPrefix, Keeps, Rose, Takes}
-use Rattle.dns_io.proofs.ToldContents.{Grows-more, Grows-nothing, Grows-GrowsByPrefix}
+use Rattle.dns_io.specs.Told.{EndsAt, Grows, GrowsByPrefix, Keeps, Rose, Takes}
+use Rattle.dns_io.proofs.ToldContents.{Keeps-same, Grows-more, Grows-nothing, Grows-GrowsByPrefix}
+use Rattle.dns_edges.specs.Edges.{SourceOf, SinkOf, ClockOf}
 use Rattle.dns_book.specs.declared.ask.Ask.{Ask}
 use Rattle.dns_book.specs.declared.ask.Settled.{Settled}
 use Rattle.dns_frames.specs.Frames.{frames}
@@ -13,10 +14,10 @@ use Rattle.dns_requests.specs.declared.serve_fault.ServeFault.{ServeFault}
 use Rattle.dns_requests.specs.declared.serve_fault.ServeFault.TheVariants.{Read, Write, Turns, TimedOut, OutOfMemory}
 use Rattle.dns_server_core.specs.FrameRuns.{Adds, Halts, Run}
 use Rattle.dns_requests.specs.Runs.{Answers, AnswersPartly, BreaksOff}
-use Rattle.dns_requests.specs.Arrivals.{Hears, IsPiece, Receives, ask_at, heard, opened}
-use Rattle.dns_requests.specs.Ends.{Ends, IsAtEnd, IsReadFault, IsWriteFault, Parts, Terms}
+use Rattle.dns_requests.specs.Arrivals.{Hears, IsPiece, Receives, ReceivesNot, ask_at, heard, opened, room}
+use Rattle.dns_requests.specs.Ends.{CountsWriting, Ends, IsAtEnd, Parts, Terms}
 use Rattle.dns_server_core.proofs.LongerRuns.{Run-append}
-use Rattle.dns_requests.proofs.MoreArrivals.{Hears-more, Hears-none, Hears-same, asks_of-none, asks_of-push, base_none, left_by-push, unread_none, one_longer}
+use Rattle.dns_requests.proofs.MoreArrivals.{Hears-more, Hears-none, asks_of-none, asks_of-push, base_none, left_by-push, unread_none, one_longer}
 
 -- a source that gave nothing is at its end
 at_end : (a b : Option (List ℕ)) (piece : List ℕ) → length piece ≡ 0 → Takes a b piece → EndsAt a b 0 → IsAtEnd b
@@ -32,13 +33,14 @@ none_of (b ∷ piece) size = absurd (omega (arith, size))
 is_some_piece : (piece : List ℕ) (count : ℕ) → length piece ≡ count → count ≤ 4096 → count ≢ 0 → IsPiece piece
 is_some_piece piece count size most some = (omega (arith, size, some), omega (arith, size, most))
 
-rose_on : (a b c : ℕ) → a ≤ b → Rose b c → Rose a c
-rose_on a b c l r = omega (arith, l, r)
+rose_on : (a b c : ℕ) → b ≡ a → Rose b c → Rose a c
+rose_on a b c e r = subst (λ (n : ℕ). Rose n c) e r
 
-Takes-kept : (a b : Option (List ℕ)) → Keeps a b → Takes a b []
-Takes-kept a None k = tt
-Takes-kept None (Some y) k = absurd k
-Takes-kept (Some x) (Some y) k = sym k
+-- what took nothing
+Keeps-taken : (a b : Option (List ℕ)) → Takes a b [] → Keeps a b
+Keeps-taken a None k = tt
+Keeps-taken None (Some y) k = absurd k
+Keeps-taken (Some x) (Some y) k = sym k
 
 -- what it is to be late
 late_by : (limit base at : ℕ) → is_within limit base at ≡ false → (0 < limit) × (base + limit < at)
@@ -48,51 +50,53 @@ pub base_when : (base at next : ℕ) (ms : List (List ℕ)) (n : ℕ) → n ≡ 
 base_when base at next [] n e none some = none e
 base_when base at next (m ∷ ms) n e none some = some (omega (arith, e))
 
-module _ {H S W C : Type 0} (serves : H → Ask → Settled → H → Type 0) (skips : H → H → Type 0) (left : S → Option (List ℕ)) (read_faults : S → ℕ)
-    (taken : W → Option (List ℕ)) (write_faults : W → ℕ) (ticks : C → ℕ → C → Type 0) (terms : Terms) (before : Parts H S W C) where
+module _ {H S W C : Type 0} (serves : H → Ask → Settled → H → Type 0) (skips : H → H → Type 0) (source : SourceOf S) (sink : SinkOf W) (clock : ClockOf C)
+    (terms : Terms) (before : Parts H S W C) where
   -- the connection as it stands then
-  abbrev pub standing : {s : S} {c : C} → Hears left ticks terms.peer terms.limit before.source before.clock s c → Connection
+  abbrev pub standing : {s : S} {c : C} → Hears source clock terms.peer terms.limit before.source before.clock s c → Connection
   standing h = left_by (opened terms.peer terms.limit h.began) h.arrivals
 
   -- between two reads: all messages so far were settled, and their replies written
   pub record Going (now : Parts H S W C) (turn last : ℕ) (bytes : List ℕ) (n : ℕ) : Type 0 where
-    pub hears : Hears left ticks terms.peer terms.limit before.source before.clock now.source now.clock
+    pub hears : Hears source clock terms.peer terms.limit before.source before.clock now.source now.clock
     pub turns : length hears.arrivals ≡ turn
-    pub answers : Answers serves before.handler (heard hears) now.handler (taken before.sink) (taken now.sink)
+    pub answers : Answers serves before.handler (heard hears) now.handler (sink.told before.sink).taken (sink.told now.sink).taken
     pub base : last ≡ (standing hears).base
     pub unread : bytes ≡ (standing hears).rest
     pub count : n ≡ length (heard hears)
     pub fits : 2 * n + length bytes ≤ 4096 * turn
+    pub calm : (sink.told now.sink).faults ≡ (sink.told before.sink).faults
 
-  pub Going-begun : (clock : C) (began : ℕ) → ticks before.clock began clock → Going (record before { clock = clock }) 0 began [] 0
-  Going-begun clock began t = record {
-    hears = Hears-none left ticks terms.peer terms.limit before.source before.clock clock began t;
+  pub Going-begun : (c : C) (began : ℕ) → clock.ticks before.clock began c → Going (record before { clock = c }) 0 began [] 0
+  Going-begun c began t = record {
+    hears = Hears-none source clock terms.peer terms.limit before.source before.clock c began t;
     turns = refl;
     answers = record { bytes = []; run = subst (λ (l : List Ask). Run serves before.handler l [] before.handler) (sym (asks_of-none (opened terms.peer terms.limit began))) (refl, refl); sent = Grows-nothing _ };
     base = sym (base_none terms.peer terms.limit began);
     unread = sym (unread_none terms.peer terms.limit began);
     count = sym (ap length (asks_of-none (opened terms.peer terms.limit began)));
     fits = omega arith;
+    calm = refl;
   }
 
   -- a read in time, whose messages are not settled yet
-  pub record Heard (now : Parts H S W C) (turn last : ℕ) (bytes : List ℕ) (n : ℕ) (source : S) (clock : C) (at : ℕ) (new : List ℕ) : Type 0 where
+  pub record Heard (now : Parts H S W C) (turn last : ℕ) (bytes : List ℕ) (n : ℕ) (s : S) (c : C) (at : ℕ) (new : List ℕ) : Type 0 where
     pub going : Going now turn last bytes n
-    pub hears : Hears left ticks terms.peer terms.limit before.source before.clock source clock
+    pub hears : Hears source clock terms.peer terms.limit before.source before.clock s c
     pub turns : length hears.arrivals ≡ turn + 1
     pub asks : heard hears ≡ heard going.hears ++ map (ask_at terms.peer at) (frames new).messages
     pub stands : standing hears ≡ fed_by (standing going.hears) at (frames new)
     pub fits : length new ≤ length bytes + 4096
 
-  pub Heard-more : (now : Parts H S W C) (turns base : ℕ) (unread : List ℕ) (count : ℕ) (source : S) (clock : C) (at : ℕ) (new : List ℕ) (size : ℕ) → Going now turns base unread count
-      → Receives (left now.source) (left source) unread new size → size ≢ 0 → ticks now.clock at clock → is_within terms.limit base at ≡ true → Heard now turns base unread count source clock at new
-  Heard-more now turns base unread count source clock at new size g r some t w =
+  pub Heard-more : (now : Parts H S W C) (turns base : ℕ) (unread : List ℕ) (count : ℕ) (s : S) (c : C) (at : ℕ) (new : List ℕ) (size : ℕ) → Going now turns base unread count
+      → Receives source now.source s unread new size → size ≢ 0 → clock.ticks now.clock at c → is_within terms.limit base at ≡ true → Heard now turns base unread count s c at new
+  Heard-more now turns base unread count s c at new size g r some t w =
       let conn : Connection = opened terms.peer terms.limit g.hears.began in
       let new_is : new ≡ (left_by conn g.hears.arrivals).rest ++ r.piece = r.is ∙ ap (λ (l : List ℕ). l ++ r.piece) g.unread in
       let within : is_within conn.limit (left_by conn g.hears.arrivals).base at ≡ true = subst (λ (b : ℕ). is_within terms.limit b at ≡ true) g.base w in
       record {
         going = g;
-        hears = Hears-more left ticks terms.peer terms.limit before.source now.source source before.clock now.clock clock at r.piece g.hears (is_some_piece r.piece size r.size r.most some) within r.taken t;
+        hears = Hears-more source clock terms.peer terms.limit before.source now.source s before.clock now.clock c at r.piece g.hears (is_some_piece r.piece size r.size r.most some) within r.made r.taken r.calm t;
         turns = one_longer g.hears.arrivals (record { at = at; piece = r.piece }) ∙ omega (arith, g.turns);
         asks = asks_of-push conn g.hears.arrivals (record { at = at; piece = r.piece }) g.hears.in_time within ∙ rw new_is refl;
         stands = left_by-push conn g.hears.arrivals (record { at = at; piece = r.piece }) ∙ rw new_is refl;
@@ -100,41 +104,49 @@ module _ {H S W C : Type 0} (serves : H → Ask → Settled → H → Type 0) (s
       }
 
   -- all its messages were settled, and their replies written
-  pub Heard-answered : (now : Parts H S W C) (turns base : ℕ) (unread : List ℕ) (count : ℕ) (source : S) (clock : C) (at : ℕ) (new : List ℕ) (handler : H) (sink : W) (replies rest : List ℕ) (messages next : ℕ)
-      → Heard now turns base unread count source clock at new → Adds serves now.handler (map (ask_at terms.peer at) (frames new).messages) handler [] replies → Grows (taken now.sink) (taken sink) replies
+  pub Heard-answered : (now : Parts H S W C) (turns base : ℕ) (unread : List ℕ) (count : ℕ) (s : S) (c : C) (at : ℕ) (new : List ℕ) (handler : H) (out : W) (replies rest : List ℕ) (messages next : ℕ)
+      → Heard now turns base unread count s c at new → Adds serves now.handler (map (ask_at terms.peer at) (frames new).messages) handler [] replies → Grows (sink.told now.sink).taken (sink.told out).taken replies
+      → (sink.told out).faults ≡ (sink.told now.sink).faults
       → messages ≡ length (frames new).messages → rest ≡ (frames new).rest → next ≡ base_by base at (frames new).messages → 2 * messages + length rest ≤ length new
-      → Going (record { handler = handler; source = source; sink = sink; clock = clock }) (turns + 1) next rest (count + messages)
-  Heard-answered now turns base unread count source clock at new handler sink replies rest messages next h a w m r b f = record {
+      → Going (record { handler = handler; source = s; sink = out; clock = c }) (turns + 1) next rest (count + messages)
+  Heard-answered now turns base unread count s c at new handler out replies rest messages next h a w quiet m r b f = record {
     hears = h.hears;
     turns = h.turns;
     answers = record {
       bytes = h.going.answers.bytes ++ a.bytes;
       run = subst (λ (l : List Ask). Run serves before.handler l (h.going.answers.bytes ++ a.bytes) handler) (sym h.asks)
           (Run-append serves before.handler now.handler handler (heard h.going.hears) (map (ask_at terms.peer at) (frames new).messages) h.going.answers.bytes a.bytes h.going.answers.run a.run);
-      sent = Grows-more _ _ _ _ _ h.going.answers.sent (subst (Grows (taken now.sink) (taken sink)) a.added w);
+      sent = Grows-more _ _ _ _ _ h.going.answers.sent (subst (Grows (sink.told now.sink).taken (sink.told out).taken) a.added w);
     };
     base = b ∙ ap (λ (n : ℕ). base_by n at (frames new).messages) h.going.base ∙ sym (ap (λ (k : Connection). k.base) h.stands);
     unread = r ∙ sym (ap (λ (k : Connection). k.rest) h.stands);
     count = omega (arith, h.going.count, m, ap length h.asks, length-append (heard h.going.hears) (map (ask_at terms.peer at) (frames new).messages), length-map (frames new).messages (ask_at terms.peer at));
     fits = omega (arith, h.going.fits, h.fits, f);
+    calm = quiet ∙ h.going.calm;
   }
 
   -- the end of the source
-  pub ends_served : (now : Parts H S W C) (turns base : ℕ) (unread new : List ℕ) (count size : ℕ) (source : S) → Going now turns base unread count → turns < terms.reads
-      → Receives (left now.source) (left source) unread new size → size ≡ 0
-      → Ends serves skips left read_faults taken write_faults ticks terms before (record now { source = source }) (Ok count)
-  ends_served now turns base unread new count size source g l r none =
+  pub ends_served : (now : Parts H S W C) (turns base : ℕ) (unread new : List ℕ) (count size : ℕ) (s : S) → Going now turns base unread count → turns < terms.reads
+      → Receives source now.source s unread new size → size ≡ 0
+      → Ends serves skips source sink clock terms before (record now { source = s }) (Ok count)
+  ends_served now turns base unread new count size s g l r none =
       let no_piece : r.piece ≡ [] = none_of r.piece (r.size ∙ none) in
       record {
-        hears = Hears-same left ticks terms.peer terms.limit before.source now.source source before.clock now.clock g.hears (subst (Takes (left now.source) (left source)) no_piece r.taken);
+        source_heard = now.source;
+        hears = g.hears;
         within = omega (arith, g.turns, l);
-        end = at_end (left now.source) (left source) r.piece (r.size ∙ none) r.taken (subst (EndsAt (left now.source) (left source)) none r.end);
+        ended = subst (λ (p : List ℕ). source.reads now.source room (Ok p) s) no_piece r.made;
+        kept = Keeps-taken _ _ (subst (Takes (source.told now.source).left (source.told s).left) no_piece r.taken);
+        end = at_end (source.told now.source).left (source.told s).left r.piece (r.size ∙ none) r.taken (subst (EndsAt (source.told now.source).left (source.told s).left) none r.end);
         answers = g.answers;
         count = g.count;
+        source_calm = r.calm ∙ g.hears.calm;
+        sink_calm = g.calm;
       }
 
   -- all messages so far, whatever then wants memory
-  all_answered : (now : Parts H S W C) (asks : List Ask) → Answers serves before.handler asks now.handler (taken before.sink) (taken now.sink) → BreaksOff serves skips before.handler asks now.handler (taken before.sink) (taken now.sink)
+  all_answered : (now : Parts H S W C) (asks : List Ask) → Answers serves before.handler asks now.handler (sink.told before.sink).taken (sink.told now.sink).taken
+      → BreaksOff serves skips before.handler asks now.handler (sink.told before.sink).taken (sink.told now.sink).taken
   all_answered now asks a = record {
     first = asks;
     others = [];
@@ -144,36 +156,46 @@ module _ {H S W C : Type 0} (serves : H → Ask → Settled → H → Type 0) (s
     end = inl refl;
   }
 
-  -- a read that failed
-  pub ends_reading : (now : Parts H S W C) (turns base : ℕ) (unread : List ℕ) (count : ℕ) (source : S) (fault : ServeFault) → Going now turns base unread count → turns < terms.reads
-      → Keeps (left now.source) (left source) → IsReadFault fault → read_faults before.source ≤ read_faults now.source → (fault ≡ Read → Rose (read_faults now.source) (read_faults source))
-      → Ends serves skips left read_faults taken write_faults ticks terms before (record now { source = source }) (Err fault)
-  ends_reading now turns base unread count source Read g l k i s r = record {
-    hears = Hears-same left ticks terms.peer terms.limit before.source now.source source before.clock now.clock g.hears (Takes-kept (left now.source) (left source) k);
+  -- a read that gave nothing
+  pub ends_reading : (now : Parts H S W C) (turns base : ℕ) (unread : List ℕ) (count : ℕ) (s : S) (fault : ServeFault) → Going now turns base unread count → turns < terms.reads
+      → Keeps (source.told now.source).left (source.told s).left → ReceivesNot source now.source s fault
+      → Ends serves skips source sink clock terms before (record now { source = s }) (Err fault)
+  ends_reading now turns base unread count s Read g l k r = record {
+    source_heard = now.source;
+    hears = g.hears;
     within = omega (arith, g.turns, l);
+    failed = r.0;
+    kept = k;
     answers = g.answers;
-    rose = rose_on _ _ _ s (r refl);
+    rose = rose_on _ _ _ g.hears.calm r.1;
+    sink_calm = g.calm;
   }
-  ends_reading now turns base unread count source OutOfMemory g l k i s r = record {
-    hears = Hears-same left ticks terms.peer terms.limit before.source now.source source before.clock now.clock g.hears (Takes-kept (left now.source) (left source) k);
+  ends_reading now turns base unread count s OutOfMemory g l k r = record {
+    source_heard = now.source;
+    hears = g.hears;
     within = omega (arith, g.turns, l);
+    refused = r.0;
+    kept = k;
     answers = all_answered now (heard g.hears) g.answers;
+    source_calm = r.1 ∙ g.hears.calm;
+    sink_calm = g.calm;
   }
-  ends_reading now turns base unread count source Write g l k i s r = absurd i
-  ends_reading now turns base unread count source (Turns n) g l k i s r = absurd i
-  ends_reading now turns base unread count source (TimedOut since limit at) g l k i s r = absurd i
+  ends_reading now turns base unread count s Write g l k r = absurd r
+  ends_reading now turns base unread count s (Turns n) g l k r = absurd r
+  ends_reading now turns base unread count s (TimedOut since limit at) g l k r = absurd r
 
   -- a read that came late
-  pub ends_late : (now : Parts H S W C) (turns base : ℕ) (unread new : List ℕ) (count size : ℕ) (source : S) (clock : C) (at : ℕ) → Going now turns base unread count → turns < terms.reads
-      → Receives (left now.source) (left source) unread new size → size ≢ 0 → ticks now.clock at clock → is_within terms.limit base at ≡ false
-      → Ends serves skips left read_faults taken write_faults ticks terms before (record now { source = source; clock = clock }) (Err (TimedOut base terms.limit at))
-  ends_late now turns base unread new count size source clock at g l r some t late = record {
-    source = now.source;
-    clock = now.clock;
+  pub ends_late : (now : Parts H S W C) (turns base : ℕ) (unread new : List ℕ) (count size : ℕ) (s : S) (c : C) (at : ℕ) → Going now turns base unread count → turns < terms.reads
+      → Receives source now.source s unread new size → size ≢ 0 → clock.ticks now.clock at c → is_within terms.limit base at ≡ false
+      → Ends serves skips source sink clock terms before (record now { source = s; clock = c }) (Err (TimedOut base terms.limit at))
+  ends_late now turns base unread new count size s c at g l r some t late = record {
+    source_heard = now.source;
+    clock_ticked = now.clock;
     hears = g.hears;
     within = omega (arith, g.turns, l);
     piece = r.piece;
     is_piece = is_some_piece r.piece size r.size r.most some;
+    made = r.made;
     dropped = r.taken;
     reading = t;
     since_is = g.base;
@@ -181,15 +203,20 @@ module _ {H S W C : Type 0} (serves : H → Ask → Settled → H → Type 0) (s
     limited = (late_by terms.limit base at late).0;
     late = (late_by terms.limit base at late).1;
     answers = g.answers;
+    source_calm = r.calm ∙ g.hears.calm;
+    sink_calm = g.calm;
   }
 
   -- memory ran out among the messages of a read
-  pub ends_answering : (now : Parts H S W C) (turns base : ℕ) (unread : List ℕ) (count : ℕ) (source : S) (clock : C) (at : ℕ) (new : List ℕ) (handler : H)
-      → Heard now turns base unread count source clock at new → turns < terms.reads → Halts serves skips now.handler (map (ask_at terms.peer at) (frames new).messages) handler
-      → Ends serves skips left read_faults taken write_faults ticks terms before (record { handler = handler; source = source; sink = now.sink; clock = clock }) (Err OutOfMemory)
-  ends_answering now turns base unread count source clock at new handler h l a = record {
+  pub ends_answering : (now : Parts H S W C) (turns base : ℕ) (unread : List ℕ) (count : ℕ) (s : S) (c : C) (at : ℕ) (new : List ℕ) (handler : H)
+      → Heard now turns base unread count s c at new → turns < terms.reads → Halts serves skips now.handler (map (ask_at terms.peer at) (frames new).messages) handler
+      → Ends serves skips source sink clock terms before (record { handler = handler; source = s; sink = now.sink; clock = c }) (Err OutOfMemory)
+  ends_answering now turns base unread count s c at new handler h l a = record {
+    source_heard = s;
     hears = h.hears;
     within = omega (arith, h.turns, l);
+    refused = inl refl;
+    kept = Keeps-same _;
     answers = record {
       first = heard h.going.hears ++ a.first;
       others = a.others;
@@ -203,13 +230,16 @@ module _ {H S W C : Type 0} (serves : H → Ask → Settled → H → Type 0) (s
       };
       end = a.end;
     };
+    source_calm = h.hears.calm;
+    sink_calm = h.going.calm;
   }
 
   -- a write that failed
-  partly : (now : Parts H S W C) (turns base : ℕ) (unread : List ℕ) (count : ℕ) (source : S) (clock : C) (at : ℕ) (new : List ℕ) (handler : H) (sink : W) (replies : List ℕ)
-      → (h : Heard now turns base unread count source clock at new) → Adds serves now.handler (map (ask_at terms.peer at) (frames new).messages) handler [] replies → (rest : List ℕ) → GrowsByPrefix (taken now.sink) (taken sink) replies rest
-      → AnswersPartly serves before.handler (heard h.hears) handler (taken before.sink) (taken sink)
-  partly now turns base unread count source clock at new handler sink replies h a rest w = record {
+  partly : (now : Parts H S W C) (turns base : ℕ) (unread : List ℕ) (count : ℕ) (s : S) (c : C) (at : ℕ) (new : List ℕ) (handler : H) (out : W) (replies : List ℕ)
+      → (h : Heard now turns base unread count s c at new) → Adds serves now.handler (map (ask_at terms.peer at) (frames new).messages) handler [] replies
+      → (rest : List ℕ) → GrowsByPrefix (sink.told now.sink).taken (sink.told out).taken replies rest
+      → AnswersPartly serves before.handler (heard h.hears) handler (sink.told before.sink).taken (sink.told out).taken
+  partly now turns base unread count s c at new handler out replies h a rest w = record {
     bytes = h.going.answers.bytes ++ replies;
     run = subst (λ (l : List Ask). Run serves before.handler l (h.going.answers.bytes ++ replies) handler) (sym h.asks)
         (Run-append serves before.handler now.handler handler (heard h.going.hears) (map (ask_at terms.peer at) (frames new).messages) h.going.answers.bytes replies h.going.answers.run
@@ -218,34 +248,40 @@ module _ {H S W C : Type 0} (serves : H → Ask → Settled → H → Type 0) (s
     sent = Grows-GrowsByPrefix _ _ _ _ _ _ h.going.answers.sent w;
   }
 
-  pub ends_writing : (now : Parts H S W C) (turns base : ℕ) (unread : List ℕ) (count : ℕ) (source : S) (clock : C) (at : ℕ) (new : List ℕ) (handler : H) (sink : W) (replies : List ℕ) (fault : ServeFault)
-      → Heard now turns base unread count source clock at new → turns < terms.reads → Adds serves now.handler (map (ask_at terms.peer at) (frames new).messages) handler [] replies
-      → ((rest : List ℕ) × GrowsByPrefix (taken now.sink) (taken sink) replies rest)
-      → IsWriteFault fault → write_faults before.sink ≤ write_faults now.sink → (fault ≡ Write → Rose (write_faults now.sink) (write_faults sink))
-      → Ends serves skips left read_faults taken write_faults ticks terms before (record { handler = handler; source = source; sink = sink; clock = clock }) (Err fault)
-  ends_writing now turns base unread count source clock at new handler sink replies Write h l a w i s r = record {
+  pub ends_writing : (now : Parts H S W C) (turns base : ℕ) (unread : List ℕ) (count : ℕ) (s : S) (c : C) (at : ℕ) (new : List ℕ) (handler : H) (out : W) (replies : List ℕ) (fault : ServeFault)
+      → Heard now turns base unread count s c at new → turns < terms.reads → Adds serves now.handler (map (ask_at terms.peer at) (frames new).messages) handler [] replies
+      → ((rest : List ℕ) × GrowsByPrefix (sink.told now.sink).taken (sink.told out).taken replies rest)
+      → CountsWriting (sink.told now.sink).faults (sink.told out).faults (Err fault)
+      → Ends serves skips source sink clock terms before (record { handler = handler; source = s; sink = out; clock = c }) (Err fault)
+  ends_writing now turns base unread count s c at new handler out replies Write h l a w r = record {
     hears = h.hears;
     within = omega (arith, h.turns, l);
-    answers = partly now turns base unread count source clock at new handler sink replies h a w.0 w.1;
-    rose = rose_on _ _ _ s (r refl);
+    answers = partly now turns base unread count s c at new handler out replies h a w.0 w.1;
+    rose = rose_on _ _ _ h.going.calm r;
+    source_calm = h.hears.calm;
   }
-  ends_writing now turns base unread count source clock at new handler sink replies OutOfMemory h l a w i s r = record {
+  ends_writing now turns base unread count s c at new handler out replies OutOfMemory h l a w r = record {
+    source_heard = s;
     hears = h.hears;
     within = omega (arith, h.turns, l);
+    refused = inl refl;
+    kept = Keeps-same _;
     answers = record {
       first = heard h.hears;
       others = [];
       parts = sym (append-nil (heard h.hears));
       last = handler;
-      answered = partly now turns base unread count source clock at new handler sink replies h a w.0 w.1;
+      answered = partly now turns base unread count s c at new handler out replies h a w.0 w.1;
       end = inl refl;
     };
+    source_calm = h.hears.calm;
+    sink_calm = r ∙ h.going.calm;
   }
-  ends_writing now turns base unread count source clock at new handler sink replies Read h l a w i s r = absurd i
-  ends_writing now turns base unread count source clock at new handler sink replies (Turns n) h l a w i s r = absurd i
-  ends_writing now turns base unread count source clock at new handler sink replies (TimedOut since limit at2) h l a w i s r = absurd i
+  ends_writing now turns base unread count s c at new handler out replies Read h l a w r = absurd r
+  ends_writing now turns base unread count s c at new handler out replies (Turns n) h l a w r = absurd r
+  ends_writing now turns base unread count s c at new handler out replies (TimedOut since limit at2) h l a w r = absurd r
 
   -- as many reads as there may be
   pub ends_cut_off : (now : Parts H S W C) (turns base : ℕ) (unread : List ℕ) (count : ℕ) → Going now turns base unread count → turns ≡ terms.reads
-      → Ends serves skips left read_faults taken write_faults ticks terms before now (Err (Turns terms.reads))
-  ends_cut_off now turns base unread count g all = record { hears = g.hears; all = g.turns ∙ all; answers = g.answers; count = refl }
+      → Ends serves skips source sink clock terms before now (Err (Turns terms.reads))
+  ends_cut_off now turns base unread count g all = record { hears = g.hears; all = g.turns ∙ all; answers = g.answers; count = refl; source_calm = g.hears.calm; sink_calm = g.calm }

@@ -1,5 +1,5 @@
 -- One read more.
-use Rattle.std.proofs.Common.{◌≡◌, ◌≤◌, ◌<◌, ◌∙◌, ℕ, List, [], ◌∷◌, ◌++◌, length, map, zero, suc, true, cond, Option, Some, None, refl, sym, ap, subst, arith, length-append}
+use Rattle.std.proofs.Common.{◌≡◌, ◌≤◌, ◌<◌, ◌∙◌, ℕ, List, [], ◌∷◌, ◌++◌, length, map, zero, suc, true, cond, Option, Some, None, Ok, refl, sym, ap, subst, arith, length-append}
 use Rattle.std.proofs.lemmas.List.{append-nil, map-append}
 use Rattle.std.proofs.lemmas.Grind.{flat_map-append}
 use Rattle.std.proofs.lemmas.Bool.{cond-true}
@@ -7,7 +7,8 @@ use Rattle.std.specs.List.{AllByRecursion}
 use Rattle.dns_io.specs.declared.peer.Peer.{Peer}
 use Rattle.dns_io.specs.declared.peer.Protocol.TheVariants.{Tcp}
 use Rattle.dns_book.specs.declared.ask.Ask.{Ask}
-use Rattle.dns_io.specs.Edge.{Takes}
+use Rattle.dns_io.specs.Told.{Takes}
+use Rattle.dns_edges.specs.Edges.{SourceOf, ClockOf}
 use Rattle.dns_io.proofs.ToldContents.{Told-same, Takes-more}
 use Rattle.dns_frames.specs.Frames.{Cut, frames, frames_by}
 use Rattle.dns_frames.proofs.Cutting.{frames-more, frames-nil}
@@ -16,7 +17,7 @@ use Rattle.dns_server_core.specs.declared.connection.Connection.{Connection}
 use Rattle.dns_server_core.specs.Connections.{Arrival, Piece, base, completed, in_time, is_within, left_by, moment_at, total}
 use Rattle.dns_server_core.specs.Steps.{fed_by}
 use Rattle.dns_server_core.proofs.Pieces.{base-last, completed-push, frames-last, heard_by, in_time-last, in_time-push, moment_at-last, moment_at-push, total-push, whole-push}
-use Rattle.dns_requests.specs.Arrivals.{Hears, IsPiece, Readings, ask_at, asks_of, asks_through, bytes_of, opened}
+use Rattle.dns_requests.specs.Arrivals.{Hears, IsPiece, Listens, ask_at, asks_of, asks_through, bytes_of, opened, room}
 
 pub one_longer : (ps : List Arrival) (a : Arrival) → length (ps ++ a ∷ []) ≡ suc (length ps)
 one_longer ps a = omega (arith, length-append ps (a ∷ []))
@@ -105,45 +106,43 @@ messages_more peer limit began ps a t w h =
     ∙ sym (ap (λ (k : Cut). k.messages) (frames-more (bytes_of ps) a.piece))
     ∙ ap (λ (l : List ℕ). (frames l).messages) (bytes_of-push ps a)
 
-module _ {S C : Type 0} (left : S → Option (List ℕ)) (ticks : C → ℕ → C → Type 0) where
-  pub Readings-more : (a b c : C) (rs : List ℕ) (r : ℕ) → Readings ticks a rs b → ticks b r c → Readings ticks a (rs ++ r ∷ []) c
-  Readings-more a b c [] r e t = let P : C → Type 0 = λ x. ticks x r c in (c, subst P e t, refl)
-  Readings-more a b c (x ∷ rs) r h t = (h.0, h.1, Readings-more h.0 b c rs r h.2 t)
+module _ {S C : Type 0} (source : SourceOf S) (clock : ClockOf C) where
+  pub Listens-more : (s0 s1 s2 : S) (c0 c1 c2 : C) (ps : List Arrival) (a : Arrival) → Listens source clock s0 c0 ps s1 c1 → source.reads s1 room (Ok a.piece) s2 → clock.ticks c1 a.at c2
+      → Listens source clock s0 c0 (ps ++ a ∷ []) s2 c2
+  Listens-more s0 s1 s2 c0 c1 c2 [] a h r t =
+      let P : S → Type 0 = λ x. source.reads x room (Ok a.piece) s2 in
+      let Q : C → Type 0 = λ x. clock.ticks x a.at c2 in
+      (s2, c2, subst P h.0 r, subst Q h.1 t, (refl, refl))
+  Listens-more s0 s1 s2 c0 c1 c2 (x ∷ ps) a h r t = (h.0, h.1, h.2, h.3, Listens-more h.0 s1 s2 h.1 c1 c2 ps a h.4 r t)
 
-  abbrev pub Hears-none : (peer : Peer) (limit : ℕ) (s : S) (a b : C) (began : ℕ) → ticks a began b → Hears left ticks peer limit s a s b
+  abbrev pub Hears-none : (peer : Peer) (limit : ℕ) (s : S) (a b : C) (began : ℕ) → clock.ticks a began b → Hears source clock peer limit s a s b
   Hears-none peer limit s a b began t = record {
     began = began;
     arrivals = [];
     pieces = tt;
     in_time = in_time-none (opened peer limit began);
-    taken = Takes-none (left s);
-    readings = (b, t, refl);
+    started = b;
+    first = t;
+    made = (refl, refl);
+    taken = Takes-none (source.told s).left;
+    calm = refl;
     messages = messages_none (opened peer limit began);
   }
 
-  abbrev pub Hears-more : (peer : Peer) (limit : ℕ) (s0 s1 s2 : S) (c0 c1 c2 : C) (at : ℕ) (piece : List ℕ) → (h : Hears left ticks peer limit s0 c0 s1 c1) → IsPiece piece
-      → is_within limit (base (opened peer limit h.began) h.arrivals (length h.arrivals)) at ≡ true → Takes (left s1) (left s2) piece → ticks c1 at c2 → Hears left ticks peer limit s0 c0 s2 c2
-  Hears-more peer limit s0 s1 s2 c0 c1 c2 at piece h p w t r = record {
+  abbrev pub Hears-more : (peer : Peer) (limit : ℕ) (s0 s1 s2 : S) (c0 c1 c2 : C) (at : ℕ) (piece : List ℕ) → (h : Hears source clock peer limit s0 c0 s1 c1) → IsPiece piece
+      → is_within limit (base (opened peer limit h.began) h.arrivals (length h.arrivals)) at ≡ true → source.reads s1 room (Ok piece) s2 → Takes (source.told s1).left (source.told s2).left piece
+      → (source.told s2).faults ≡ (source.told s1).faults → clock.ticks c1 at c2 → Hears source clock peer limit s0 c0 s2 c2
+  Hears-more peer limit s0 s1 s2 c0 c1 c2 at piece h p w m t f r = record {
     began = h.began;
     arrivals = h.arrivals ++ record { at = at; piece = piece } ∷ [];
     pieces = all_more (λ (a : Arrival). IsPiece a.piece) h.arrivals (record { at = at; piece = piece }) h.pieces p;
     in_time = in_time-more (opened peer limit h.began) h.arrivals (record { at = at; piece = piece }) h.in_time w;
-    taken = subst (Takes (left s0) (left s2)) (bytes_of-push h.arrivals (record { at = at; piece = piece })) (Takes-more _ _ _ _ _ h.taken t);
-    readings = subst (λ (l : List ℕ). Readings ticks c0 (h.began ∷ l) c2) (sym (map-append (λ (a : Arrival). a.at) h.arrivals (record { at = at; piece = piece } ∷ [])))
-        (Readings-more c0 c1 c2 (h.began ∷ map (λ (a : Arrival). a.at) h.arrivals) at h.readings r);
+    started = h.started;
+    first = h.first;
+    made = Listens-more s0 s1 s2 h.started c1 c2 h.arrivals (record { at = at; piece = piece }) h.made m r;
+    taken = subst (Takes (source.told s0).left (source.told s2).left) (bytes_of-push h.arrivals (record { at = at; piece = piece })) (Takes-more _ _ _ _ _ h.taken t);
+    calm = f ∙ h.calm;
     messages = messages_more peer limit h.began h.arrivals (record { at = at; piece = piece }) h.in_time w h.messages;
-  }
-
-  -- the source moved on by nothing
-  abbrev pub Hears-same : (peer : Peer) (limit : ℕ) (s0 s1 s2 : S) (c0 c1 : C) → (h : Hears left ticks peer limit s0 c0 s1 c1) → Takes (left s1) (left s2) [] → Hears left ticks peer limit s0 c0 s2 c1
-  Hears-same peer limit s0 s1 s2 c0 c1 h t = record {
-    began = h.began;
-    arrivals = h.arrivals;
-    pieces = h.pieces;
-    in_time = h.in_time;
-    taken = subst (Takes (left s0) (left s2)) (append-nil (bytes_of h.arrivals)) (Takes-more _ _ _ _ _ h.taken t);
-    readings = h.readings;
-    messages = h.messages;
   }
 
 -- an ask of the connection stays one

@@ -1,16 +1,15 @@
 -- Written replies.
-use Rattle.std.proofs.Common.{◌≡◌, ◌≤◌, ◌∙◌, ℕ, List, length, set, refl, sym, ap, subst, inr, Option, Err, IsErrOf, arith}
-use Rattle.dns_io.specs.Edge.{Rose}
-use Rattle.dns_io.specs.declared.edge.IoFault.{IoFault}
-use Rattle.dns_io.specs.declared.edge.IoFault.TheVariants.{Failed, OutOfMemory}
+use Rattle.std.proofs.Common.{◌≡◌, ◌≤◌, ◌∙◌, ℕ, List, length, set, refl, sym, ap, subst, inr, Option, Err, arith}
+use Rattle.dns_edges.specs.Edges.{CountsBy}
+use Rattle.dns_io.specs.declared.io_fault.IoFault.{IoFault}
+use Rattle.dns_io.specs.declared.io_fault.IoFault.TheVariants.{Failed, OutOfMemory}
 use Rattle.dns_io.specs.declared.peer.Protocol.{Protocol}
 use Rattle.dns_wire.specs.declared.reply.Reply.{Reply}
 use Rattle.dns_wire.specs.Written.{Written, reply_bytes}
 use Rattle.dns_transport.specs.Faults.{of_io}
 use Rattle.dns_transport.specs.declared.error.NetError.{NetError}
-use Rattle.dns_transport.specs.declared.error.NetError.TheVariants as net
 use Rattle.dns_requests.specs.declared.response_handle.ResponseInfo.{ResponseInfo}
-use Rattle.dns_requests.specs.Responses.{IsBegun, BreaksOff}
+use Rattle.dns_requests.specs.Responses.{IsBegun, BreaksOff, CountsSending}
 
 -- a written reply has a header
 long : (r : Reply) (n : ℕ) → 12 ≤ length (reply_bytes r n)
@@ -45,6 +44,6 @@ ends_by Failed error e protocol reply limit before now h = rw e h
 ends_by OutOfMemory error e protocol reply limit before now h = rw e (inr h)
 
 -- its cause
-pub failed_by : (fault : IoFault) (error : NetError) → error ≡ of_io fault → (before now : ℕ) → (IsErrOf {T = Unit {0}} (Err fault) Failed → Rose before now) → IsErrOf {T = ResponseInfo} (Err error) net.Io → Rose before now
-failed_by Failed error e before now h i = h refl
-failed_by OutOfMemory error e before now h i = absurd cc
+pub counts_by : (fault : IoFault) (error : NetError) → error ≡ of_io fault → (before now : ℕ) → CountsBy {T = Unit {0}} before now (Err fault) → CountsSending {T = ResponseInfo} before now (Err error)
+counts_by Failed error e before now h = rw e h
+counts_by OutOfMemory error e before now h = rw e h

@@ -1,12 +1,16 @@
 -- What a connection brings in, read by read (RFC 1035 4.2.2, RFC 7766 6.2, 8).
-use Rattle.std.specs.Prelude.{◌≡◌, ℕ, ◌<◌, ◌≤◌, zero, suc, true, List, [], ◌∷◌, ◌++◌, length, map, Option}
+use Rattle.std.specs.Prelude.{◌≡◌, ◌⊎◌, ℕ, ◌<◌, ◌≤◌, zero, suc, true, List, [], ◌∷◌, ◌++◌, length, map, Ok, Err}
 use Rattle.std.specs.List.{AllByRecursion, flat_map}
 use Rattle.dns_io.specs.declared.peer.Peer.{Peer}
 use Rattle.dns_io.specs.declared.peer.Protocol.TheVariants.{Tcp}
-use Rattle.dns_io.specs.Edge.{Takes, EndsAt}
+use Rattle.dns_io.specs.declared.io_fault.IoFault.TheVariants as io
+use Rattle.dns_io.specs.Told.{Takes, EndsAt, Rose}
+use Rattle.dns_edges.specs.Edges.{SourceOf, ClockOf}
 use Rattle.dns_book.specs.declared.ask.Ask.{Ask}
 use Rattle.dns_frames.specs.Frames.{frames}
 use Rattle.dns_server_core.specs.declared.connection.Connection.{Connection}
+use Rattle.dns_requests.specs.declared.serve_fault.ServeFault.{ServeFault}
+use Rattle.dns_requests.specs.declared.serve_fault.ServeFault.TheVariants.{Read, OutOfMemory}
 use Rattle.dns_server_core.specs.Connections.{Arrival, completed, in_time, moment_at}
 
 -- a connection at its first reading, from which its time runs: nothing of it is unread
@@ -30,40 +34,54 @@ asks_of c arrivals = asks_through c arrivals (length arrivals)
 abbrev pub bytes_of : List Arrival → List ℕ
 bytes_of arrivals = flat_map (λ a. a.piece) arrivals
 
+-- for how many bytes a read has room
+abbrev pub room : ℕ
+room = 4096
+
 -- a read gives at least one byte, and at most as many as it has room for
 abbrev pub IsPiece : List ℕ → Type 0
-IsPiece piece = (0 < length piece) × (length piece ≤ 4096)
+IsPiece piece = (0 < length piece) × (length piece ≤ room)
 
--- a reading, and the clock after it
-abbrev pub Ticks : {C : Type 0} → (C → ℕ) → C → ℕ → C → Type 0
-Ticks last before reading after = reading ≡ last after
+-- reads, each with room for 4,096 bytes, which gave these pieces, and behind each the reading of the clock at which it came: these were
+-- made, in this order, and no other
+abbrev pub Listens : {S C : Type 0} → SourceOf S → ClockOf C → S → C → List Arrival → S → C → Type 0
+Listens source clock s c [] heard ticked = (heard ≡ s) × (ticked ≡ c)
+Listens {S} {C} source clock s c (a ∷ later) heard ticked =
+    (next : S) × (read : C) × source.reads s room (Ok a.piece) next × clock.ticks c a.at read × Listens source clock next read later heard ticked
 
--- readings of a clock, one after another
-abbrev pub Readings : {C : Type 0} → (C → ℕ → C → Type 0) → C → List ℕ → C → Type 0
-Readings ticks before [] after = after ≡ before
-Readings {C} ticks before (reading ∷ readings) after = (between : C) × ticks before reading between × Readings ticks between readings after
-
--- what was read, each read in time: the first reading of the clock, and then the pieces, a reading behind each of them. However
--- they were cut, their messages are the frames of all bytes
-pub record Hears {S C : Type 0} (left : S → Option (List ℕ)) (ticks : C → ℕ → C → Type 0) (peer : Peer) (limit : ℕ) (source : S) (clock : C) (source_now : S) (clock_now : C) : Type 0 where
+-- what was read, each read in time: the first reading of the clock, and then the reads, a reading behind each of them. However
+-- their bytes were cut, the messages are the frames of all of them
+pub record Hears {S C : Type 0} (source : SourceOf S) (clock : ClockOf C) (peer : Peer) (limit : ℕ) (s : S) (c : C) (heard : S) (ticked : C) : Type 0 where
   pub began : ℕ
   pub arrivals : List Arrival
   pub pieces : AllByRecursion (λ a. IsPiece a.piece) arrivals
   pub in_time : in_time (opened peer limit began) arrivals (length arrivals) ≡ true
-  pub taken : Takes (left source) (left source_now) (bytes_of arrivals)
-  pub readings : Readings ticks clock (began ∷ map (λ a. a.at) arrivals) clock_now
+  pub started : C
+  pub first : clock.ticks c began started
+  pub made : Listens source clock s started arrivals heard ticked
+  pub taken : Takes (source.told s).left (source.told heard).left (bytes_of arrivals)
+  pub calm : (source.told heard).faults ≡ (source.told s).faults
   pub messages : map (λ a. a.bytes) (asks_of (opened peer limit began) arrivals) ≡ (frames (bytes_of arrivals)).messages
 
 -- the messages of what was read
-abbrev pub heard : {S C : Type 0} → {left : S → Option (List ℕ)} → {ticks : C → ℕ → C → Type 0} → {peer : Peer} → {limit : ℕ} → {source : S} → {clock : C} → {source_now : S} → {clock_now : C}
-    → Hears left ticks peer limit source clock source_now clock_now → List Ask
+abbrev pub heard : {S C : Type 0} → {source : SourceOf S} → {clock : ClockOf C} → {peer : Peer} → {limit : ℕ} → {s : S} → {c : C} → {source_now : S} → {clock_now : C}
+    → Hears source clock peer limit s c source_now clock_now → List Ask
 heard {peer = peer} {limit = limit} h = asks_of (opened peer limit h.began) h.arrivals
 
--- one read: these bytes were taken, none only at the end, and stand behind what was unread
-pub record Receives (left now : Option (List ℕ)) (unread new : List ℕ) (count : ℕ) : Type 0 where
+-- one read that was made: these bytes were taken, none only at the end, and stand behind what was unread
+pub record Receives {S : Type 0} (source : SourceOf S) (before after : S) (unread new : List ℕ) (count : ℕ) : Type 0 where
   pub piece : List ℕ
   pub size : length piece ≡ count
-  pub most : count ≤ 4096
-  pub taken : Takes left now piece
-  pub end : EndsAt left now count
+  pub most : count ≤ room
+  pub made : source.reads before room (Ok piece) after
+  pub taken : Takes (source.told before).left (source.told after).left piece
+  pub end : EndsAt (source.told before).left (source.told after).left count
+  pub calm : (source.told after).faults ≡ (source.told before).faults
   pub is : new ≡ unread ++ piece
+
+-- no bytes came: the read that was made failed, or found no memory, if one was made at all
+abbrev pub ReceivesNot : {S : Type 0} → SourceOf S → S → S → ServeFault → Type 0
+ReceivesNot source before after Read = source.reads before room (Err io.Failed) after × Rose (source.told before).faults (source.told after).faults
+ReceivesNot source before after OutOfMemory =
+    ((after ≡ before) ⊎ source.reads before room (Err io.OutOfMemory) after) × ((source.told after).faults ≡ (source.told before).faults)
+ReceivesNot source before after _ = ⊥

@@ -1,9 +1,10 @@
 -- Replies that are sent one by one.
-use Rattle.std.specs.Prelude.{◌≡◌, ◌⊎◌, ℕ, ◌≤◌, List, Option, Result, MatchResult, IsErrOf}
+use Rattle.std.specs.Prelude.{◌≡◌, ◌⊎◌, ℕ, ◌≤◌, List, Option, Result, Ok, Err, MatchResult}
 use Rattle.dns_io.specs.declared.peer.Peer.{Peer}
 use Rattle.dns_io.specs.declared.peer.Protocol.{Protocol}
 use Rattle.dns_io.specs.declared.peer.Protocol.TheVariants.{Udp, Tcp, Tls, Https, Quic, H3}
-use Rattle.dns_io.specs.Edge.{Keeps, Grows, GrowsByPrefix, Rose}
+use Rattle.dns_io.specs.Told.{Keeps, Grows, GrowsByPrefix, Rose}
+use Rattle.dns_edges.specs.Edges.{SinkOf}
 use Rattle.dns_wire.specs.declared.reply.Reply.{Reply}
 use Rattle.dns_wire.specs.Standing.{word_at}
 use Rattle.dns_wire.specs.Written.{Written}
@@ -58,12 +59,19 @@ BreaksOff protocol reply limit before now Io = IsBegun protocol reply limit befo
 BreaksOff protocol reply limit before now OutOfMemory = Keeps before now ⊎ IsBegun protocol reply limit before now
 BreaksOff protocol reply limit before now _ = ⊥
 
+-- a count of faults, by how sending ended: it rose where the sink failed, and stood still where it did not
+abbrev pub CountsSending : {T : Type 0} → ℕ → ℕ → Result T NetError → Type 0
+CountsSending before now (Ok info) = now ≡ before
+CountsSending before now (Err Io) = Rose before now
+CountsSending before now (Err OutOfMemory) = now ≡ before
+CountsSending before now (Err _) = ⊥
+
 -- what sending a reply does
-pub record SendsResponse {W : Type 0} (taken flushed : W → Option (List ℕ)) (faults : W → ℕ) (before : HandleOf W) (reply : Reply) (limit : ℕ) (result : Result ResponseInfo NetError) (after : HandleOf W) : Type 0 where
+pub record SendsResponse {W : Type 0} (sink : SinkOf W) (before : HandleOf W) (reply : Reply) (limit : ℕ) (result : Result ResponseInfo NetError) (after : HandleOf W) : Type 0 where
   pub same : after ≡ record before { sink = after.sink }
   pub sent : MatchResult result
-      (IsSent before.protocol reply limit (taken before.sink) (taken after.sink))
-      (BreaksOff before.protocol reply limit (taken before.sink) (taken after.sink))
-  pub unflushed : Keeps (flushed before.sink) (flushed after.sink)
-  pub later : faults before.sink ≤ faults after.sink
-  pub failed : IsErrOf result Io → Rose (faults before.sink) (faults after.sink)
+      (IsSent before.protocol reply limit (sink.told before.sink).taken (sink.told after.sink).taken)
+      (BreaksOff before.protocol reply limit (sink.told before.sink).taken (sink.told after.sink).taken)
+  pub unflushed : Keeps (sink.told before.sink).flushed (sink.told after.sink).flushed
+  pub later : (sink.told before.sink).faults ≤ (sink.told after.sink).faults
+  pub counts : CountsSending (sink.told before.sink).faults (sink.told after.sink).faults result

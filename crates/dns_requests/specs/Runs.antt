@@ -1,6 +1,6 @@
 -- Runs of a handler over the messages of a connection.
-use Rattle.std.specs.Prelude.{◌≡◌, ◌⊎◌, ℕ, List, [], ◌∷◌, ◌++◌, Option}
-use Rattle.dns_io.specs.Edge.{Grows, GrowsByPrefix}
+use Rattle.std.specs.Prelude.{◌≡◌, ◌⊎◌, ℕ, List, ◌++◌, Option}
+use Rattle.dns_io.specs.Told.{Grows, GrowsByPrefix}
 use Rattle.dns_book.specs.declared.ask.Ask.{Ask}
 use Rattle.dns_book.specs.declared.ask.Settled.{Settled}
 use Rattle.dns_server_core.specs.FrameRuns.{Run}

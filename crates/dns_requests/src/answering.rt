@@ -5,8 +5,8 @@ ghost use Rattle.dns_frames.specs.Frames.{frames};
 ghost use Rattle.dns_server_core.specs.FrameRuns.{Adds, Halts};
 
 use dns_book::{AccessControl, Ask};
+use dns_io::OutOfMemory;
 use dns_server_core::RequestHandler;
-use dns_wire::OutOfMemory;
 use std::alloc::Global;
 
 /// Settles the whole messages at the front of what a connection has unread, and lets them go. Each is handed over as `ask`, whose

@@ -1,17 +1,19 @@
 //! One connection, served until its source ends (RFC 7766 6.2, 8).
 
-ghost use Rattle.std.specs.Prelude.{◌≡◌, ◌≤◌, ◌<◌, ◌^◌, ◌+◌, ℕ, List, true, [], length, take, drop, IfOk, IfErr, OnOk, OnErr, IsErrOf};
-ghost use Rattle.dns_io.specs.Edge.{EndsAt, Grows, GrowsByPrefix, HasCause, Keeps, Rose, Takes};
+ghost use Rattle.std.specs.Prelude.{◌≡◌, ◌≤◌, ◌<◌, ◌^◌, ◌+◌, ℕ, List, true, [], length, take, drop, IfOk, IfErr, OnOk, OnErr};
+ghost use Rattle.dns_io.specs.Told.{EndsAt, Grows, GrowsByPrefix, Keeps, Takes};
+ghost use Rattle.dns_edges.specs.Edges.{HasCause, given_by};
 ghost use Rattle.dns_server_core.specs.Connections.{is_safe, is_within};
-ghost use Rattle.dns_requests.specs.Arrivals.{Receives, Ticks};
+ghost use Rattle.dns_requests.specs.Arrivals.{Receives, ReceivesNot};
 ghost use Rattle.dns_requests.specs.declared.serve_fault.ServeFault.TheVariants.{OutOfMemory as NoMemory};
-ghost use Rattle.dns_requests.specs.Ends.{Ends, IsReadFault, IsWriteFault};
+ghost use Rattle.dns_requests.specs.Ends.{Ends, CountsWriting};
 
 use crate::answering::answer;
 use crate::serve_fault::ServeFault;
 use dns_book::{AccessControl, Ask};
+use dns_edges::{Clock, Sink, Source, write_all};
+use dns_io::{IoFault, Octets, Peer, Protocol};
 use dns_server_core::RequestHandler;
-use dns_wire::{Clock, IoFault, Octets, Peer, Protocol, Sink, Source, write_all};
 use std::alloc::Global;
 
 /// How many bytes a read has room for.
@@ -37,12 +39,12 @@ pub fn serve_connection<T: RequestHandler, R: Source, W: Sink, C: Clock>(
     requires safe { is_safe peer ≡ true }
     requires limit { limit < 2 ^ 47 }
     requires reads { reads ≤ 2 ^ 32 }
-    ensures ends { Ends (T.serves access.now) T.skips R.left R.faults W.taken W.faults (Ticks C.last) (record { peer = peer; limit = limit; reads = reads })
+    ensures ends { Ends (T.serves access.now) T.skips R.source W.sink C.clock (record { peer = peer; limit = limit; reads = reads })
         (record { handler = handler.old; source = source.old; sink = sink.old; clock = clock.old })
         (record { handler = handler.new; source = source.new; sink = sink.new; clock = clock.new }) result }
-    ensures unflushed { Keeps (W.flushed sink.old) (W.flushed sink.new) }
-    ensures read_faults { R.faults source.old ≤ R.faults source.new }
-    ensures write_faults { W.faults sink.old ≤ W.faults sink.new }
+    ensures unflushed { Keeps (W.sink.told sink.old).flushed (W.sink.told sink.new).flushed }
+    ensures read_faults { (R.source.told source.old).faults ≤ (R.source.told source.new).faults }
+    ensures write_faults { (W.sink.told sink.old).faults ≤ (W.sink.told sink.new).faults }
 {
     let mut base = clock.now();
     let mut unread = Vec::new(alloc);
@@ -79,11 +81,10 @@ pub fn serve_connection<T: RequestHandler, R: Source, W: Sink, C: Clock>(
 
 /// Reads once, into the room behind what is unread.
 fn receive<R: Source>(source: &mut R, unread: &mut Vec<u8>) -> Result<usize, ServeFault>
-    ensures ok { IfOk result (Receives (R.left source.old) (R.left source.new) unread.old.items unread.new.items) }
-    ensures err { OnErr result (Keeps (R.left source.old) (R.left source.new)) }
-    ensures kind { IfErr result IsReadFault }
-    ensures later { R.faults source.old ≤ R.faults source.new }
-    ensures failed { IsErrOf result ServeFault.Read → Rose (R.faults source.old) (R.faults source.new) }
+    ensures ok { IfOk result (Receives R.source source.old source.new unread.old.items unread.new.items) }
+    ensures err { IfErr result (ReceivesNot R.source source.old source.new) }
+    ensures kept { OnErr result (Keeps (R.source.told source.old).left (R.source.told source.new).left) }
+    ensures later { (R.source.told source.old).faults ≤ (R.source.told source.new).faults }
 {
     let start = unread.len();
     make_room(unread)?;
@@ -115,10 +116,11 @@ fn read_behind<R: Source>(source: &mut R, room: &mut [u8], start: usize) -> Resu
     requires { start < length room.old }
     ensures before { take start room.new ≡ take start room.old }
     ensures count { IfOk result (λ count. start + count ≤ length room.new) }
-    ensures given { IfOk result (λ count. Takes (R.left source.old) (R.left source.new) (take count (drop start room.new))) }
-    ensures end { IfOk result (λ count. EndsAt (R.left source.old) (R.left source.new) count) }
-    ensures kept { OnErr result (Keeps (R.left source.old) (R.left source.new)) }
-    ensures cause { HasCause (R.faults source.old) (R.faults source.new) result }
+    ensures given { IfOk result (λ count. Takes (R.source.told source.old).left (R.source.told source.new).left (take count (drop start room.new))) }
+    ensures end { IfOk result (λ count. EndsAt (R.source.told source.old).left (R.source.told source.new).left count) }
+    ensures kept { OnErr result (Keeps (R.source.told source.old).left (R.source.told source.new).left) }
+    ensures made { R.source.reads source.old (length (drop start room.old)) (given_by (drop start room.new) result) source.new }
+    ensures cause { HasCause (R.source.told source.old).faults (R.source.told source.new).faults result }
 {
     source.read(&mut room[start..])
 }
@@ -140,13 +142,12 @@ fn base_behind(base: u64, at: u64, messages: u64) -> u64
 
 /// Writes the bytes of replies, and lets them go.
 fn send<W: Sink>(sink: &mut W, replies: &mut Vec<u8>) -> Result<(), ServeFault>
-    ensures ok { OnOk result (Grows (W.taken sink.old) (W.taken sink.new) replies.old.items) }
+    ensures ok { OnOk result (Grows (W.sink.told sink.old).taken (W.sink.told sink.new).taken replies.old.items) }
     ensures sent { OnOk result (replies.new.items ≡ []) }
-    ensures err { OnErr result ((rest : List ℕ) × GrowsByPrefix (W.taken sink.old) (W.taken sink.new) replies.old.items rest) }
-    ensures kind { IfErr result IsWriteFault }
-    ensures unflushed { Keeps (W.flushed sink.old) (W.flushed sink.new) }
-    ensures later { W.faults sink.old ≤ W.faults sink.new }
-    ensures failed { IsErrOf result ServeFault.Write → Rose (W.faults sink.old) (W.faults sink.new) }
+    ensures err { OnErr result ((rest : List ℕ) × GrowsByPrefix (W.sink.told sink.old).taken (W.sink.told sink.new).taken replies.old.items rest) }
+    ensures unflushed { Keeps (W.sink.told sink.old).flushed (W.sink.told sink.new).flushed }
+    ensures later { (W.sink.told sink.old).faults ≤ (W.sink.told sink.new).faults }
+    ensures counts { CountsWriting (W.sink.told sink.old).faults (W.sink.told sink.new).faults result }
 {
     match write_all(sink, replies.as_slice()) {
         Ok(()) => {

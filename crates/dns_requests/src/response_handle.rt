@@ -1,14 +1,16 @@
 //! Replies that are sent one by one.
 
-ghost use Rattle.std.specs.Prelude.{◌≡◌, ◌+◌, ◌≤◌, length, set, IfOk, IfErr, IsErrOf};
-ghost use Rattle.dns_io.specs.Edge.{Keeps, Rose};
+ghost use Rattle.std.specs.Prelude.{◌≡◌, ◌+◌, ◌≤◌, length, set, IfOk, IfErr};
+ghost use Rattle.dns_io.specs.Told.{Keeps};
 ghost use Rattle.dns_wire.specs.Standing.{word_at};
 ghost use Rattle.dns_wire.specs.Written.{Written};
-ghost use Rattle.dns_requests.specs.Responses.{BreaksOff, IsSent, info_of, sent_as, sent_reply};
+ghost use Rattle.dns_requests.specs.Responses.{BreaksOff, CountsSending, IsSent, info_of, sent_as, sent_reply};
 
 use dns_book::ReplyBytes;
+use dns_edges::{Sink, write_all};
+use dns_io::{Octets, OutOfMemory, Peer, Protocol};
 use dns_transport::NetError;
-use dns_wire::{Octets, OutOfMemory, Peer, Protocol, Reply, Sink, write_all};
+use dns_wire::Reply;
 use std::alloc::Global;
 use std::marker::Model;
 
@@ -98,7 +100,7 @@ impl<W> ResponseHandle<W> {
 impl<W: Sink> ResponseHandler for ResponseHandle<W> {
     ghost use Rattle.dns_requests.specs.Responses.{SendsResponse};
 
-    ghost sends = { SendsResponse W.taken W.flushed W.faults };
+    ghost sends = { SendsResponse W.sink };
 
     fn send_response(
         &mut self,
@@ -119,11 +121,11 @@ fn send_to<W: Sink>(
     limit: u16,
 ) -> Result<ResponseInfo, NetError>
     requires { 512 ≤ limit }
-    ensures ok { IfOk result (IsSent protocol reply.now limit (W.taken sink.old) (W.taken sink.new)) }
-    ensures err { IfErr result (BreaksOff protocol reply.now limit (W.taken sink.old) (W.taken sink.new)) }
-    ensures unflushed { Keeps (W.flushed sink.old) (W.flushed sink.new) }
-    ensures later { W.faults sink.old ≤ W.faults sink.new }
-    ensures failed { IsErrOf result NetError.Io → Rose (W.faults sink.old) (W.faults sink.new) }
+    ensures ok { IfOk result (IsSent protocol reply.now limit (W.sink.told sink.old).taken (W.sink.told sink.new).taken) }
+    ensures err { IfErr result (BreaksOff protocol reply.now limit (W.sink.told sink.old).taken (W.sink.told sink.new).taken) }
+    ensures unflushed { Keeps (W.sink.told sink.old).flushed (W.sink.told sink.new).flushed }
+    ensures later { (W.sink.told sink.old).faults ≤ (W.sink.told sink.new).faults }
+    ensures counts { CountsSending (W.sink.told sink.old).faults (W.sink.told sink.new).faults result }
 {
     let bytes = encode(alloc, protocol, reply, limit)?;
     let info = info_of(reply.code, bytes.as_slice());

@@ -3,7 +3,7 @@
 ghost use Rattle.std.specs.Prelude.{◌≡◌};
 ghost use Rattle.dns_requests.specs.declared.serve_fault.ServeFault.TheVariants.{OutOfMemory as NoMemory};
 
-use dns_wire::OutOfMemory;
+use dns_io::OutOfMemory;
 use thiserror::Error;
 
 /// Why serving a connection ended before its source did.

@@ -1,10 +1,11 @@
 -- What the socket in memory does at each call.
-use Rattle.std.specs.Prelude.{◌≡◌, ℕ, List, [], ◌∷◌, ◌++◌, length, Result, Err, MatchBool, MatchResult}
-use Rattle.dns_io.specs.Edge.{one_more}
-use Rattle.dns_io.specs.Memory.{next_fails}
-use Rattle.dns_io.specs.declared.edge.IoFault.{IoFault}
-use Rattle.dns_io.specs.declared.edge.IoFault.TheVariants.{Failed, OutOfMemory}
+use Rattle.std.specs.Prelude.{◌≡◌, ℕ, List, [], ◌∷◌, ◌++◌, length, Some, Result, Err, MatchBool, MatchResult}
+use Rattle.dns_io.specs.Told.{one_more}
+use Rattle.dns_edges.specs.Memory.{next_fails}
+use Rattle.dns_io.specs.declared.io_fault.IoFault.{IoFault}
+use Rattle.dns_io.specs.declared.io_fault.IoFault.TheVariants.{Failed, OutOfMemory}
 use Rattle.dns_io.specs.declared.peer.Peer.{Peer}
+use Rattle.dns_runtime.specs.Datagrams.{SocketTold}
 
 -- a socket in memory: the datagrams left, those that were sent, the numbers of the calls that fail, how many calls there
 -- were, and how many of them failed
@@ -14,6 +15,10 @@ pub record SocketState : Type 0 where
   pub failing : List ℕ
   pub calls : ℕ
   pub faults : ℕ
+
+-- what it tells
+abbrev pub socket_told : SocketState → SocketTold
+socket_told s = record { left = Some s.left; sent = Some s.sent; faults = s.faults }
 
 -- the socket after a call
 abbrev pub called : SocketState → SocketState

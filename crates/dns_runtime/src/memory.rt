@@ -1,10 +1,9 @@
 //! A runtime in memory, for tests: the time that it was made with, handles that keep the last task, and sockets and
 //! connections that were handed to it. Its calls fail whose numbers it was made with.
 
-ghost use Rattle.std.specs.Prelude.{◌≡◌, ◌≤◌, ◌<◌, ◌++◌, ◌∷◌, ℕ, [], Some, None, length, take, IfOk, OnOk, OnErr, IsErrOf};
-ghost use Rattle.dns_io.specs.Edge.{HasCause, Keeps, Grows};
-ghost use Rattle.dns_runtime.specs.Datagrams.{TakesDatagram};
-ghost use Rattle.dns_runtime.specs.Memory.{ReceivesNext, SendsNext, raised};
+ghost use Rattle.std.specs.Prelude.{◌≡◌, []};
+ghost use Rattle.dns_runtime.specs.Datagrams.{Receives, Sends};
+ghost use Rattle.dns_runtime.specs.Memory.{ReceivesNext, SendsNext, socket_told};
 
 use crate::sockets::DnsUdpSocket;
 use crate::tasks::{Spawn, Time};
@@ -92,20 +91,10 @@ impl MemorySocket {
 }
 
 impl DnsUdpSocket for MemorySocket {
-    ghost left = { λ s. Some s.left };
-
-    ghost sent = { λ s. Some s.sent };
-
-    ghost faults = { λ s. s.faults };
+    ghost told = { socket_told };
 
     fn recv_from(&mut self, room: &mut [u8]) -> Result<(usize, Peer), IoFault>
-        ensures count { IfOk result (λ came. came.0 ≤ length room.new) }
-        ensures given { IfOk result (λ came. TakesDatagram (length room.new) (Some self.old.left) (Some self.new.left) (take came.0 room.new) came.1) }
-        ensures kept { OnErr result (Keeps (Some self.old.left) (Some self.new.left)) }
-        ensures unsent { Keeps (Some self.old.sent) (Some self.new.sent) }
-        ensures cause { HasCause self.old.faults self.new.faults result }
-        ensures calm { OnOk result (self.new.faults ≡ self.old.faults) }
-        ensures uncounted { IsErrOf result IoFault.OutOfMemory → self.new.faults ≡ self.old.faults }
+        ensures told { Receives (socket_told self.old) (socket_told self.new) room.new result }
         ensures next { ReceivesNext self.old result self.new }
     {
         self.calls = self.calls.saturating_add(1);
@@ -127,13 +116,7 @@ impl DnsUdpSocket for MemorySocket {
     }
 
     fn send_to(&mut self, bytes: &[u8], to: Peer) -> Result<usize, IoFault>
-        ensures count { IfOk result (λ n. n ≤ length bytes.now) }
-        ensures grows { IfOk result (λ n. Grows (Some self.old.sent) (Some self.new.sent) ((take n bytes.now, to) ∷ [])) }
-        ensures kept { OnErr result (Keeps (Some self.old.sent) (Some self.new.sent)) }
-        ensures unread { Keeps (Some self.old.left) (Some self.new.left) }
-        ensures cause { HasCause self.old.faults self.new.faults result }
-        ensures calm { OnOk result (self.new.faults ≡ self.old.faults) }
-        ensures uncounted { IsErrOf result IoFault.OutOfMemory → self.new.faults ≡ self.old.faults }
+        ensures told { Sends (socket_told self.old) (socket_told self.new) bytes.now to result }
         ensures next { SendsNext self.old bytes.now to result self.new }
     {
         self.calls = self.calls.saturating_add(1);

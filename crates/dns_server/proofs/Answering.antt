@@ -1,20 +1,22 @@
 -- The answer of serving.
-use Rattle.std.proofs.Common.{◌≡◌, ◌⊎◌, inl, inr, ⊎_elim, ℕ, List, [], ◌∷◌, Option, Result, Ok, Err, refl, subst}
+use Rattle.std.proofs.Common.{◌≡◌, ◌⊎◌, inl, inr, ⊎_elim, ◌+◌, ℕ, List, [], ◌∷◌, Option, Result, Ok, Err, refl, subst, arith}
 use Rattle.std.specs.Prelude.{IfErr, OnOk}
 use Rattle.std.specs.List.{AllByRecursion}
-use Rattle.dns_io.specs.declared.edge.IoFault.{IoFault}
-use Rattle.dns_io.specs.declared.edge.IoFault.TheVariants.{Failed, OutOfMemory}
+use Rattle.dns_io.specs.declared.io_fault.IoFault.{IoFault}
+use Rattle.dns_io.specs.declared.io_fault.IoFault.TheVariants.{Failed, OutOfMemory}
+use Rattle.dns_io.specs.Told.{Rose}
+use Rattle.dns_server_core.specs.Books.{RoseBy}
 use Rattle.dns_transport.specs.declared.error.NetError.{NetError}
 use Rattle.dns_transport.specs.declared.error.NetError.TheVariants as net
 use Rattle.dns_keeper.specs.declared.row.Row.{Row}
 use Rattle.dns_book.specs.Access.{Access}
-use Rattle.dns_ports.specs.Ports.{Datagram, Reply}
-use Rattle.dns_ports.specs.declared.port.Accepted.{Accepted}
+use Rattle.dns_edges.specs.Edges.{Around, SourceTold}
+use Rattle.dns_ports.specs.Ports.{UdpTold, TcpTold, ListenerOf}
 use Rattle.dns_ticket_lock.specs.Passes.{SettledBy, LeftBy}
 use Rattle.dns_server.specs.Sockets as sockets
 use Rattle.dns_server.specs.Listeners as listeners
 use Rattle.dns_server.specs.declared.worker.Worker.{Worker}
-use Rattle.dns_server.specs.Servers.{AnswersFor, IsAnswerWhileReading, IsDone, IsServingError, Matches, MatchesOnce, RoseAt, ServedListener, ServedSocket, ServerSeen, post_of, answer_of, as_net, first_fault, or_later, or_reading}
+use Rattle.dns_server.specs.Servers.{AnswersFor, EndsReading, IsDone, IsReadOut, IsServingError, Matches, MatchesOnce, RoseAt, ServedListener, ServedSocket, ServerSeen, post_of, answer_of, as_net, first_fault, or_later, or_reading}
 
 or_done : (first later : Result (Unit {0}) IoFault) → or_later first later ≡ Ok tt → (first ≡ Ok tt) × (later ≡ Ok tt)
 or_done (Ok done) later e = (refl, e)
@@ -55,51 +57,47 @@ first_rose faults R rose (x ∷ xs) [] m e = absurd m
 first_rose faults R rose (x ∷ xs) (y ∷ ys) m e = ⊎_elim (λ f. inl (rose x y m.0 f)) (λ f. inr (first_rose faults R rose xs ys m.1 f)) (or_failed y.answer (first_fault ys) e)
 
 -- how the workers ended answers for them
-pub answers_for : {U T : Type 0} (socket_faults : U → ℕ) (listener_faults : T → ℕ) (R : Worker U → Worker U → Type 0) (S : Worker T → Worker T → Type 0)
-    → ((a b : Worker U) → R a b → b.answer ≡ Err Failed → RoseAt socket_faults a b) → ((a b : Worker T) → S a b → b.answer ≡ Err Failed → RoseAt listener_faults a b)
+pub answers_for : {U T I O C : Type 0} (socket : U → UdpTold) (listener : T → TcpTold I O C) (R : Worker U → Worker U → Type 0) (S : Worker T → Worker T → Type 0)
+    → ((a b : Worker U) → R a b → b.answer ≡ Err Failed → RoseAt (λ port. (socket port).faults) a b) → ((a b : Worker T) → S a b → b.answer ≡ Err Failed → RoseAt (λ port. (listener port).faults) a b)
     → (before after : ServerSeen U T) → Matches R before.sockets after.sockets → Matches S before.listeners after.listeners
-    → (result : Result (Unit {0}) NetError) → result ≡ answer_of after → AnswersFor socket_faults listener_faults before after result
-answers_for socket_faults listener_faults R S r s before after m n result is =
+    → (result : Result (Unit {0}) NetError) → result ≡ answer_of after → AnswersFor socket listener before after result
+answers_for socket listener R S r s before after m n result is =
     let all : OnOk (answer_of after) ((first_fault after.sockets ≡ Ok tt) × (first_fault after.listeners ≡ Ok tt)) =
     on_ok (answer_of after) _ _ (or_done (first_fault after.sockets) (first_fault after.listeners)) (net_done (or_later (first_fault after.sockets) (first_fault after.listeners))) in
     rw is (record {
       sockets = on_ok (answer_of after) _ _ (λ (both : (first_fault after.sockets ≡ Ok tt) × (first_fault after.listeners ≡ Ok tt)). first_done after.sockets both.0) all;
       listeners = on_ok (answer_of after) _ _ (λ (both : (first_fault after.sockets ≡ Ok tt) × (first_fault after.listeners ≡ Ok tt)). first_done after.listeners both.1) all;
       failed = λ e. ⊎_elim
-          (λ f. inl (first_rose socket_faults R r before.sockets after.sockets m f))
-          (λ f. inr (first_rose listener_faults S s before.listeners after.listeners n f))
+          (λ f. inl (first_rose (λ port. (socket port).faults) R r before.sockets after.sockets m f))
+          (λ f. inr (first_rose (λ port. (listener port).faults) S s before.listeners after.listeners n f))
           (or_failed (first_fault after.sockets) (first_fault after.listeners) (net_failed _ e));
       kind = net_kind (or_later (first_fault after.sockets) (first_fault after.listeners));
     })
 
 -- and still does, where memory ran out in reading
-pub answers_reading : {U T : Type 0} (socket_faults : U → ℕ) (listener_faults : T → ℕ) (before after : ServerSeen U T) (answer : Result (Unit {0}) NetError) (reading : Result (Unit {0}) IoFault)
-    → AnswersFor socket_faults listener_faults before after answer → IfErr reading (λ fault. fault ≡ OutOfMemory) → AnswersFor socket_faults listener_faults before after (or_reading answer reading)
-answers_reading socket_faults listener_faults before after (Ok done) (Ok end) a k = a
-answers_reading socket_faults listener_faults before after (Ok done) (Err Failed) a k = absurd cc
-answers_reading socket_faults listener_faults before after (Ok done) (Err OutOfMemory) a k = record { sockets = tt; listeners = tt; failed = λ e. absurd cc; kind = inr refl }
-answers_reading socket_faults listener_faults before after (Err error) reading a k = a
+pub answers_reading : {U T I O C : Type 0} (socket : U → UdpTold) (listener : T → TcpTold I O C) (before after : ServerSeen U T) (answer : Result (Unit {0}) NetError) (until : Around SourceTold) (reading : Result (Unit {0}) IoFault)
+    → AnswersFor socket listener before after answer → EndsReading until reading → AnswersFor socket listener before after (or_reading answer reading)
+answers_reading socket listener before after (Ok done) until (Ok end) a k = a
+answers_reading socket listener before after (Ok done) until (Err Failed) a k = absurd k
+answers_reading socket listener before after (Ok done) until (Err OutOfMemory) a k = record { sockets = tt; listeners = tt; failed = λ e. absurd cc; kind = inr refl }
+answers_reading socket listener before after (Err error) until reading a k = a
 
-pub answer_while_reading : (answer : Result (Unit {0}) NetError) (reading : Result (Unit {0}) IoFault) → IfErr reading (λ fault. fault ≡ OutOfMemory) → IsAnswerWhileReading answer (or_reading answer reading)
-answer_while_reading (Ok done) (Ok end) k = inl refl
-answer_while_reading (Ok done) (Err Failed) k = absurd cc
-answer_while_reading (Ok done) (Err OutOfMemory) k = inr (refl, refl)
-answer_while_reading (Err error) reading k = inl refl
+pub reading_ended : (answer : Result (Unit {0}) NetError) (until : Around SourceTold) (reading : Result (Unit {0}) IoFault) → EndsReading until reading → OnOk (or_reading answer reading) (IsReadOut until)
+reading_ended (Ok done) until (Ok end) a = a
+reading_ended (Ok done) until (Err Failed) a = absurd a
+reading_ended (Ok done) until (Err OutOfMemory) a = tt
+reading_ended (Err error) until reading a = tt
 
-pub reading_ended : (answer : Result (Unit {0}) NetError) (reading : Result (Unit {0}) IoFault) (A : Type 0) → OnOk reading A → OnOk (or_reading answer reading) A
-reading_ended (Ok done) (Ok end) A a = a
-reading_ended (Ok done) (Err Failed) A a = tt
-reading_ended (Ok done) (Err OutOfMemory) A a = tt
-reading_ended (Err error) reading A a = tt
+-- it rose by one at least, where it rose by more
+rose_at_least : (n before now : ℕ) → RoseBy (n + 1) before now → Rose before now
+rose_at_least n before now r = omega (arith, r)
 
 -- a worker that failed
 module _ {K : Type 0} (krows : K → Option (List Row)) (kfaults : K → ℕ) where
-  pub socket_rose : {U : Type 0} (left received : U → Option (List Datagram)) (taken : U → Option (List Reply)) (faults : U → ℕ) (access : Access) (a b : Worker U)
-      → ServedSocket krows kfaults left received taken faults access a b → b.answer ≡ Err Failed → RoseAt faults a b
-  socket_rose left received taken faults access a b s e = subst (sockets.EndsBy (SettledBy krows kfaults access) LeftBy left received taken faults (post_of a) (post_of b) s.works.work.handled) e s.works.ends
+  pub socket_rose : {U : Type 0} (socket : U → UdpTold) (access : Access) (a b : Worker U) → ServedSocket krows kfaults socket access a b → b.answer ≡ Err Failed → RoseAt (λ port. (socket port).faults) a b
+  socket_rose socket access a b s e =
+      rose_at_least (sockets.failures s.works.work.handled) _ _ (subst (sockets.EndsBy (SettledBy krows kfaults access) LeftBy socket (post_of a) (post_of b) s.works.work.handled) e s.works.ends)
 
-  pub listener_rose : {T R W C : Type 0} (left_of : R → Option (List ℕ)) (read_faults : R → ℕ) (taken flushed : W → Option (List ℕ)) (write_faults : W → ℕ) (ticks : C → ℕ → C → Type 0)
-      (left accepted ended : T → Option (List (Accepted R W C))) (faults : T → ℕ) (access : Access) (a b : Worker T)
-      → ServedListener krows kfaults left_of read_faults taken flushed write_faults ticks left accepted ended faults access a b → b.answer ≡ Err Failed → RoseAt faults a b
-  listener_rose left_of read_faults taken flushed write_faults ticks left accepted ended faults access a b s e =
-      subst (listeners.EndsBy (SettledBy krows kfaults access) LeftBy left_of read_faults taken flushed write_faults ticks a.limit left accepted ended faults (post_of a) (post_of b) s.works.work.handled) e s.works.ends
+  pub listener_rose : {T R W C : Type 0} (listener : ListenerOf T R W C) (access : Access) (a b : Worker T) → ServedListener krows kfaults listener access a b → b.answer ≡ Err Failed
+      → RoseAt (λ port. (listener.told port).faults) a b
+  listener_rose listener access a b s e = subst (listeners.EndsBy (SettledBy krows kfaults access) LeftBy listener a.limit (post_of a) (post_of b) s.works.work.handled) e s.works.ends

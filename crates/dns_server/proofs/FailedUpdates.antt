@@ -10,7 +10,8 @@ use Rattle.dns_book.specs.declared.ask.Settled.{Settled}
 use Rattle.dns_book.specs.Access.{Access}
 use Rattle.dns_book.specs.Book.{SeenOf, Ends as BatchEnds, idle, journalled, failed, Settles}
 use Rattle.dns_server_core.specs.Books.{RoseBy}
-use Rattle.dns_ports.specs.Ports.{Datagram, Reply}
+use Rattle.dns_edges.specs.Edges.{SourceOf, SinkOf, ClockOf}
+use Rattle.dns_ports.specs.Ports.{UdpTold, ListenerOf}
 use Rattle.dns_ports.specs.declared.port.Accepted.{Accepted}
 use Rattle.dns_requests.specs.declared.serve_fault.ServeFault.{ServeFault}
 use Rattle.dns_requests.specs.declared.serve_fault.ServeFault.TheVariants.{Read, Write, Turns, TimedOut, OutOfMemory}
@@ -102,26 +103,26 @@ module _ {K : Type 0} (krows : K → Option (List Row)) (kfaults : K → ℕ) (a
       (messages_grew p b.first b.answered.bytes b.last b.answered.run)
       (⊎_elim (λ (e : q ≡ b.last). GrewBy-none b.last q e) (λ (l : LeftBy b.last q). GrewBy-left b.last q l) b.end)
 
-  serving_grew : {S W C : Type 0} (left : S → Option (List ℕ)) (read_faults : S → ℕ) (taken : W → Option (List ℕ)) (write_faults : W → ℕ) (ticks : C → ℕ → C → Type 0) (terms : ServeTerms) (before after : Parts PassSeen S W C) (answer : Result ℕ ServeFault)
-      → (e : Ends (SettledBy krows kfaults access) LeftBy left read_faults taken write_faults ticks terms before after answer)
-      → GrewBy (failed_by_serving krows kfaults access left read_faults taken write_faults ticks terms before after answer e) before.handler after.handler
-  serving_grew left read_faults taken write_faults ticks terms before after (Ok n) e = messages_grew _ _ _ _ e.answers.run
-  serving_grew left read_faults taken write_faults ticks terms before after (Err Read) e = messages_grew _ _ _ _ e.answers.run
-  serving_grew left read_faults taken write_faults ticks terms before after (Err Write) e = messages_grew _ _ _ _ e.answers.run
-  serving_grew left read_faults taken write_faults ticks terms before after (Err (Turns n)) e = messages_grew _ _ _ _ e.answers.run
-  serving_grew left read_faults taken write_faults ticks terms before after (Err (TimedOut since limit at)) e = messages_grew _ _ _ _ e.answers.run
-  serving_grew left read_faults taken write_faults ticks terms before after (Err OutOfMemory) e = breaks_grew _ _ _ _ _ e.answers
+  serving_grew : {S W C : Type 0} (source : SourceOf S) (sink : SinkOf W) (clock : ClockOf C) (terms : ServeTerms) (before after : Parts PassSeen S W C) (answer : Result ℕ ServeFault)
+      → (e : Ends (SettledBy krows kfaults access) LeftBy source sink clock terms before after answer)
+      → GrewBy (failed_by_serving krows kfaults access source sink clock terms before after answer e) before.handler after.handler
+  serving_grew source sink clock terms before after (Ok n) e = messages_grew _ _ _ _ e.answers.run
+  serving_grew source sink clock terms before after (Err Read) e = messages_grew _ _ _ _ e.answers.run
+  serving_grew source sink clock terms before after (Err Write) e = messages_grew _ _ _ _ e.answers.run
+  serving_grew source sink clock terms before after (Err (Turns n)) e = messages_grew _ _ _ _ e.answers.run
+  serving_grew source sink clock terms before after (Err (TimedOut since limit at)) e = messages_grew _ _ _ _ e.answers.run
+  serving_grew source sink clock terms before after (Err OutOfMemory) e = breaks_grew _ _ _ _ _ e.answers
 
-  module _ {R W C : Type 0} (left_of : R → Option (List ℕ)) (read_faults : R → ℕ) (taken flushed : W → Option (List ℕ)) (write_faults : W → ℕ) (ticks : C → ℕ → C → Type 0) (limit : ℕ) where
+  module _ {R W C : Type 0} (source : SourceOf R) (sink : SinkOf W) (clock : ClockOf C) (limit : ℕ) where
     connection_grew : (p : PassSeen) (came back : Accepted R W C) (answer : Option (Result ℕ ServeFault)) (q : PassSeen)
-        → (t : TreatsBy (SettledBy krows kfaults access) LeftBy left_of read_faults taken flushed write_faults ticks limit p came back answer q)
-        → GrewBy (failed_by_connection krows kfaults access left_of read_faults taken flushed write_faults ticks limit p came back answer q t) p q
+        → (t : TreatsBy (SettledBy krows kfaults access) LeftBy source sink clock limit p came back answer q)
+        → GrewBy (failed_by_connection krows kfaults access source sink clock limit p came back answer q t) p q
     connection_grew p came back None q t = GrewBy-none p q t.still
-    connection_grew p came back (Some answer) q t = serving_grew left_of read_faults taken write_faults ticks _ _ _ answer t.ends
+    connection_grew p came back (Some answer) q t = serving_grew source sink clock _ _ _ answer t.ends
 
     connections_grew : (p : PassSeen) (handled : List (HandedBack R W C)) (q : PassSeen)
-        → (run : ConnectionRun (SettledBy krows kfaults access) LeftBy left_of read_faults taken flushed write_faults ticks limit p handled q)
-        → GrewBy (failed_by_connections krows kfaults access left_of read_faults taken flushed write_faults ticks limit p handled q run) p q
+        → (run : ConnectionRun (SettledBy krows kfaults access) LeftBy source sink clock limit p handled q)
+        → GrewBy (failed_by_connections krows kfaults access source sink clock limit p handled q run) p q
     connections_grew p [] q run = GrewBy-none p q run
     connections_grew p (one ∷ others) q run =
         GrewBy-more _ _ _ p run.0 q refl (connection_grew p one.came one.back one.answer run.0 run.1) (connections_grew run.0 others q run.2)
@@ -169,19 +170,13 @@ rose_by_both a b n k start now ps qs (inr m) j rise marked = let e = marked (mar
 
 -- of a book that was closed for the passes of all workers, at most as many steps answered an update with ServFail as the keeper's count
 -- rose since it was shared, or that stands at its last value
-pub few_failed_updates : {K U T R W C : Type 0} (krows : K → Option (List Row)) (kfaults : K → ℕ) (access : Access)
-    (left received : U → Option (List Datagram)) (taken : U → Option (List Reply)) (faults : U → ℕ)
-    (left_of : R → Option (List ℕ)) (read_faults : R → ℕ) (taken_by flushed : W → Option (List ℕ)) (write_faults : W → ℕ) (ticks : C → ℕ → C → Type 0)
-    (unaccepted accepted ended : T → Option (List (Accepted R W C))) (listener_faults : T → ℕ)
-    (xs ys : List (Worker U)) (m : Matches (ServedSocket krows kfaults left received taken faults access) xs ys)
-    (vs ws : List (Worker T)) (n : Matches (ServedListener krows kfaults left_of read_faults taken_by flushed write_faults ticks unaccepted accepted ended listener_faults access) vs ws)
+pub few_failed_updates : {K U T R W C : Type 0} (krows : K → Option (List Row)) (kfaults : K → ℕ) (access : Access) (socket : U → UdpTold) (listener : ListenerOf T R W C)
+    (xs ys : List (Worker U)) (m : Matches (ServedSocket krows kfaults socket access) xs ys) (vs ws : List (Worker T)) (n : Matches (ServedListener krows kfaults listener access) vs ws)
     (t : Terms) (book : SeenOf K) → ClosedFor krows kfaults t (their_passes ys ++ their_passes ws) book
-    → RoseBy (added_up (failed_by_socket krows kfaults access left received taken faults) xs ys m
-    + added_up (failed_by_listener krows kfaults access left_of read_faults taken_by flushed write_faults ticks unaccepted accepted ended listener_faults) vs ws n) t.start (kfaults book.keeper)
-few_failed_updates krows kfaults access left received taken faults left_of read_faults taken_by flushed write_faults ticks unaccepted accepted ended listener_faults xs ys m vs ws n t book closed =
+    → RoseBy (added_up (failed_by_socket krows kfaults access socket) xs ys m + added_up (failed_by_listener krows kfaults access listener) vs ws n) t.start (kfaults book.keeper)
+few_failed_updates krows kfaults access socket listener xs ys m vs ws n t book closed =
     rose_by_both _ _ _ _ t.start (kfaults book.keeper) (their_passes ys) (their_passes ws)
-    (workers_grew (failed_by_socket krows kfaults access left received taken faults)
-    (λ x y s. datagrams_grew krows kfaults access x.pass s.works.work.handled y.pass s.works.work.run) xs ys m)
-    (workers_grew (failed_by_listener krows kfaults access left_of read_faults taken_by flushed write_faults ticks unaccepted accepted ended listener_faults)
-    (λ x y s. connections_grew krows kfaults access left_of read_faults taken_by flushed write_faults ticks x.limit x.pass s.works.work.handled y.pass s.works.work.run) vs ws n)
+    (workers_grew (failed_by_socket krows kfaults access socket) (λ x y s. datagrams_grew krows kfaults access x.pass s.works.work.handled y.pass s.works.work.run) xs ys m)
+    (workers_grew (failed_by_listener krows kfaults access listener)
+    (λ x y s. connections_grew krows kfaults access listener.input listener.output listener.time x.limit x.pass s.works.work.handled y.pass s.works.work.run) vs ws n)
     closed.rise (by_mark (kfaults book.keeper ≡ last) (their_passes ys ++ their_passes ws) closed.marked)

@@ -1,18 +1,20 @@
 -- A worker of a socket, from datagram to datagram.
-use Rattle.std.proofs.Common.{◌≡◌, ◌≤◌, ◌+◌, ◌∙◌, ℕ, List, [], ◌∷◌, ◌++◌, map, Bool, true, false, Option, Some, None, Result, Ok, Err, refl, sym, subst, arith}
+use Rattle.std.proofs.Common.{◌≡◌, ◌≤◌, ◌+◌, ◌∙◌, ℕ, List, [], ◌∷◌, ◌++◌, map, Bool, true, false, Option, Some, None, Result, Ok, Err, refl, sym, ap, subst, arith}
 use Rattle.std.proofs.lemmas.List.{append-nil, map-append}
 use Rattle.std.proofs.lemmas.List.Sums.{sum_by-append}
 use Rattle.std.proofs.lemmas.Grind.{flat_map-append}
+use Rattle.std.specs.Prelude.{IsSome, OnOk, OnErr}
 use Rattle.std.specs.List.{sum_by}
-use Rattle.dns_io.specs.declared.edge.IoFault.{IoFault}
-use Rattle.dns_io.specs.declared.edge.IoFault.TheVariants.{Failed, OutOfMemory}
-use Rattle.dns_io.specs.Edge.{Takes, Grows, Keeps, Rose}
+use Rattle.dns_io.specs.declared.io_fault.IoFault.{IoFault}
+use Rattle.dns_io.specs.declared.io_fault.IoFault.TheVariants.{Failed, OutOfMemory}
+use Rattle.dns_io.specs.Told.{Takes, Grows, Keeps, Rose}
 use Rattle.dns_io.proofs.ToldContents.{Keeps-Grows, Grows-Keeps, Grows-more, Grows-nothing, Takes-more, Takes-Keeps}
 use Rattle.dns_book.specs.declared.ask.Ask.{Ask}
 use Rattle.dns_book.specs.declared.ask.Settled.{Settled}
-use Rattle.dns_ports.specs.Ports.{Datagram, Reply, GivesNext, GrowsBy}
+use Rattle.dns_edges.specs.Edges.{CountsBy, HasCause}
+use Rattle.dns_ports.specs.Ports.{Datagram, UdpTold, GivesNext, GrowsBy}
 use Rattle.dns_server_core.specs.Books.{RoseBy}
-use Rattle.dns_server.specs.Sockets.{Handled, Post, Steps, Run, Handles, Handling, WorksSocket, Ended, IsAtEnd, answers_of, ask_for, failed_by, taken_by, unmet, unmet_by}
+use Rattle.dns_server.specs.Sockets.{Fate, Answered, Refused, Skipped, Handled, Post, Steps, Run, Handles, Handling, WorksSocket, Ended, IsAtEnd, answer_to, answers_of, ask_for, failed_by, found_memory, outcome_of, taken_by, failures, unmet, unmet_by}
 
 -- a run, and one datagram more
 pub Run-more : {H : Type 0} (serves : H → Ask → Settled → H → Type 0) (skips : H → H → Type 0) (before : H) (handled : List Handled) (between : H) (one : Handled) (after : H)
@@ -52,16 +54,72 @@ sum_snoc f xs x = omega (arith, sum_by-append f xs (x ∷ []))
 rose_from : (a b c n : ℕ) → a ≤ b → RoseBy n b c → RoseBy n a c
 rose_from a b c n p q = omega (arith, p, q)
 
+-- where none of both failed, the count stood still
+calm_more : (a b c n k m : ℕ) → m ≡ n + k → (n ≡ 0 → b ≡ a) → (k ≡ 0 → c ≡ b) → m ≡ 0 → c ≡ a
+calm_more a b c n k m e p q none = q (omega (arith, e, none)) ∙ p (omega (arith, e, none))
+
+-- one call more failed
+rose_once : (a b c n : ℕ) → RoseBy n a b → Rose b c → RoseBy (n + 1) a c
+rose_once a b c n p q = omega (arith, p, q)
+
 rose_later : (a b c n : ℕ) → RoseBy n a b → b ≤ c → RoseBy n a c
 rose_later a b c n p q = omega (arith, p, q)
 
-module _ {H U : Type 0} (serves : H → Ask → Settled → H → Type 0) (skips : H → H → Type 0) (left received : U → Option (List Datagram)) (taken : U → Option (List Reply)) (faults : U → ℕ) (before : Post H U) where
+-- where memory was found, nothing wanted it
+none_unmet : (fate : Fate) → found_memory (outcome_of fate) ≡ true → unmet_by fate ≡ 0
+none_unmet (Answered settled) e = refl
+none_unmet (Refused settled Failed) e = refl
+none_unmet (Refused settled OutOfMemory) e = absurd cc
+none_unmet Skipped e = absurd cc
+
+-- a message was settled, and the socket took its reply, where one was owed, or did not
+pub answered : {H U : Type 0} (serves : H → Ask → Settled → H → Type 0) (skips : H → H → Type 0) (socket : U → UdpTold) (before after : Post H U) (ask : Ask) (settled : Settled) (owed : Bool) (result : Result (Unit {0}) IoFault)
+    → serves before.handler ask settled after.handler → (owed ≡ true → IsSome settled.reply) → OnErr result (owed ≡ true)
+    → Keeps (socket before.port).left (socket after.port).left → Keeps (socket before.port).received (socket after.port).received
+    → OnOk result (Grows (socket before.port).taken (socket after.port).taken (answer_to ask.source settled.reply)) → OnErr result (Keeps (socket before.port).taken (socket after.port).taken)
+    → HasCause (socket before.port).faults (socket after.port).faults result → Handles serves skips socket before after ask result
+answered serves skips socket before after ask settled owed (Ok done) step replied is_owed unread unreceived ok err cause = record {
+  fate = Answered settled;
+  step = step;
+  unread = unread;
+  unreceived = unreceived;
+  answered = ok;
+  rose = omega (arith, cause.later);
+  calm = λ none. cause.counts;
+  later = cause.later;
+  is = refl;
+}
+answered serves skips socket before after ask settled owed (Err Failed) step replied is_owed unread unreceived ok err cause = record {
+  fate = Refused settled Failed;
+  step = (step, replied is_owed);
+  unread = unread;
+  unreceived = unreceived;
+  answered = Grows-kept _ _ err;
+  rose = cause.counts;
+  calm = λ none. absurd cc;
+  later = cause.later;
+  is = refl;
+}
+answered serves skips socket before after ask settled owed (Err OutOfMemory) step replied is_owed unread unreceived ok err cause = record {
+  fate = Refused settled OutOfMemory;
+  step = (step, replied is_owed);
+  unread = unread;
+  unreceived = unreceived;
+  answered = Grows-kept _ _ err;
+  rose = omega (arith, cause.later);
+  calm = λ none. cause.counts;
+  later = cause.later;
+  is = refl;
+}
+
+module _ {H U : Type 0} (serves : H → Ask → Settled → H → Type 0) (skips : H → H → Type 0) (socket : U → UdpTold) (before : Post H U) where
   abbrev pub Work : H → U → Type 0
-  Work handler port = Handling serves skips left received taken faults before (record { handler = handler; port = port })
+  Work handler port = Handling serves skips socket before (record { handler = handler; port = port })
 
   -- between two datagrams, where the flag says whether memory was wanting
   pub record Going (handler : H) (port : U) (is_short : Bool) : Type 0 where
     pub work : Work handler port
+    pub calm : failures work.handled ≡ 0 → (socket port).faults ≡ (socket before.port).faults
     pub met : is_short ≡ false → unmet work.handled ≡ 0
 
   Work-begun : Work before.handler before.port
@@ -77,18 +135,20 @@ module _ {H U : Type 0} (serves : H → Ask → Settled → H → Type 0) (skips
 
   pub Going-begun : Going before.handler before.port false
   unfolding Work-begun
-  Going-begun = record { work = Work-begun; met = λ e. refl }
+  Going-begun = record { work = Work-begun; calm = λ none. refl; met = λ e. refl }
 
   -- no datagram came, since memory was wanting
-  pub Works-nothing : WorksSocket serves skips left received taken faults before before (Err OutOfMemory)
-  Works-nothing = record { work = Work-begun; ends = tt }
+  pub Works-nothing : WorksSocket serves skips socket before before (Err OutOfMemory)
+  Works-nothing = record { work = Work-begun; ends = λ none. refl }
 
   -- a call of the port that gave nothing
-  pub Work-later : (handler : H) (port now : U) → Work handler port → Takes (left port) (left now) [] → Keeps (received port) (received now) → Keeps (taken port) (taken now) → faults port ≤ faults now → Work handler now
+  pub Work-later : (handler : H) (port now : U) → Work handler port → Takes (socket port).left (socket now).left [] → Keeps (socket port).received (socket now).received → Keeps (socket port).taken (socket now).taken
+      → (socket port).faults ≤ (socket now).faults → Work handler now
   Work-later handler port now w none kept untaken later = record {
     handled = w.handled;
     run = w.run;
-    came = subst (Takes (left before.port) (left now)) (append-nil (map (λ (x : Handled). x.datagram) w.handled)) (Takes-more (left before.port) (left port) (left now) (map (λ (x : Handled). x.datagram) w.handled) [] w.came none);
+    came = subst (Takes (socket before.port).left (socket now).left) (append-nil (map (λ (x : Handled). x.datagram) w.handled))
+        (Takes-more (socket before.port).left (socket port).left (socket now).left (map (λ (x : Handled). x.datagram) w.handled) [] w.came none);
     noted = Grows-Keeps _ _ _ _ w.noted kept;
     answered = Grows-Keeps _ _ _ _ w.answered untaken;
     rose = rose_later _ _ _ _ w.rose later;
@@ -96,62 +156,70 @@ module _ {H U : Type 0} (serves : H → Ask → Settled → H → Type 0) (skips
   }
 
   -- a datagram came, and was handled
-  Work-more : (handler : H) (port came : U) (d : Datagram) (handler' : H) (port' : U) (found : Bool) → Work handler port
-      → Takes (left port) (left came) (d ∷ []) → Grows (received port) (received came) (d ∷ []) → Keeps (taken port) (taken came) → faults port ≤ faults came
-      → (h : Handles serves skips left received taken faults (record { handler = handler; port = came }) (record { handler = handler'; port = port' }) (ask_for d) found)
+  Work-more : (handler : H) (port came : U) (d : Datagram) (handler' : H) (port' : U) (outcome : Result (Unit {0}) IoFault) → Work handler port
+      → Takes (socket port).left (socket came).left (d ∷ []) → Grows (socket port).received (socket came).received (d ∷ []) → Keeps (socket port).taken (socket came).taken → (socket port).faults ≤ (socket came).faults
+      → (h : Handles serves skips socket (record { handler = handler; port = came }) (record { handler = handler'; port = port' }) (ask_for d) outcome)
       → Work handler' port'
-  Work-more handler port came d handler' port' found w takes grows untaken later h =
+  Work-more handler port came d handler' port' outcome w takes grows untaken later h =
       let one : Handled = record { datagram = d; fate = h.fate } in record {
         handled = w.handled ++ one ∷ [];
         run = Run-more serves skips before.handler w.handled handler one handler' w.run h.step;
         came = rw (map-append (λ (x : Handled). x.datagram) w.handled (one ∷ []))
-            (Takes-more (left before.port) (left port) (left port') (map (λ (x : Handled). x.datagram) w.handled) (d ∷ []) w.came (Takes-Keeps (left port) (left came) (left port') (d ∷ []) takes h.unread));
+            (Takes-more (socket before.port).left (socket port).left (socket port').left (map (λ (x : Handled). x.datagram) w.handled) (d ∷ []) w.came
+            (Takes-Keeps (socket port).left (socket came).left (socket port').left (d ∷ []) takes h.unread));
         noted = rw (map-append (λ (x : Handled). x.datagram) w.handled (one ∷ []))
-            (Grows-more (received before.port) (received port) (received port') (map (λ (x : Handled). x.datagram) w.handled) (d ∷ []) w.noted (Grows-Keeps (received port) (received came) (received port') (d ∷ []) grows h.unreceived));
+            (Grows-more (socket before.port).received (socket port).received (socket port').received (map (λ (x : Handled). x.datagram) w.handled) (d ∷ []) w.noted
+            (Grows-Keeps (socket port).received (socket came).received (socket port').received (d ∷ []) grows h.unreceived));
         answered = rw (flat_map-append (λ (x : Handled). taken_by x.datagram.1 x.fate) w.handled (one ∷ []), append-nil (taken_by d.1 h.fate))
-            (Grows-more (taken before.port) (taken port) (taken port') (answers_of w.handled) (taken_by d.1 h.fate) w.answered (Keeps-Grows (taken port) (taken came) (taken port') (taken_by d.1 h.fate) untaken h.answered));
+            (Grows-more (socket before.port).taken (socket port).taken (socket port').taken (answers_of w.handled) (taken_by d.1 h.fate) w.answered
+            (Keeps-Grows (socket port).taken (socket came).taken (socket port').taken (taken_by d.1 h.fate) untaken h.answered));
         rose = rose_more _ _ _ _ _ _ (sum_snoc (λ (x : Handled). failed_by x.fate) w.handled one) w.rose (rose_from _ _ _ _ later h.rose);
         later = omega (arith, w.later, later, h.later);
       }
 
   -- and so for memory
-  pub Going-more : (handler : H) (port came : U) (d : Datagram) (handler' : H) (port' : U) (is_short found is_short' : Bool) → Going handler port is_short
-      → GivesNext (left port) (left came) (Some d) → GrowsBy (received port) (received came) (Some d) → Keeps (taken port) (taken came) → faults port ≤ faults came
-      → (h : Handles serves skips left received taken faults (record { handler = handler; port = came }) (record { handler = handler'; port = port' }) (ask_for d) found)
-      → (is_short' ≡ false → (is_short ≡ false) × (found ≡ true))
+  pub Going-more : (handler : H) (port came : U) (d : Datagram) (handler' : H) (port' : U) (is_short : Bool) (outcome : Result (Unit {0}) IoFault) (is_short' : Bool) → Going handler port is_short
+      → GivesNext (socket port).left (socket came).left (Some d) → GrowsBy (socket port).received (socket came).received (Some d) → Keeps (socket port).taken (socket came).taken
+      → (socket came).faults ≡ (socket port).faults
+      → (h : Handles serves skips socket (record { handler = handler; port = came }) (record { handler = handler'; port = port' }) (ask_for d) outcome)
+      → (is_short' ≡ false → (is_short ≡ false) × (found_memory outcome ≡ true))
       → Going handler' port' is_short'
   unfolding Work-more
-  Going-more handler port came d handler' port' is_short found is_short' g takes grows untaken later h flag = record {
-    work = Work-more handler port came d handler' port' found g.work takes grows untaken later h;
-    met = λ e. let f = flag e in omega (arith, sum_snoc (λ (x : Handled). unmet_by x.fate) g.work.handled (record { datagram = d; fate = h.fate }), g.met f.0, h.met f.1);
-  }
+  Going-more handler port came d handler' port' is_short outcome is_short' g takes grows untaken still h flag =
+      let one : Handled = record { datagram = d; fate = h.fate } in record {
+        work = Work-more handler port came d handler' port' outcome g.work takes grows untaken (omega (arith, still)) h;
+        calm = calm_more _ _ _ _ _ _ (sum_snoc (λ (x : Handled). failed_by x.fate) g.work.handled one) g.calm (λ none. h.calm none ∙ still);
+        met = λ e. let f = flag e in omega (arith, sum_snoc (λ (x : Handled). unmet_by x.fate) g.work.handled one, g.met f.0, none_unmet h.fate (ap found_memory (sym h.is) ∙ f.1));
+      }
 
   -- the port gives no more
   pub Works-done : (handler : H) (port now : U) (is_short : Bool) (result : Result (Unit {0}) IoFault) → Going handler port is_short
-      → GivesNext (left port) (left now) None → GrowsBy (received port) (received now) None → Keeps (taken port) (taken now) → faults port ≤ faults now
-      → Ended is_short result
-      → WorksSocket serves skips left received taken faults before (record { handler = handler; port = now }) result
+      → GivesNext (socket port).left (socket now).left None → GrowsBy (socket port).received (socket now).received None → Keeps (socket port).taken (socket now).taken
+      → (socket now).faults ≡ (socket port).faults → Ended is_short result
+      → WorksSocket serves skips socket before (record { handler = handler; port = now }) result
   unfolding Work-later
-  Works-done handler port now false (Ok done) g gives kept untaken later e = record {
-    work = Work-later handler port now g.work (ended_takes _ _ gives) kept untaken later;
-    ends = (at_end _ _ gives, g.met refl);
+  Works-done handler port now false (Ok done) g gives kept untaken still e = record {
+    work = Work-later handler port now g.work (ended_takes _ _ gives) kept untaken (omega (arith, still));
+    ends = (at_end _ _ gives, g.met refl, λ none. still ∙ g.calm none);
   }
-  Works-done handler port now true (Ok done) g gives kept untaken later e = absurd e
-  Works-done handler port now is_short (Err Failed) g gives kept untaken later e = absurd e
-  Works-done handler port now is_short (Err OutOfMemory) g gives kept untaken later e = record {
-    work = Work-later handler port now g.work (ended_takes _ _ gives) kept untaken later;
-    ends = tt;
+  Works-done handler port now true (Ok done) g gives kept untaken still e = absurd e
+  Works-done handler port now is_short (Err Failed) g gives kept untaken still e = absurd e
+  Works-done handler port now is_short (Err OutOfMemory) g gives kept untaken still e = record {
+    work = Work-later handler port now g.work (ended_takes _ _ gives) kept untaken (omega (arith, still));
+    ends = λ none. still ∙ g.calm none;
   }
 
-  -- a receiving failed
+  -- a receiving failed, or found no memory
   pub Works-failed : (handler : H) (port now : U) (is_short : Bool) (fault : IoFault) → Going handler port is_short
-      → Keeps (left port) (left now) → Keeps (received port) (received now) → Keeps (taken port) (taken now) → faults port ≤ faults now → (fault ≡ Failed → Rose (faults port) (faults now))
-      → WorksSocket serves skips left received taken faults before (record { handler = handler; port = now }) (Err fault)
-  Works-failed handler port now is_short Failed g unread kept untaken later rose = record {
+      → Keeps (socket port).left (socket now).left → Keeps (socket port).received (socket now).received → Keeps (socket port).taken (socket now).taken
+      → (socket port).faults ≤ (socket now).faults → CountsBy {T = Unit {0}} (socket port).faults (socket now).faults (Err fault)
+      → WorksSocket serves skips socket before (record { handler = handler; port = now }) (Err fault)
+  unfolding Work-later
+  Works-failed handler port now is_short Failed g unread kept untaken later counts = record {
     work = Work-later handler port now g.work (Takes-kept _ _ unread) kept untaken later;
-    ends = let r = rose refl in omega (arith, g.work.later, r);
+    ends = rose_once _ _ _ _ g.work.rose counts;
   }
-  Works-failed handler port now is_short OutOfMemory g unread kept untaken later rose = record {
+  Works-failed handler port now is_short OutOfMemory g unread kept untaken later counts = record {
     work = Work-later handler port now g.work (Takes-kept _ _ unread) kept untaken later;
-    ends = tt;
+    ends = λ none. counts ∙ g.calm none;
   }

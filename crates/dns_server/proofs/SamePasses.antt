@@ -1,8 +1,9 @@
 -- A pass that serves a port stays the same pass.
-use Rattle.std.proofs.Common.{◌≡◌, ◌∙◌, ℕ, List, [], ◌∷◌, Option, Some, None, Result, Ok, Err, refl, subst, ⊎_elim}
+use Rattle.std.proofs.Common.{◌≡◌, ◌∙◌, ℕ, List, [], ◌∷◌, ◌++◌, Option, Some, None, Result, Ok, Err, refl, sym, subst, ⊎_elim}
 use Rattle.dns_book.specs.declared.ask.Ask.{Ask}
 use Rattle.dns_book.specs.Access.{Access}
 use Rattle.dns_keeper.specs.declared.row.Row.{Row}
+use Rattle.dns_edges.specs.Edges.{SourceOf, SinkOf, ClockOf}
 use Rattle.dns_ports.specs.declared.port.Accepted.{Accepted}
 use Rattle.dns_requests.specs.declared.serve_fault.ServeFault.{ServeFault}
 use Rattle.dns_requests.specs.declared.serve_fault.ServeFault.TheVariants.{Read, Write, Turns, TimedOut, OutOfMemory}
@@ -12,6 +13,8 @@ use Rattle.dns_requests.specs.Runs.{BreaksOff}
 use Rattle.dns_ticket_lock.specs.Passes.{PassSeen, IsSame, SettledBy, LeftBy}
 use Rattle.dns_server.specs.Sockets.{Answered, Refused, Skipped, Fate, Handled, Run as DatagramRun, Steps, ask_for}
 use Rattle.dns_server.specs.Listeners.{HandedBack, TreatsBy, Run as ConnectionRun}
+use Rattle.dns_server.specs.declared.worker.Worker.{Worker}
+use Rattle.dns_server.specs.Servers.{IsServer, KeepsPasses, Matches, ServerSeen, their_passes}
 
 Same-refl : (p : PassSeen) → IsSame p p
 Same-refl p = record { book = refl; terms = refl; number = refl }
@@ -40,22 +43,46 @@ module _ {K : Type 0} (krows : K → Option (List Row)) (kfaults : K → ℕ) (a
   breaks_same : (p : PassSeen) (asks : List Ask) (q : PassSeen) (taken now : Option (List ℕ)) → BreaksOff (SettledBy krows kfaults access) LeftBy p asks q taken now → IsSame p q
   breaks_same p asks q taken now b = Same-trans p b.last q (replies_same p b.first b.answered.bytes b.last b.answered.run) (⊎_elim (λ e. Same-of b.last q e) (λ (l : LeftBy b.last q). l.same) b.end)
 
-  ends_same : {S W C : Type 0} (left : S → Option (List ℕ)) (read_faults : S → ℕ) (taken : W → Option (List ℕ)) (write_faults : W → ℕ) (ticks : C → ℕ → C → Type 0) (terms : Terms) (before after : Parts PassSeen S W C) (result : Result ℕ ServeFault)
-      → Ends (SettledBy krows kfaults access) LeftBy left read_faults taken write_faults ticks terms before after result → IsSame before.handler after.handler
-  ends_same left read_faults taken write_faults ticks terms before after (Ok n) e = replies_same _ _ _ _ e.answers.run
-  ends_same left read_faults taken write_faults ticks terms before after (Err Read) e = replies_same _ _ _ _ e.answers.run
-  ends_same left read_faults taken write_faults ticks terms before after (Err Write) e = replies_same _ _ _ _ e.answers.run
-  ends_same left read_faults taken write_faults ticks terms before after (Err (Turns n)) e = replies_same _ _ _ _ e.answers.run
-  ends_same left read_faults taken write_faults ticks terms before after (Err (TimedOut since limit at)) e = replies_same _ _ _ _ e.answers.run
-  ends_same left read_faults taken write_faults ticks terms before after (Err OutOfMemory) e = breaks_same _ _ _ _ _ e.answers
+  ends_same : {S W C : Type 0} (source : SourceOf S) (sink : SinkOf W) (clock : ClockOf C) (terms : Terms) (before after : Parts PassSeen S W C) (result : Result ℕ ServeFault)
+      → Ends (SettledBy krows kfaults access) LeftBy source sink clock terms before after result → IsSame before.handler after.handler
+  ends_same source sink clock terms before after (Ok n) e = replies_same _ _ _ _ e.answers.run
+  ends_same source sink clock terms before after (Err Read) e = replies_same _ _ _ _ e.answers.run
+  ends_same source sink clock terms before after (Err Write) e = replies_same _ _ _ _ e.answers.run
+  ends_same source sink clock terms before after (Err (Turns n)) e = replies_same _ _ _ _ e.answers.run
+  ends_same source sink clock terms before after (Err (TimedOut since limit at)) e = replies_same _ _ _ _ e.answers.run
+  ends_same source sink clock terms before after (Err OutOfMemory) e = breaks_same _ _ _ _ _ e.answers
 
-  module _ {R W C : Type 0} (left_of : R → Option (List ℕ)) (read_faults : R → ℕ) (taken flushed : W → Option (List ℕ)) (write_faults : W → ℕ) (ticks : C → ℕ → C → Type 0) (limit : ℕ) where
+  module _ {R W C : Type 0} (source : SourceOf R) (sink : SinkOf W) (clock : ClockOf C) (limit : ℕ) where
     treats_same : (p : PassSeen) (came back : Accepted R W C) (answer : Option (Result ℕ ServeFault)) (q : PassSeen)
-        → TreatsBy (SettledBy krows kfaults access) LeftBy left_of read_faults taken flushed write_faults ticks limit p came back answer q → IsSame p q
+        → TreatsBy (SettledBy krows kfaults access) LeftBy source sink clock limit p came back answer q → IsSame p q
     treats_same p came back None q t = Same-of p q t.still
-    treats_same p came back (Some answer) q t = ends_same left_of read_faults taken write_faults ticks _ _ _ answer t.ends
+    treats_same p came back (Some answer) q t = ends_same source sink clock _ _ _ answer t.ends
 
     pub connections_same : (p : PassSeen) (handled : List (HandedBack R W C)) (q : PassSeen)
-        → ConnectionRun (SettledBy krows kfaults access) LeftBy left_of read_faults taken flushed write_faults ticks limit p handled q → IsSame p q
+        → ConnectionRun (SettledBy krows kfaults access) LeftBy source sink clock limit p handled q → IsSame p q
     connections_same p [] q run = Same-of p q run
     connections_same p (one ∷ others) q run = Same-trans p run.0 q (treats_same p one.came one.back one.answer run.0 run.1) (connections_same run.0 others q run.2)
+
+-- each at its place
+passes_same : {P : Type 0} (R : Worker P → Worker P → Type 0) → ((a b : Worker P) → R a b → IsSame a.pass b.pass) → (xs ys : List (Worker P)) → Matches R xs ys → Matches IsSame (their_passes xs) (their_passes ys)
+passes_same R same [] [] m = tt
+passes_same R same [] (y ∷ ys) m = absurd m
+passes_same R same (x ∷ xs) [] m = absurd m
+passes_same R same (x ∷ xs) (y ∷ ys) m = (same x y m.0, passes_same R same xs ys m.1)
+
+free_same : (ps : List PassSeen) → Matches IsSame ps ps
+free_same [] = tt
+free_same (p ∷ ps) = (Same-refl p, free_same ps)
+
+both_same : (ps qs rs ss : List PassSeen) → Matches IsSame ps qs → Matches IsSame rs ss → Matches IsSame (ps ++ rs) (qs ++ ss)
+both_same [] [] rs ss m n = n
+both_same [] (q ∷ qs) rs ss m n = absurd m
+both_same (p ∷ ps) [] rs ss m n = absurd m
+both_same (p ∷ ps) (q ∷ qs) rs ss m n = (m.0, both_same ps qs rs ss m.1 n)
+
+pub all_same : {U T : Type 0} (R : Worker U → Worker U → Type 0) (S : Worker T → Worker T → Type 0) → ((a b : Worker U) → R a b → IsSame a.pass b.pass) → ((a b : Worker T) → S a b → IsSame a.pass b.pass)
+    → (before after : ServerSeen U T) → IsServer before after → Matches R before.sockets after.sockets → Matches S before.listeners after.listeners → KeepsPasses before after
+all_same R S r s before after same m n =
+    both_same before.free after.free _ _ (subst (Matches IsSame before.free) (sym same.free) (free_same before.free))
+    (both_same (their_passes before.sockets) (their_passes after.sockets) (their_passes before.listeners) (their_passes after.listeners)
+    (passes_same R r before.sockets after.sockets m) (passes_same S s before.listeners after.listeners n))

@@ -5,7 +5,8 @@ use Rattle.dns_keeper.specs.declared.row.Row.{Row}
 use Rattle.dns_book.specs.declared.ask.Ask.{Ask}
 use Rattle.dns_book.specs.declared.ask.Settled.{Settled}
 use Rattle.dns_book.specs.Access.{Access}
-use Rattle.dns_ports.specs.Ports.{Datagram, Reply}
+use Rattle.dns_edges.specs.Edges.{SourceOf, SinkOf, ClockOf}
+use Rattle.dns_ports.specs.Ports.{UdpTold, ListenerOf}
 use Rattle.dns_ports.specs.declared.port.Accepted.{Accepted}
 use Rattle.dns_requests.specs.declared.serve_fault.ServeFault.{ServeFault}
 use Rattle.dns_requests.specs.declared.serve_fault.ServeFault.TheVariants.{Read, Write, Turns, TimedOut, OutOfMemory}
@@ -40,39 +41,38 @@ module _ {K : Type 0} (krows : K → Option (List Row)) (kfaults : K → ℕ) (a
   failed_by_messages before (ask ∷ asks) bytes after run = failed_by_step before ask run.0 run.1 run.3 + failed_by_messages run.1 asks run.2 after run.5
 
   -- of a connection that was served, with this answer
-  abbrev pub failed_by_serving : {S W C : Type 0} (left : S → Option (List ℕ)) (read_faults : S → ℕ) (taken : W → Option (List ℕ)) (write_faults : W → ℕ) (ticks : C → ℕ → C → Type 0) (terms : Terms)
-      (before after : Parts PassSeen S W C) (answer : Result ℕ ServeFault) → Ends (SettledBy krows kfaults access) LeftBy left read_faults taken write_faults ticks terms before after answer → ℕ
-  failed_by_serving left read_faults taken write_faults ticks terms before after (Ok n) ends = failed_by_messages _ _ _ _ ends.answers.run
-  failed_by_serving left read_faults taken write_faults ticks terms before after (Err Read) ends = failed_by_messages _ _ _ _ ends.answers.run
-  failed_by_serving left read_faults taken write_faults ticks terms before after (Err Write) ends = failed_by_messages _ _ _ _ ends.answers.run
-  failed_by_serving left read_faults taken write_faults ticks terms before after (Err (Turns n)) ends = failed_by_messages _ _ _ _ ends.answers.run
-  failed_by_serving left read_faults taken write_faults ticks terms before after (Err (TimedOut since limit at)) ends = failed_by_messages _ _ _ _ ends.answers.run
-  failed_by_serving left read_faults taken write_faults ticks terms before after (Err OutOfMemory) ends = failed_by_messages _ _ _ _ ends.answers.answered.run
+  abbrev pub failed_by_serving : {S W C : Type 0} (source : SourceOf S) (sink : SinkOf W) (clock : ClockOf C) (terms : Terms) (before after : Parts PassSeen S W C) (answer : Result ℕ ServeFault)
+      → Ends (SettledBy krows kfaults access) LeftBy source sink clock terms before after answer → ℕ
+  failed_by_serving source sink clock terms before after (Ok n) ends = failed_by_messages _ _ _ _ ends.answers.run
+  failed_by_serving source sink clock terms before after (Err Read) ends = failed_by_messages _ _ _ _ ends.answers.run
+  failed_by_serving source sink clock terms before after (Err Write) ends = failed_by_messages _ _ _ _ ends.answers.run
+  failed_by_serving source sink clock terms before after (Err (Turns n)) ends = failed_by_messages _ _ _ _ ends.answers.run
+  failed_by_serving source sink clock terms before after (Err (TimedOut since limit at)) ends = failed_by_messages _ _ _ _ ends.answers.run
+  failed_by_serving source sink clock terms before after (Err OutOfMemory) ends = failed_by_messages _ _ _ _ ends.answers.answered.run
 
   -- the meanings of a connection
-  module _ {R W C : Type 0} (left_of : R → Option (List ℕ)) (read_faults : R → ℕ) (taken flushed : W → Option (List ℕ)) (write_faults : W → ℕ) (ticks : C → ℕ → C → Type 0) where
+  module _ {R W C : Type 0} (source : SourceOf R) (sink : SinkOf W) (clock : ClockOf C) where
     -- of a connection, which was served or left alone
     abbrev pub failed_by_connection : (limit : ℕ) (before : PassSeen) (came back : Accepted R W C) (answer : Option (Result ℕ ServeFault)) (after : PassSeen)
-        → TreatsBy (SettledBy krows kfaults access) LeftBy left_of read_faults taken flushed write_faults ticks limit before came back answer after → ℕ
+        → TreatsBy (SettledBy krows kfaults access) LeftBy source sink clock limit before came back answer after → ℕ
     failed_by_connection limit before came back None after treated = 0
-    failed_by_connection limit before came back (Some answer) after treated = failed_by_serving left_of read_faults taken write_faults ticks _ _ _ answer treated.ends
+    failed_by_connection limit before came back (Some answer) after treated = failed_by_serving source sink clock _ _ _ answer treated.ends
 
     -- of the connections of a listener
     abbrev pub failed_by_connections : (limit : ℕ) (before : PassSeen) (handled : List (HandedBack R W C)) (after : PassSeen)
-        → ConnectionRun (SettledBy krows kfaults access) LeftBy left_of read_faults taken flushed write_faults ticks limit before handled after → ℕ
+        → ConnectionRun (SettledBy krows kfaults access) LeftBy source sink clock limit before handled after → ℕ
     failed_by_connections limit before [] after run = 0
     failed_by_connections limit before (one ∷ others) after run =
         failed_by_connection limit before one.came one.back one.answer run.0 run.1 + failed_by_connections limit run.0 others after run.2
 
-    -- of the worker of a listener
-    abbrev pub failed_by_listener : {T : Type 0} (left accepted ended : T → Option (List (Accepted R W C))) (faults : T → ℕ) (before after : Worker T)
-        → ServedListener krows kfaults left_of read_faults taken flushed write_faults ticks left accepted ended faults access before after → ℕ
-    failed_by_listener left accepted ended faults before after served = failed_by_connections before.limit before.pass served.works.work.handled after.pass served.works.work.run
+  -- of the worker of a listener
+  abbrev pub failed_by_listener : {T R W C : Type 0} (listener : ListenerOf T R W C) (before after : Worker T) → ServedListener krows kfaults listener access before after → ℕ
+  failed_by_listener listener before after served =
+      failed_by_connections listener.input listener.output listener.time before.limit before.pass served.works.work.handled after.pass served.works.work.run
 
   -- of the worker of a socket
-  abbrev pub failed_by_socket : {U : Type 0} (left received : U → Option (List Datagram)) (taken : U → Option (List Reply)) (faults : U → ℕ) (before after : Worker U)
-      → ServedSocket krows kfaults left received taken faults access before after → ℕ
-  failed_by_socket left received taken faults before after served = failed_by_datagrams before.pass served.works.work.handled after.pass served.works.work.run
+  abbrev pub failed_by_socket : {U : Type 0} (socket : U → UdpTold) (before after : Worker U) → ServedSocket krows kfaults socket access before after → ℕ
+  failed_by_socket socket before after served = failed_by_datagrams before.pass served.works.work.handled after.pass served.works.work.run
 
 -- f of each and the one at its place, added up
 abbrev pub added_up : {A B : Type 0} {R : A → B → Type 0} → ((x : A) (y : B) → R x y → ℕ) → (xs : List A) (ys : List B) → Matches R xs ys → ℕ

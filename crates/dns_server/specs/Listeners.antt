@@ -1,11 +1,13 @@
 -- What the worker of a listener does with the connections that come in (RFC 1035 4.2.2, RFC 7766).
 use Rattle.std.specs.Prelude.{◌≡◌, ℕ, Bool, ◌^◌, ◌≤◌, true, false, List, [], ◌∷◌, map, Option, None, Some, Result, Ok, Err}
 use Rattle.std.specs.List.{sum_by}
-use Rattle.dns_io.specs.declared.edge.IoFault.{IoFault}
-use Rattle.dns_io.specs.declared.edge.IoFault.TheVariants as io
-use Rattle.dns_io.specs.Edge.{Grows, Keeps, Rose, Takes}
+use Rattle.dns_io.specs.declared.io_fault.IoFault.{IoFault}
+use Rattle.dns_io.specs.declared.io_fault.IoFault.TheVariants as io
+use Rattle.dns_io.specs.Told.{Grows, Keeps, Rose, Takes}
+use Rattle.dns_edges.specs.Edges.{SourceOf, SinkOf, ClockOf}
 use Rattle.dns_book.specs.declared.ask.Ask.{Ask}
 use Rattle.dns_book.specs.declared.ask.Settled.{Settled}
+use Rattle.dns_ports.specs.Ports.{ListenerOf}
 use Rattle.dns_ports.specs.declared.port.Accepted.{Accepted}
 use Rattle.dns_server_core.specs.Connections.{is_safe}
 use Rattle.dns_requests.specs.declared.serve_fault.ServeFault.{ServeFault}
@@ -29,18 +31,17 @@ abbrev pub unmet : {R W C : Type 0} → List (HandedBack R W C) → ℕ
 unmet = sum_by (λ one. unmet_by one.answer)
 
 -- the meanings of a handler, and of the source, the sink and the clock of a connection
-module _ {H R W C : Type 0} (serves : H → Ask → Settled → H → Type 0) (skips : H → H → Type 0) (left : R → Option (List ℕ)) (read_faults : R → ℕ)
-    (taken flushed : W → Option (List ℕ)) (write_faults : W → ℕ) (ticks : C → ℕ → C → Type 0) (limit : ℕ) where
+module _ {H R W C : Type 0} (serves : H → Ask → Settled → H → Type 0) (skips : H → H → Type 0) (source : SourceOf R) (sink : SinkOf W) (clock : ClockOf C) (limit : ℕ) where
   -- a connection from a safe peer was served, with this answer, under the limit and at most 2^32 reads
   pub record IsServed (before : H) (came back : Accepted R W C) (answer : Result ℕ ServeFault) (after : H) : Type 0 where
     pub safe : is_safe came.peer ≡ true
     pub peer : back.peer ≡ came.peer
-    pub ends : Ends serves skips left read_faults taken write_faults ticks (record { peer = came.peer; limit = limit; reads = 2 ^ 32 })
+    pub ends : Ends serves skips source sink clock (record { peer = came.peer; limit = limit; reads = 2 ^ 32 })
         (record { handler = before; source = came.input; sink = came.output; clock = came.time })
         (record { handler = after; source = back.input; sink = back.output; clock = back.time }) answer
-    pub unflushed : Keeps (flushed came.output) (flushed back.output)
-    pub source_later : read_faults came.input ≤ read_faults back.input
-    pub sink_later : write_faults came.output ≤ write_faults back.output
+    pub unflushed : Keeps (sink.told came.output).flushed (sink.told back.output).flushed
+    pub source_later : (source.told came.input).faults ≤ (source.told back.input).faults
+    pub sink_later : (sink.told came.output).faults ≤ (sink.told back.output).faults
 
   -- a connection was served with some answer; the flag says that memory was found for it
   pub record Serves (before : H) (came : Accepted R W C) (after : H) (back : Accepted R W C) (found : Bool) : Type 0 where
@@ -65,34 +66,37 @@ module _ {H R W C : Type 0} (serves : H → Ask → Settled → H → Type 0) (s
   Run before (one ∷ others) after = (between : H) × TreatsBy before one.came one.back one.answer between × Run between others after
 
 -- the meanings of a handler, and of a listener and its connections
-module _ {H T R W C : Type 0} (serves : H → Ask → Settled → H → Type 0) (skips : H → H → Type 0) (left_of : R → Option (List ℕ)) (read_faults : R → ℕ)
-    (taken flushed : W → Option (List ℕ)) (write_faults : W → ℕ) (ticks : C → ℕ → C → Type 0) (limit : ℕ)
-    (left accepted ended : T → Option (List (Accepted R W C))) (faults : T → ℕ) (before after : Post H T) where
+module _ {H T R W C : Type 0} (serves : H → Ask → Settled → H → Type 0) (skips : H → H → Type 0) (listener : ListenerOf T R W C) (limit : ℕ) (before after : Post H T) where
+  -- no accepting failed
+  abbrev pub IsCalm : Type 0
+  IsCalm = (listener.told after.port).faults ≡ (listener.told before.port).faults
+
   -- a connection was served or left alone, and handed back; the flag says that memory was found for it
   pub record Attends (came : Accepted R W C) (found : Bool) : Type 0 where
     pub back : Accepted R W C
     pub answer : Option (Result ℕ ServeFault)
-    pub treated : TreatsBy serves skips left_of read_faults taken flushed write_faults ticks limit before.handler came back answer after.handler
-    pub unread : Keeps (left before.port) (left after.port)
-    pub unaccepted : Keeps (accepted before.port) (accepted after.port)
-    pub handed : Grows (ended before.port) (ended after.port) (back ∷ [])
-    pub later : faults before.port ≤ faults after.port
+    pub treated : TreatsBy serves skips listener.input listener.output listener.time limit before.handler came back answer after.handler
+    pub unread : Keeps (listener.told before.port).left (listener.told after.port).left
+    pub unaccepted : Keeps (listener.told before.port).accepted (listener.told after.port).accepted
+    pub handed : Grows (listener.told before.port).ended (listener.told after.port).ended (back ∷ [])
+    pub calm : IsCalm
     pub met : found ≡ true → unmet_by answer ≡ 0
 
   -- each connection that was accepted was served or left alone, and handed back
   pub record Attending : Type 0 where
     pub handled : List (HandedBack R W C)
-    pub run : Run serves skips left_of read_faults taken flushed write_faults ticks limit before.handler handled after.handler
-    pub came : Takes (left before.port) (left after.port) (map (λ one. one.came) handled)
-    pub noted : Grows (accepted before.port) (accepted after.port) (map (λ one. one.came) handled)
-    pub handed : Grows (ended before.port) (ended after.port) (map (λ one. one.back) handled)
-    pub later : faults before.port ≤ faults after.port
+    pub run : Run serves skips listener.input listener.output listener.time limit before.handler handled after.handler
+    pub came : Takes (listener.told before.port).left (listener.told after.port).left (map (λ one. one.came) handled)
+    pub noted : Grows (listener.told before.port).accepted (listener.told after.port).accepted (map (λ one. one.came) handled)
+    pub handed : Grows (listener.told before.port).ended (listener.told after.port).ended (map (λ one. one.back) handled)
+    pub later : (listener.told before.port).faults ≤ (listener.told after.port).faults
 
-  -- why a worker ends, by its answer: nothing is left, and memory was found for all; or an accepting failed
+  -- why a worker ends, by its answer: nothing is left, and memory was found for all; or an accepting failed. Where it did not end by
+  -- that, none failed, and what was served counted nothing here
   abbrev pub EndsBy : List (HandedBack R W C) → Result (Unit {0}) IoFault → Type 0
-  EndsBy handled (Ok done) = IsAtEnd (left after.port) × (unmet handled ≡ 0)
-  EndsBy handled (Err io.Failed) = Rose (faults before.port) (faults after.port)
-  EndsBy handled (Err io.OutOfMemory) = Unit {0}
+  EndsBy handled (Ok done) = IsAtEnd (listener.told after.port).left × (unmet handled ≡ 0) × IsCalm
+  EndsBy handled (Err io.Failed) = Rose (listener.told before.port).faults (listener.told after.port).faults
+  EndsBy handled (Err io.OutOfMemory) = IsCalm
 
   -- what a listener's worker did, with its answer
   pub record WorksListener (result : Result (Unit {0}) IoFault) : Type 0 where

@@ -1,20 +1,21 @@
 -- A server that shares a book among workers.
-use Rattle.std.specs.Prelude.{◌≡◌, ◌⊎◌, ◌+◌, ◌<◌, ◌==◌, if◌then◌else◌, ℕ, Bool, true, false, List, [], ◌∷◌, ◌++◌, length, map, Option, Result, Ok, Err, IfErr, IsErrOf, OnOk}
+use Rattle.std.specs.Prelude.{◌≡◌, ◌⊎◌, ◌+◌, ◌<◌, ◌≤◌, ◌==◌, if◌then◌else◌, ℕ, Bool, true, false, List, [], ◌∷◌, ◌++◌, length, map, Option, Result, Ok, Err, IfErr, IsErrOf, OnOk}
 use Rattle.std.specs.List.{AllByRecursion}
-use Rattle.dns_io.specs.declared.edge.IoFault.{IoFault}
-use Rattle.dns_io.specs.Edge.{Rose}
+use Rattle.dns_io.specs.declared.io_fault.IoFault.{IoFault}
+use Rattle.dns_io.specs.declared.io_fault.IoFault.TheVariants as io
+use Rattle.dns_io.specs.Told.{Rose, Takes}
+use Rattle.dns_edges.specs.Edges.{Around, SourceTold}
 use Rattle.dns_keeper.specs.declared.row.Row.{Row}
 use Rattle.dns_transport.specs.declared.error.NetError.{NetError}
 use Rattle.dns_transport.specs.declared.error.NetError.TheVariants.{Io, OutOfMemory}
 use Rattle.dns_transport.specs.Faults.{of_io}
 use Rattle.dns_book.specs.Access.{Access}
-use Rattle.dns_ports.specs.Ports.{Datagram, Reply}
-use Rattle.dns_ports.specs.declared.port.Accepted.{Accepted}
+use Rattle.dns_ports.specs.Ports.{UdpTold, TcpTold, ListenerOf}
 use Rattle.dns_ticket_lock.specs.Passes.{BookSeen, PassSeen, IsSame, SettledBy, LeftBy}
 use Rattle.dns_server.specs.declared.worker.Worker.{Worker}
 use Rattle.dns_server.specs.declared.fault.RegisterFault.{RegisterFault}
 use Rattle.dns_server.specs.declared.fault.RegisterFault.TheVariants.{Full, OutOfMemory as NoMemory}
-use Rattle.dns_server.specs.Sockets.{Post, WorksSocket}
+use Rattle.dns_server.specs.Sockets.{IsAtEnd, Post, WorksSocket}
 use Rattle.dns_server.specs.Listeners.{WorksListener}
 
 -- the shared book, who is let in, the passes of no worker, in order of their numbers at first, and the workers of sockets and of
@@ -85,29 +86,31 @@ MatchesOnce R [] ys = ⊥
 MatchesOnce R (x ∷ xs) [] = ⊥
 MatchesOnce R (x ∷ xs) (y ∷ ys) = R x y ⊎ MatchesOnce R xs ys
 
--- the meanings of a keeper and of a socket
-module _ {K U : Type 0} (krows : K → Option (List Row)) (kfaults : K → ℕ) (left received : U → Option (List Datagram)) (taken : U → Option (List Reply)) (faults : U → ℕ) (access : Access) where
+-- the meaning of a keeper, and what a socket tells
+module _ {K U : Type 0} (krows : K → Option (List Row)) (kfaults : K → ℕ) (socket : U → UdpTold) (access : Access) where
   -- what a worker of a socket did, by its own pass
   pub record ServedSocket (before after : Worker U) : Type 0 where
     pub same : IsSame before.pass after.pass
     pub limit : after.limit ≡ before.limit
-    pub works : WorksSocket (SettledBy krows kfaults access) LeftBy left received taken faults (post_of before) (post_of after) after.answer
+    pub works : WorksSocket (SettledBy krows kfaults access) LeftBy socket (post_of before) (post_of after) after.answer
 
 -- the meanings of a keeper, and of a listener and its connections
-module _ {K T R W C : Type 0} (krows : K → Option (List Row)) (kfaults : K → ℕ) (left_of : R → Option (List ℕ)) (read_faults : R → ℕ)
-    (taken flushed : W → Option (List ℕ)) (write_faults : W → ℕ) (ticks : C → ℕ → C → Type 0)
-    (left accepted ended : T → Option (List (Accepted R W C))) (faults : T → ℕ) (access : Access) where
+module _ {K T R W C : Type 0} (krows : K → Option (List Row)) (kfaults : K → ℕ) (listener : ListenerOf T R W C) (access : Access) where
   -- what a worker of a listener did, by its own pass, with the limit of its registration
   pub record ServedListener (before after : Worker T) : Type 0 where
     pub same : IsSame before.pass after.pass
     pub limit : after.limit ≡ before.limit
-    pub works : WorksListener (SettledBy krows kfaults access) LeftBy left_of read_faults taken flushed write_faults ticks before.limit left accepted ended faults (post_of before) (post_of after) after.answer
+    pub works : WorksListener (SettledBy krows kfaults access) LeftBy listener before.limit (post_of before) (post_of after) after.answer
 
 -- nothing but the workers changed
 pub record IsServer {U T : Type 0} (before after : ServerSeen U T) : Type 0 where
   pub book : after.book ≡ before.book
   pub access : after.access ≡ before.access
   pub free : after.free ≡ before.free
+
+-- all passes are the same ones, each at its place: of the same book, and with the same number
+abbrev pub KeepsPasses : {U T : Type 0} → ServerSeen U T → ServerSeen U T → Type 0
+KeepsPasses before after = Matches IsSame (all_passes before) (all_passes after)
 
 -- a worker ended well
 abbrev pub IsDone : {P : Type 0} → Worker P → Type 0
@@ -136,9 +139,23 @@ abbrev pub or_reading : Result (Unit {0}) NetError → Result (Unit {0}) IoFault
 or_reading (Ok done) reading = as_net reading
 or_reading (Err error) reading = Err error
 
--- the answer is that of the workers, or where each of them ended well, that no memory was found to read what is served until
-abbrev pub IsAnswerWhileReading : Result (Unit {0}) NetError → Result (Unit {0}) NetError → Type 0
-IsAnswerWhileReading theirs result = (result ≡ theirs) ⊎ ((theirs ≡ Ok tt) × (result ≡ Err OutOfMemory))
+-- what is served until was read to its end, and no read failed; or one failed
+abbrev pub IsReadOut : Around SourceTold → Type 0
+IsReadOut until = (IsAtEnd until.after.left × (until.after.faults ≡ until.before.faults)) ⊎ Rose until.before.faults until.after.faults
+
+-- how reading it ended, by the answer: that no memory was found to read on says that no read failed
+abbrev pub EndsReading : Around SourceTold → Result (Unit {0}) IoFault → Type 0
+EndsReading until (Ok done) = IsReadOut until
+EndsReading until (Err io.Failed) = ⊥
+EndsReading until (Err io.OutOfMemory) = until.after.faults ≡ until.before.faults
+
+-- the answer of serving, by how the workers ended, while this was read until its end, or its first fault, or want of memory
+pub record ServesUntil (until : Around SourceTold) (theirs result : Result (Unit {0}) NetError) : Type 0 where
+  pub reading : Result (Unit {0}) IoFault
+  pub ended : EndsReading until reading
+  pub answer : result ≡ or_reading theirs reading
+  pub read : (bytes : List ℕ) × Takes until.before.left until.after.left bytes
+  pub later : until.before.faults ≤ until.after.faults
 
 -- a port's count of faults rose
 abbrev pub RoseAt : {P : Type 0} → (P → ℕ) → Worker P → Worker P → Type 0
@@ -149,10 +166,11 @@ abbrev pub IsServingError : NetError → Type 0
 IsServingError e = (e ≡ Io) ⊎ (e ≡ OutOfMemory)
 
 -- the answer of serving: fine where each worker ended well, and `Io` only where the count of a port rose
-pub record AnswersFor {U T : Type 0} (socket_faults : U → ℕ) (listener_faults : T → ℕ) (before after : ServerSeen U T) (result : Result (Unit {0}) NetError) : Type 0 where
+pub record AnswersFor {U T R W C : Type 0} (socket : U → UdpTold) (listener : T → TcpTold R W C) (before after : ServerSeen U T) (result : Result (Unit {0}) NetError) : Type 0 where
   pub sockets : OnOk result (AllByRecursion IsDone after.sockets)
   pub listeners : OnOk result (AllByRecursion IsDone after.listeners)
-  pub failed : IsErrOf result Io → MatchesOnce (RoseAt socket_faults) before.sockets after.sockets ⊎ MatchesOnce (RoseAt listener_faults) before.listeners after.listeners
+  pub failed : IsErrOf result Io
+      → MatchesOnce (RoseAt (λ port. (socket port).faults)) before.sockets after.sockets ⊎ MatchesOnce (RoseAt (λ port. (listener port).faults)) before.listeners after.listeners
   pub kind : IfErr result IsServingError
 
 -- why a port is not registered: exactly where there are as many workers as seats it is that

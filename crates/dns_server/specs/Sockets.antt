@@ -1,14 +1,14 @@
 -- What the worker of a socket does with the datagrams that come in (RFC 1035 4.2.1).
-use Rattle.std.specs.Prelude.{◌≡◌, ◌⊎◌, ◌≤◌, ℕ, Bool, true, false, List, [], ◌∷◌, map, Option, None, Some, IsSome, IfSome, Result, Ok, Err}
+use Rattle.std.specs.Prelude.{◌≡◌, ◌⊎◌, ◌≤◌, ◌+◌, ℕ, Bool, true, false, List, [], ◌∷◌, map, Option, None, Some, IsSome, IfSome, Result, Ok, Err}
 use Rattle.std.specs.List.{flat_map, sum_by}
-use Rattle.dns_io.specs.declared.edge.IoFault.{IoFault}
-use Rattle.dns_io.specs.declared.edge.IoFault.TheVariants.{Failed, OutOfMemory}
+use Rattle.dns_io.specs.declared.io_fault.IoFault.{IoFault}
+use Rattle.dns_io.specs.declared.io_fault.IoFault.TheVariants.{Failed, OutOfMemory}
 use Rattle.dns_io.specs.declared.peer.Peer.{Peer}
 use Rattle.dns_io.specs.declared.peer.Protocol.TheVariants.{Udp}
-use Rattle.dns_io.specs.Edge.{Grows, Keeps, Rose, Takes}
+use Rattle.dns_io.specs.Told.{Grows, Keeps, Takes}
 use Rattle.dns_book.specs.declared.ask.Ask.{Ask}
 use Rattle.dns_book.specs.declared.ask.Settled.{Settled}
-use Rattle.dns_ports.specs.Ports.{Datagram, Reply}
+use Rattle.dns_ports.specs.Ports.{Datagram, Reply, UdpTold}
 use Rattle.dns_server_core.specs.Books.{RoseBy}
 
 -- what became of a datagram: it was settled, and the socket took its reply, where one was owed; or the socket refused the reply;
@@ -64,6 +64,18 @@ unmet_by Skipped = 1
 abbrev pub unmet : List Handled → ℕ
 unmet = sum_by (λ one. unmet_by one.fate)
 
+-- how settling a message ended, by what became of it: the socket refused the reply, or no memory was found
+abbrev pub outcome_of : Fate → Result (Unit {0}) IoFault
+outcome_of (Answered settled) = Ok tt
+outcome_of (Refused settled fault) = Err fault
+outcome_of Skipped = Err OutOfMemory
+
+-- whether memory was found
+abbrev pub found_memory : Result (Unit {0}) IoFault → Bool
+found_memory (Ok done) = true
+found_memory (Err Failed) = true
+found_memory (Err OutOfMemory) = false
+
 -- the meanings of a handler
 module _ {H : Type 0} (serves : H → Ask → Settled → H → Type 0) (skips : H → H → Type 0) where
   -- the step of the handler for this message. Where no memory was found even to hand it over, the handler did nothing
@@ -93,35 +105,44 @@ pub record Post (H P : Type 0) : Type 0 where
   pub handler : H
   pub port : P
 
--- the meanings of a handler and of a socket
-module _ {H U : Type 0} (serves : H → Ask → Settled → H → Type 0) (skips : H → H → Type 0) (left received : U → Option (List Datagram)) (taken : U → Option (List Reply)) (faults : U → ℕ)
-    (before after : Post H U) where
-  -- one message is settled, and its sender answered; the flag says that memory was found for both
-  pub record Handles (ask : Ask) (found : Bool) : Type 0 where
+-- the meanings of a handler, and what a socket tells
+module _ {H U : Type 0} (serves : H → Ask → Settled → H → Type 0) (skips : H → H → Type 0) (socket : U → UdpTold) (before after : Post H U) where
+  -- the count of the socket's faults rose by this many at least, or stands at its last value
+  abbrev pub Raised : ℕ → Type 0
+  Raised count = RoseBy count (socket before.port).faults (socket after.port).faults
+
+  -- where none of these many calls failed, it is what it was
+  abbrev pub IsCalmWithout : ℕ → Type 0
+  IsCalmWithout count = count ≡ 0 → (socket after.port).faults ≡ (socket before.port).faults
+
+  -- one message is settled, and its sender answered, with this outcome
+  pub record Handles (ask : Ask) (outcome : Result (Unit {0}) IoFault) : Type 0 where
     pub fate : Fate
     pub step : Steps serves skips before.handler ask fate after.handler
-    pub unread : Keeps (left before.port) (left after.port)
-    pub unreceived : Keeps (received before.port) (received after.port)
-    pub answered : Grows (taken before.port) (taken after.port) (taken_by ask.source fate)
-    pub rose : RoseBy (failed_by fate) (faults before.port) (faults after.port)
-    pub later : faults before.port ≤ faults after.port
-    pub met : found ≡ true → unmet_by fate ≡ 0
+    pub unread : Keeps (socket before.port).left (socket after.port).left
+    pub unreceived : Keeps (socket before.port).received (socket after.port).received
+    pub answered : Grows (socket before.port).taken (socket after.port).taken (taken_by ask.source fate)
+    pub rose : Raised (failed_by fate)
+    pub calm : IsCalmWithout (failed_by fate)
+    pub later : (socket before.port).faults ≤ (socket after.port).faults
+    pub is : outcome ≡ outcome_of fate
 
   -- one step of the handler for each datagram received, in order; the socket took the replies, but those that it refused
   pub record Handling : Type 0 where
     pub handled : List Handled
     pub run : Run serves skips before.handler handled after.handler
-    pub came : Takes (left before.port) (left after.port) (map (λ one. one.datagram) handled)
-    pub noted : Grows (received before.port) (received after.port) (map (λ one. one.datagram) handled)
-    pub answered : Grows (taken before.port) (taken after.port) (answers_of handled)
-    pub rose : RoseBy (failures handled) (faults before.port) (faults after.port)
-    pub later : faults before.port ≤ faults after.port
+    pub came : Takes (socket before.port).left (socket after.port).left (map (λ one. one.datagram) handled)
+    pub noted : Grows (socket before.port).received (socket after.port).received (map (λ one. one.datagram) handled)
+    pub answered : Grows (socket before.port).taken (socket after.port).taken (answers_of handled)
+    pub rose : Raised (failures handled)
+    pub later : (socket before.port).faults ≤ (socket after.port).faults
 
-  -- why a worker ends, by its answer: nothing is left, and memory was found for all; or a receiving failed
+  -- why a worker ends, by its answer: nothing is left, and memory was found for all; or a receiving failed, which was counted beside each
+  -- reply that the socket failed to take. It ends by a receiving alone; where that did not fail, only such replies were counted
   abbrev pub EndsBy : List Handled → Result (Unit {0}) IoFault → Type 0
-  EndsBy handled (Ok done) = IsAtEnd (left after.port) × (unmet handled ≡ 0)
-  EndsBy handled (Err Failed) = Rose (faults before.port) (faults after.port)
-  EndsBy handled (Err OutOfMemory) = Unit {0}
+  EndsBy handled (Ok done) = IsAtEnd (socket after.port).left × (unmet handled ≡ 0) × IsCalmWithout (failures handled)
+  EndsBy handled (Err Failed) = Raised (failures handled + 1)
+  EndsBy handled (Err OutOfMemory) = IsCalmWithout (failures handled)
 
   -- what a socket's worker did, with its answer
   pub record WorksSocket (result : Result (Unit {0}) IoFault) : Type 0 where

@@ -2,7 +2,7 @@
 
 ghost use Rattle.std.specs.Prelude.{◌≡◌};
 ghost use Rattle.std.specs.List.{AllByRecursion};
-ghost use Rattle.dns_requests.specs.Arrivals.{Ticks};
+ghost use Rattle.dns_ports.specs.Ports.{listener_of};
 ghost use Rattle.dns_server.specs.Servers.{IsOf, Matches, ServedListener, their_passes};
 
 use crate::listener_worker::serve_listener;
@@ -29,7 +29,7 @@ where
     T::Out: Send,
     T::Time: Send,
     requires { AllByRecursion (IsOf book.now) (their_passes workers.old) }
-    ensures { Matches (ServedListener K.rows K.faults T.In.left T.In.faults T.Out.taken T.Out.flushed T.Out.faults (Ticks T.Time.last) T.left T.accepted T.ended T.faults access.now) workers.old workers.new }
+    ensures { Matches (ServedListener K.rows K.faults (listener_of T.told T.In.source T.Out.sink T.Time.clock) access.now) workers.old workers.new }
 {
     if workers.is_empty() {
         return;
@@ -41,7 +41,7 @@ where
         threads,
         &|_place: usize, worker: &mut Worker<T>|
             requires { worker.now.pass.book ≡ book.now.id }
-            ensures { ServedListener K.rows K.faults T.In.left T.In.faults T.Out.taken T.Out.flushed T.Out.faults (Ticks T.Time.last) T.left T.accepted T.ended T.faults access.entry.now worker.entry.now worker.exit.now }
+            ensures { ServedListener K.rows K.faults (listener_of T.told T.In.source T.Out.sink T.Time.clock) access.entry.now worker.entry.now worker.exit.now }
         { run_listener(rt, alloc, book, access, worker) },
     );
 }
@@ -55,7 +55,7 @@ fn run_listener<K: Keeper, T: TcpPort, R: Wait>(
     worker: &mut Worker<T>,
 )
     requires { worker.old.pass.book ≡ book.now.id }
-    ensures { ServedListener K.rows K.faults T.In.left T.In.faults T.Out.taken T.Out.flushed T.Out.faults (Ticks T.Time.last) T.left T.accepted T.ended T.faults access.now worker.old worker.new }
+    ensures { ServedListener K.rows K.faults (listener_of T.told T.In.source T.Out.sink T.Time.clock) access.now worker.old worker.new }
 {
     replace_with(worker, (), |worker: Worker<T>, _nothing: ()| {
         (end_listener(rt, alloc, book, access, worker), ())
@@ -71,7 +71,7 @@ fn end_listener<K: Keeper, T: TcpPort, R: Wait>(
     worker: Worker<T>,
 ) -> Worker<T>
     requires { worker.pass.book ≡ book.now.id }
-    ensures { ServedListener K.rows K.faults T.In.left T.In.faults T.Out.taken T.Out.flushed T.Out.faults (Ticks T.Time.last) T.left T.accepted T.ended T.faults access.now worker result }
+    ensures { ServedListener K.rows K.faults (listener_of T.told T.In.source T.Out.sink T.Time.clock) access.now worker result }
 {
     let Worker {
         pass,

@@ -1,13 +1,14 @@
 //! The worker of a listener.
 
 ghost use Rattle.std.specs.Prelude.{◌≡◌, ◌≤◌, ◌<◌, ◌^◌, true};
-ghost use Rattle.dns_requests.specs.Arrivals.{Ticks};
+ghost use Rattle.dns_ports.specs.Ports.{listener_of};
 ghost use Rattle.dns_server_core.specs.Connections.{is_safe};
 ghost use Rattle.dns_server.specs.Listeners.{Attends, Serves, WorksListener};
 
 use crate::socket_worker::{ended, is_short_then};
 use dns_book::{AccessControl, sanitize_src_address};
-use dns_io::{Clock, IoFault, Peer, Sink, Source};
+use dns_edges::{Clock, Sink, Source};
+use dns_io::{IoFault, Peer};
 use dns_ports::{Accepted, TcpPort};
 use dns_requests::{ServeFault, serve_connection};
 use dns_server_core::RequestHandler;
@@ -31,7 +32,7 @@ pub fn serve_listener<H: RequestHandler, T: TcpPort, R: Wait>(
     limit: u64,
 ) -> Result<(), IoFault>
     requires { limit < 2 ^ 47 }
-    ensures { WorksListener (H.serves access.now) H.skips T.In.left T.In.faults T.Out.taken T.Out.flushed T.Out.faults (Ticks T.Time.last) limit T.left T.accepted T.ended T.faults (record { handler = handler.old; port = listener.old }) (record { handler = handler.new; port = listener.new }) result }
+    ensures { WorksListener (H.serves access.now) H.skips (listener_of T.told T.In.source T.Out.sink T.Time.clock) limit (record { handler = handler.old; port = listener.old }) (record { handler = handler.new; port = listener.new }) result }
 {
     let mut is_short = false;
     for _ in rt.forever() {
@@ -56,9 +57,9 @@ fn attend<H: RequestHandler, T: TcpPort>(
     mut connection: Accepted<T::In, T::Out, T::Time>,
     limit: u64,
 ) -> bool
-    requires lent { 0 < T.lent listener.old }
+    requires lent { 0 < (T.told listener.old).lent }
     requires limit { limit < 2 ^ 47 }
-    ensures { Attends (H.serves access.now) H.skips T.In.left T.In.faults T.Out.taken T.Out.flushed T.Out.faults (Ticks T.Time.last) limit T.left T.accepted T.ended T.faults (record { handler = handler.old; port = listener.old }) (record { handler = handler.new; port = listener.new }) connection result }
+    ensures { Attends (H.serves access.now) H.skips (listener_of T.told T.In.source T.Out.sink T.Time.clock) limit (record { handler = handler.old; port = listener.old }) (record { handler = handler.new; port = listener.new }) connection result }
 {
     if !is_safe(&connection.peer) {
         listener.done(connection);
@@ -86,7 +87,7 @@ fn serve<H: RequestHandler, R: Source, W: Sink, C: Clock>(
 ) -> bool
     requires safe { is_safe connection.old.peer ≡ true }
     requires limit { limit < 2 ^ 47 }
-    ensures { Serves (H.serves access.now) H.skips R.left R.faults W.taken W.flushed W.faults (Ticks C.last) limit handler.old connection.old handler.new connection.new result }
+    ensures { Serves (H.serves access.now) H.skips R.source W.sink C.clock limit handler.old connection.old handler.new connection.new result }
 {
     let ended = serve_connection(
         alloc,

@@ -1,12 +1,11 @@
 //! How the workers are run.
 
-ghost use Rattle.std.specs.Prelude.{◌≡◌, ◌⊎◌, ◌≤◌, ℕ, List, length, OnOk, IfErr};
+ghost use Rattle.std.specs.Prelude.{◌≡◌, ◌≤◌, ℕ, List, length, OnOk};
 ghost use Rattle.std.specs.List.{AllByRecursion};
-ghost use Rattle.dns_io.specs.declared.edge.IoFault.TheVariants.{OutOfMemory as NoMemory};
-ghost use Rattle.dns_io.specs.Edge.{Rose, Takes};
-ghost use Rattle.dns_requests.specs.Arrivals.{Ticks};
-ghost use Rattle.dns_server.specs.Sockets.{IsAtEnd};
-ghost use Rattle.dns_server.specs.Servers.{AnswersFor, IsAnswerWhileReading, IsOf, IsServer, Matches, ServedListener, ServedSocket, answer_of, as_net, first_fault, or_later, or_reading, their_passes};
+ghost use Rattle.dns_io.specs.Told.{Takes};
+ghost use Rattle.dns_edges.specs.Edges.{around};
+ghost use Rattle.dns_ports.specs.Ports.{listener_of};
+ghost use Rattle.dns_server.specs.Servers.{AnswersFor, EndsReading, IsOf, IsReadOut, IsServer, KeepsPasses, Matches, ServedListener, ServedSocket, ServesUntil, answer_of, as_net, first_fault, or_later, or_reading, their_passes};
 
 use crate::listener_threads::run_listeners;
 use crate::server::ThreadServer;
@@ -14,7 +13,8 @@ use crate::socket_threads::run_sockets;
 use crate::until::read_out;
 use crate::worker::Worker;
 use dns_book::AccessControl;
-use dns_io::{IoFault, Source};
+use dns_edges::Source;
+use dns_io::IoFault;
 use dns_keeper::Keeper;
 use dns_ports::{StopToken, TcpPort, UdpPort};
 use dns_ticket_lock::TicketBook;
@@ -34,10 +34,11 @@ where
     /// in order of registration: `Io` only where a port's count of faults rose; `OutOfMemory` also where memory was wanting for a
     /// message, an answer or a connection, and its worker went on.
     pub fn block_until_done<R: Threads + Wait + Sync>(&mut self, rt: &R) -> Result<(), NetError>
-        ensures sockets { Matches (ServedSocket K.rows K.faults U.left U.received U.taken U.faults self.old.access) self.old.sockets self.new.sockets }
-        ensures listeners { Matches (ServedListener K.rows K.faults T.In.left T.In.faults T.Out.taken T.Out.flushed T.Out.faults (Ticks T.Time.last) T.left T.accepted T.ended T.faults self.old.access) self.old.listeners self.new.listeners }
+        ensures sockets { Matches (ServedSocket K.rows K.faults U.told self.old.access) self.old.sockets self.new.sockets }
+        ensures listeners { Matches (ServedListener K.rows K.faults (listener_of T.told T.In.source T.Out.sink T.Time.clock) self.old.access) self.old.listeners self.new.listeners }
         ensures others { IsServer self.old self.new }
-        ensures answer { AnswersFor U.faults T.faults self.old self.new result }
+        ensures passes { KeepsPasses self.old self.new }
+        ensures answer { AnswersFor U.told T.told self.old self.new result }
         ensures first { result ≡ answer_of self.new }
     {
         self.run(rt);
@@ -46,10 +47,11 @@ where
 
     /// Stops the token, and then waits as [`ThreadServer::block_until_done`] does. Messages that were taken are answered.
     pub fn shutdown_gracefully<R: Threads + Wait + Sync>(&mut self, rt: &R) -> Result<(), NetError>
-        ensures sockets { Matches (ServedSocket K.rows K.faults U.left U.received U.taken U.faults self.old.access) self.old.sockets self.new.sockets }
-        ensures listeners { Matches (ServedListener K.rows K.faults T.In.left T.In.faults T.Out.taken T.Out.flushed T.Out.faults (Ticks T.Time.last) T.left T.accepted T.ended T.faults self.old.access) self.old.listeners self.new.listeners }
+        ensures sockets { Matches (ServedSocket K.rows K.faults U.told self.old.access) self.old.sockets self.new.sockets }
+        ensures listeners { Matches (ServedListener K.rows K.faults (listener_of T.told T.In.source T.Out.sink T.Time.clock) self.old.access) self.old.listeners self.new.listeners }
         ensures others { IsServer self.old self.new }
-        ensures answer { AnswersFor U.faults T.faults self.old self.new result }
+        ensures passes { KeepsPasses self.old self.new }
+        ensures answer { AnswersFor U.told T.told self.old self.new result }
         ensures first { result ≡ answer_of self.new }
     {
         self.token.stop();
@@ -57,21 +59,20 @@ where
     }
 
     /// As [`ThreadServer::block_until_done`], while the caller reads `until` to its end or first fault, and then stops the token. `Ok`
-    /// only where `until` has nothing left or its count of faults rose; where each worker ended well, `OutOfMemory` says that no memory
-    /// was found to read it.
+    /// only where `until` has nothing left and no read of it failed, or its count of faults rose; where each worker ended well,
+    /// `OutOfMemory` says that no memory was found to read it, and that no read of it failed.
     pub fn serve_until<E: Source, R: Threads + Wait + Sync>(
         &mut self,
         rt: &R,
         until: &mut E,
     ) -> Result<(), NetError>
-        ensures sockets { Matches (ServedSocket K.rows K.faults U.left U.received U.taken U.faults self.old.access) self.old.sockets self.new.sockets }
-        ensures listeners { Matches (ServedListener K.rows K.faults T.In.left T.In.faults T.Out.taken T.Out.flushed T.Out.faults (Ticks T.Time.last) T.left T.accepted T.ended T.faults self.old.access) self.old.listeners self.new.listeners }
+        ensures sockets { Matches (ServedSocket K.rows K.faults U.told self.old.access) self.old.sockets self.new.sockets }
+        ensures listeners { Matches (ServedListener K.rows K.faults (listener_of T.told T.In.source T.Out.sink T.Time.clock) self.old.access) self.old.listeners self.new.listeners }
         ensures others { IsServer self.old self.new }
-        ensures answer { AnswersFor U.faults T.faults self.old self.new result }
-        ensures first { IsAnswerWhileReading (answer_of self.new) result }
-        ensures until { OnOk result (IsAtEnd (E.left until.new) ⊎ Rose (E.faults until.old) (E.faults until.new)) }
-        ensures read { (bytes : List ℕ) × Takes (E.left until.old) (E.left until.new) bytes }
-        ensures later { E.faults until.old ≤ E.faults until.new }
+        ensures passes { KeepsPasses self.old self.new }
+        ensures answer { AnswersFor U.told T.told self.old self.new result }
+        ensures until { OnOk result (IsReadOut (around E.source.told until.old until.new)) }
+        ensures reading { ServesUntil (around E.source.told until.old until.new) (answer_of self.new) result }
     {
         let reading = self.run_while(rt, until);
         or_reading(self.answer(), reading)
@@ -86,8 +87,8 @@ where
 {
     /// Runs the workers.
     fn run<R: Threads + Wait + Sync>(&mut self, rt: &R)
-        ensures sockets { Matches (ServedSocket K.rows K.faults U.left U.received U.taken U.faults self.old.access) self.old.sockets self.new.sockets }
-        ensures listeners { Matches (ServedListener K.rows K.faults T.In.left T.In.faults T.Out.taken T.Out.flushed T.Out.faults (Ticks T.Time.last) T.left T.accepted T.ended T.faults self.old.access) self.old.listeners self.new.listeners }
+        ensures sockets { Matches (ServedSocket K.rows K.faults U.told self.old.access) self.old.sockets self.new.sockets }
+        ensures listeners { Matches (ServedListener K.rows K.faults (listener_of T.told T.In.source T.Out.sink T.Time.clock) self.old.access) self.old.listeners self.new.listeners }
         ensures others { IsServer self.old self.new }
     {
         run_all(
@@ -106,13 +107,12 @@ where
         rt: &R,
         until: &mut E,
     ) -> Result<(), IoFault>
-        ensures sockets { Matches (ServedSocket K.rows K.faults U.left U.received U.taken U.faults self.old.access) self.old.sockets self.new.sockets }
-        ensures listeners { Matches (ServedListener K.rows K.faults T.In.left T.In.faults T.Out.taken T.Out.flushed T.Out.faults (Ticks T.Time.last) T.left T.accepted T.ended T.faults self.old.access) self.old.listeners self.new.listeners }
+        ensures sockets { Matches (ServedSocket K.rows K.faults U.told self.old.access) self.old.sockets self.new.sockets }
+        ensures listeners { Matches (ServedListener K.rows K.faults (listener_of T.told T.In.source T.Out.sink T.Time.clock) self.old.access) self.old.listeners self.new.listeners }
         ensures others { IsServer self.old self.new }
-        ensures until { OnOk result (IsAtEnd (E.left until.new) ⊎ Rose (E.faults until.old) (E.faults until.new)) }
-        ensures memory { IfErr result (λ fault. fault ≡ NoMemory) }
-        ensures read { (bytes : List ℕ) × Takes (E.left until.old) (E.left until.new) bytes }
-        ensures later { E.faults until.old ≤ E.faults until.new }
+        ensures ended { EndsReading (around E.source.told until.old until.new) result }
+        ensures read { (bytes : List ℕ) × Takes (E.source.told until.old).left (E.source.told until.new).left bytes }
+        ensures later { (E.source.told until.old).faults ≤ (E.source.told until.new).faults }
     {
         run_beside(
             rt,
@@ -194,8 +194,8 @@ where
     T::Time: Send,
     requires sockets { AllByRecursion (IsOf book.now) (their_passes sockets.old) }
     requires listeners { AllByRecursion (IsOf book.now) (their_passes listeners.old) }
-    ensures sockets { Matches (ServedSocket K.rows K.faults U.left U.received U.taken U.faults access.now) sockets.old sockets.new }
-    ensures listeners { Matches (ServedListener K.rows K.faults T.In.left T.In.faults T.Out.taken T.Out.flushed T.Out.faults (Ticks T.Time.last) T.left T.accepted T.ended T.faults access.now) listeners.old listeners.new }
+    ensures sockets { Matches (ServedSocket K.rows K.faults U.told access.now) sockets.old sockets.new }
+    ensures listeners { Matches (ServedListener K.rows K.faults (listener_of T.told T.In.source T.Out.sink T.Time.clock) access.now) listeners.old listeners.new }
 {
     join_mut(
         rt,
@@ -231,12 +231,11 @@ where
     T::Time: Send,
     requires sockets { AllByRecursion (IsOf book.now) (their_passes sockets.old) }
     requires listeners { AllByRecursion (IsOf book.now) (their_passes listeners.old) }
-    ensures sockets { Matches (ServedSocket K.rows K.faults U.left U.received U.taken U.faults access.now) sockets.old sockets.new }
-    ensures listeners { Matches (ServedListener K.rows K.faults T.In.left T.In.faults T.Out.taken T.Out.flushed T.Out.faults (Ticks T.Time.last) T.left T.accepted T.ended T.faults access.now) listeners.old listeners.new }
-    ensures until { OnOk result (IsAtEnd (E.left until.new) ⊎ Rose (E.faults until.old) (E.faults until.new)) }
-    ensures memory { IfErr result (λ fault. fault ≡ NoMemory) }
-    ensures read { (bytes : List ℕ) × Takes (E.left until.old) (E.left until.new) bytes }
-    ensures later { E.faults until.old ≤ E.faults until.new }
+    ensures sockets { Matches (ServedSocket K.rows K.faults U.told access.now) sockets.old sockets.new }
+    ensures listeners { Matches (ServedListener K.rows K.faults (listener_of T.told T.In.source T.Out.sink T.Time.clock) access.now) listeners.old listeners.new }
+    ensures ended { EndsReading (around E.source.told until.old until.new) result }
+    ensures read { (bytes : List ℕ) × Takes (E.source.told until.old).left (E.source.told until.new).left bytes }
+    ensures later { (E.source.told until.old).faults ≤ (E.source.told until.new).faults }
 {
     let (_, ended) = join_mut(
         rt,

@@ -3,7 +3,7 @@
 ghost use Rattle.std.specs.Prelude.{◌≡◌, ◌↔◌, ◌≤◌, ◌<◌, ◌^◌, ◌++◌, [], true, OnOk, OnErr, IfOk, IfErr};
 ghost use Rattle.std.specs.List.{AllByRecursion};
 ghost use Rattle.dns_ticket_lock.specs.Naming.{terms_at};
-ghost use Rattle.dns_ticket_lock.specs.Passes.{ArePasses, ClosedFor};
+ghost use Rattle.dns_ticket_lock.specs.Passes.{AreAll, ArePasses, ClosedFor};
 ghost use Rattle.dns_server.specs.Servers.{IsOf, TakesOn, all_passes, given_back, is_full, their_passes, their_ports, worker_count};
 
 use crate::crew::{dismiss, take_on};
@@ -160,9 +160,11 @@ impl<K: Keeper, U: UdpPort + Drop, T: TcpPort + Drop> ThreadServer<K, U, T> {
         dismiss(workers, room, &mut self.free)
     }
 
-    /// Closes the server, and gives the book back. Ports that are still registered are let go. Takes no memory.
+    /// Closes the server, and gives the book back: it is closed for all its passes, one with each number from 1 to the seats. Ports that
+    /// are still registered are let go. Takes no memory.
     pub fn into_book(self) -> Book<K>
         ensures passes { AllByRecursion (IsOf self.book) (all_passes self) }
+        ensures all { AreAll self.book.id self.book.terms.seats (all_passes self) }
         ensures closed { ClosedFor K.rows K.faults self.book.terms (all_passes self) result }
     {
         let ThreadServer {

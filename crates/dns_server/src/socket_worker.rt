@@ -1,8 +1,9 @@
 //! The worker of a socket.
 
 ghost use Rattle.std.specs.Prelude.{◌≡◌, ◌≤◌, ◌<◌, ◌^◌, length, take, true, false, if◌then◌else◌, OnOk, IfOk, OnErr, IsErrOf, Some, None};
-ghost use Rattle.dns_io.specs.Edge.{Grows, HasCause, Keeps};
-ghost use Rattle.dns_server.specs.Sockets.{Ended, Handles, WorksSocket, answer_to, ask_for};
+ghost use Rattle.dns_io.specs.Told.{Grows, Keeps};
+ghost use Rattle.dns_edges.specs.Edges.{HasCause};
+ghost use Rattle.dns_server.specs.Sockets.{Ended, Handles, WorksSocket, answer_to, ask_for, found_memory};
 
 use dns_book::{AccessControl, Ask};
 use dns_io::{IoFault, Octets, OutOfMemory, Peer, Protocol};
@@ -34,7 +35,7 @@ pub fn serve_socket<H: RequestHandler, U: UdpPort, R: Wait>(
     access: &AccessControl,
     socket: &mut U,
 ) -> Result<(), IoFault>
-    ensures { WorksSocket (H.serves access.now) H.skips U.left U.received U.taken U.faults (record { handler = handler.old; port = socket.old }) (record { handler = handler.new; port = socket.new }) result }
+    ensures { WorksSocket (H.serves access.now) H.skips U.told (record { handler = handler.old; port = socket.old }) (record { handler = handler.new; port = socket.new }) result }
 {
     let Ok(mut room) = room_in(alloc) else {
         return Err(IoFault::OutOfMemory);
@@ -48,7 +49,7 @@ pub fn serve_socket<H: RequestHandler, U: UdpPort, R: Wait>(
         match socket.receive(room.as_mut_slice()) {
             Ok(Some(arrived)) => {
                 let (bytes, _) = room.split_at(arrived.len);
-                let found = handle(
+                let outcome = handle(
                     alloc,
                     handler,
                     access,
@@ -57,7 +58,7 @@ pub fn serve_socket<H: RequestHandler, U: UdpPort, R: Wait>(
                     bytes,
                     &arrived,
                 );
-                is_short = is_short_then(is_short, found);
+                is_short = is_short_then(is_short, found_memory(outcome));
             }
             Ok(None) => return ended(is_short),
             Err(fault) => return Err(fault),
@@ -92,7 +93,18 @@ pub(crate) fn is_short_then(is_short: bool, found: bool) -> bool
     is_short || !found
 }
 
-/// Has a datagram with these bytes settled, and its sender answered; whether memory was found for both.
+/// Whether memory was found, by how settling a message ended.
+fn found_memory(outcome: Result<(), IoFault>) -> bool
+    ensures { result ≡ found_memory outcome }
+{
+    match outcome {
+        Ok(()) => true,
+        Err(IoFault::Failed) => true,
+        Err(IoFault::OutOfMemory) => false,
+    }
+}
+
+/// Has a datagram with these bytes settled, and its sender answered. It fails where the socket refuses the reply.
 fn handle<H: RequestHandler, U: UdpPort>(
     alloc: Global,
     handler: &mut H,
@@ -101,17 +113,15 @@ fn handle<H: RequestHandler, U: UdpPort>(
     buffers: &mut Buffers,
     bytes: &[u8],
     arrived: &Arrived,
-) -> bool
+) -> Result<(), IoFault>
     requires moment { arrived.now.at < 2 ^ 47 }
     requires bytes { length bytes.now ≤ 65535 }
-    ensures { Handles (H.serves access.now) H.skips U.left U.received U.taken U.faults (record { handler = handler.old; port = socket.old }) (record { handler = handler.new; port = socket.new }) (ask_for (bytes.now, arrived.now.from, arrived.now.at)) result }
+    ensures { Handles (H.serves access.now) H.skips U.told (record { handler = handler.old; port = socket.old }) (record { handler = handler.new; port = socket.new }) (ask_for (bytes.now, arrived.now.from, arrived.now.at)) result }
 {
-    let Ok(ask) = ask_in(alloc, &mut buffers.message, bytes, arrived) else {
-        return false;
-    };
-    let found = settle(handler, access, socket, &ask, &mut buffers.reply);
+    let ask = ask_in(alloc, &mut buffers.message, bytes, arrived)?;
+    let outcome = settle(handler, access, socket, &ask, &mut buffers.reply);
     buffers.message = ask.bytes;
-    found
+    outcome
 }
 
 /// The message that a datagram brings, in the buffer, which is empty then.
@@ -135,37 +145,31 @@ fn ask_in(
     })
 }
 
-/// Has a message settled, and its sender answered, by a buffer whatever it has; whether memory was found for both.
+/// Has a message settled, and its sender answered, by a buffer whatever it has. It fails where the socket refuses the reply.
 fn settle<H: RequestHandler, U: UdpPort>(
     handler: &mut H,
     access: &AccessControl,
     socket: &mut U,
     ask: &Ask,
     reply: &mut Vec<u8>,
-) -> bool
+) -> Result<(), IoFault>
     requires moment { ask.now.at < 2 ^ 47 }
     requires bytes { length ask.now.bytes ≤ 65535 }
-    ensures { Handles (H.serves access.now) H.skips U.left U.received U.taken U.faults (record { handler = handler.old; port = socket.old }) (record { handler = handler.new; port = socket.new }) ask.now result }
+    ensures { Handles (H.serves access.now) H.skips U.told (record { handler = handler.old; port = socket.old }) (record { handler = handler.new; port = socket.new }) ask.now result }
 {
     reply.clear();
-    let Ok(into) = handler.handle_into(access, ask, reply, false) else {
-        return false;
-    };
-    match answer(socket, ask.source, into.is_owed, reply.as_slice()) {
-        Ok(()) => true,
-        Err(IoFault::Failed) => true,
-        Err(IoFault::OutOfMemory) => false,
-    }
+    let into = handler.handle_into(access, ask, reply, false)?;
+    answer(socket, ask.source, into.is_owed, reply.as_slice())
 }
 
 /// Hands a reply, where one is owed, to the socket.
 fn answer<U: UdpPort>(socket: &mut U, to: Peer, is_owed: bool, reply: &[u8]) -> Result<(), IoFault>
-    ensures ok { OnOk result (Grows (U.taken socket.old) (U.taken socket.new) (answer_to to (if is_owed then Some reply.now else None))) }
-    ensures err { OnErr result (Keeps (U.taken socket.old) (U.taken socket.new)) }
+    ensures ok { OnOk result (Grows (U.told socket.old).taken (U.told socket.new).taken (answer_to to (if is_owed then Some reply.now else None))) }
+    ensures err { OnErr result (Keeps (U.told socket.old).taken (U.told socket.new).taken) }
     ensures owed { OnErr result (is_owed ≡ true) }
-    ensures left { Keeps (U.left socket.old) (U.left socket.new) }
-    ensures received { Keeps (U.received socket.old) (U.received socket.new) }
-    ensures cause { HasCause (U.faults socket.old) (U.faults socket.new) result }
+    ensures left { Keeps (U.told socket.old).left (U.told socket.new).left }
+    ensures received { Keeps (U.told socket.old).received (U.told socket.new).received }
+    ensures cause { HasCause (U.told socket.old).faults (U.told socket.new).faults result }
 {
     if is_owed {
         return socket.answer(to, reply);

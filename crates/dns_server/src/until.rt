@@ -1,11 +1,12 @@
 //! What a server serves until.
 
-ghost use Rattle.std.specs.Prelude.{◌≡◌, ◌⊎◌, ◌≤◌, ℕ, List, OnOk, IfErr};
-ghost use Rattle.dns_io.specs.declared.edge.IoFault.TheVariants.{OutOfMemory as NoMemory};
-ghost use Rattle.dns_io.specs.Edge.{Rose, Takes};
-ghost use Rattle.dns_server.specs.Sockets.{IsAtEnd};
+ghost use Rattle.std.specs.Prelude.{◌≤◌, ℕ, List};
+ghost use Rattle.dns_io.specs.Told.{Takes};
+ghost use Rattle.dns_edges.specs.Edges.{around};
+ghost use Rattle.dns_server.specs.Servers.{EndsReading};
 
-use dns_io::{IoFault, Source};
+use dns_edges::Source;
+use dns_io::IoFault;
 use dns_ports::StopToken;
 use std::sync::Wait;
 
@@ -15,10 +16,9 @@ pub(crate) fn read_out<E: Source, R: Wait>(
     until: &mut E,
     token: &StopToken,
 ) -> Result<(), IoFault>
-    ensures until { OnOk result (IsAtEnd (E.left until.new) ⊎ Rose (E.faults until.old) (E.faults until.new)) }
-    ensures memory { IfErr result (λ fault. fault ≡ NoMemory) }
-    ensures read { (bytes : List ℕ) × Takes (E.left until.old) (E.left until.new) bytes }
-    ensures later { E.faults until.old ≤ E.faults until.new }
+    ensures ended { EndsReading (around E.source.told until.old until.new) result }
+    ensures read { (bytes : List ℕ) × Takes (E.source.told until.old).left (E.source.told until.new).left bytes }
+    ensures later { (E.source.told until.old).faults ≤ (E.source.told until.new).faults }
 {
     let ended = read_to_end(rt, until);
     token.stop();
@@ -27,10 +27,9 @@ pub(crate) fn read_out<E: Source, R: Wait>(
 
 /// Reads a source to its end or first fault.
 fn read_to_end<E: Source, R: Wait>(rt: &R, until: &mut E) -> Result<(), IoFault>
-    ensures until { OnOk result (IsAtEnd (E.left until.new) ⊎ Rose (E.faults until.old) (E.faults until.new)) }
-    ensures memory { IfErr result (λ fault. fault ≡ NoMemory) }
-    ensures read { (bytes : List ℕ) × Takes (E.left until.old) (E.left until.new) bytes }
-    ensures later { E.faults until.old ≤ E.faults until.new }
+    ensures ended { EndsReading (around E.source.told until.old until.new) result }
+    ensures read { (bytes : List ℕ) × Takes (E.source.told until.old).left (E.source.told until.new).left bytes }
+    ensures later { (E.source.told until.old).faults ≤ (E.source.told until.new).faults }
 {
     for _ in rt.forever() {
         let mut room = [0u8; 512];

@@ -4,7 +4,8 @@ use crate::readings::Readings;
 use crate::scribe::Scribe;
 use crate::words::{bytes_of, hex_of, number, numbers_of, size, two};
 use crate::zones::book;
-use dns_io::{IoFault, Ip, MemorySink, MemorySource, Octets, Peer, Source};
+use dns_edges::{MemorySink, MemorySource, Source};
+use dns_io::{IoFault, Ip, Octets, Peer};
 use dns_requests::{ServeFault, serve_connection};
 use dns_server_core::{AccessControl, RequestHandler};
 use std::alloc::Global;
@@ -78,7 +79,8 @@ fn scribed<S: Source>(alloc: Global, source: &mut S, words: &str) -> Result<Stri
 pub fn book_stream(alloc: Global, given: &str) -> Result<String, Fail> {
     let (digits, rest) = two(given);
     let (step, rest) = two(rest);
-    let mut source = source_of(alloc, digits, step, "0")?;
+    let (reads, rest) = two(rest);
+    let mut source = source_of(alloc, digits, step, reads)?;
     let mut book = book(alloc, "seven yes 0 0")?;
     let answer = served(alloc, &mut book, &mut source, rest)?;
     Ok(answer)
@@ -95,9 +97,7 @@ struct Cuts {
 impl Source for Cuts {
     ghost use Rattle.std.specs.Prelude.{None};
 
-    ghost left = { λ c. None };
-
-    ghost faults = { λ c. 0 };
+    ghost source = { record { told = λ c. record { left = None; faults = 0 }; reads = λ before room given after. Unit {0} } };
 
     fn read(&mut self, room: &mut [u8]) -> Result<usize, IoFault> {
         let size = match self.sizes.get(self.reads) {

@@ -1,9 +1,10 @@
 //! Listeners whose connections wait for one another: two connections, each of which reads on only when the other has got a reply.
 
-ghost use Rattle.std.specs.Prelude.{◌≡◌, ◌≤◌, ◌<◌, ◌+◌, length, None};
+ghost use Rattle.std.specs.Prelude.{◌≤◌, length, None};
 
 use crate::hubs::PEER;
-use dns_io::{IoFault, MemoryClock, Octets, OutOfMemory, Sink, Source};
+use dns_edges::{MemoryClock, Sink, Source};
+use dns_io::{IoFault, Octets, OutOfMemory};
 use dns_ports::{Accepted, TcpPort};
 use std::alloc::Global;
 use std::sync::Arc;
@@ -59,9 +60,7 @@ fn put(piece: &[u8], room: &mut [u8]) -> usize
 }
 
 impl Source for GatedInput {
-    ghost left = { λ s. None };
-
-    ghost faults = { λ s. s.faults };
+    ghost source = { record { told = λ s. record { left = None; faults = s.faults }; reads = λ before room given after. Unit {0} } };
 
     fn read(&mut self, room: &mut [u8]) -> Result<usize, IoFault> {
         self.reads = self.reads.saturating_add(1);
@@ -86,13 +85,7 @@ pub struct GatedOutput {
 }
 
 impl Sink for GatedOutput {
-    ghost taken = { λ s. None };
-
-    ghost flushed = { λ s. None };
-
-    ghost faults = { λ s. 0 };
-
-    ghost writes = { λ before bytes result after. Unit {0} };
+    ghost sink = { record { told = λ s. record { taken = None; flushed = None; faults = 0 }; writes = λ before bytes result after. Unit {0} } };
 
     fn write(&mut self, bytes: &[u8]) -> Result<usize, IoFault> {
         self.own.fetch_add(1, Ordering::SeqCst);
@@ -149,15 +142,7 @@ impl TcpPort for GatedListener {
 
     type Time = MemoryClock;
 
-    ghost left = { λ s. None };
-
-    ghost accepted = { λ s. None };
-
-    ghost ended = { λ s. None };
-
-    ghost lent = { λ s. s.lent };
-
-    ghost faults = { λ s. 0 };
+    ghost told = { λ s. record { left = None; accepted = None; ended = None; lent = s.lent; faults = 0 } };
 
     fn accept(
         &mut self,
@@ -172,10 +157,7 @@ impl TcpPort for GatedListener {
         Ok(Some(connection))
     }
 
-    fn done(&mut self, connection: Accepted<GatedInput, GatedOutput, MemoryClock>)
-        requires { 0 < self.old.lent }
-        ensures lends { self.new.lent + 1 ≡ self.old.lent }
-    {
+    fn done(&mut self, connection: Accepted<GatedInput, GatedOutput, MemoryClock>) {
         let _ended = connection;
         self.lent -= 1;
     }

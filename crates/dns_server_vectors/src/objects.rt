@@ -2,7 +2,8 @@
 
 use crate::words::{numbers_of, quoted, two};
 use crate::zones::zone_of;
-use dns_io::{MemorySink, MemorySource, Octets, Source};
+use dns_edges::{MemorySink, MemorySource, Source};
+use dns_io::Octets;
 use std::alloc::Global;
 use std::test::Fail;
 

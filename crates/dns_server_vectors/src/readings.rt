@@ -1,7 +1,9 @@
 //! A clock whose readings are of 32 bits.
 
+ghost use Rattle.std.specs.Prelude.{◌≡◌};
+
 use crate::words::numbers_of;
-use dns_io::Clock;
+use dns_edges::Clock;
 use std::alloc::Global;
 use std::test::Fail;
 
@@ -25,7 +27,7 @@ impl Readings {
 }
 
 impl Clock for Readings {
-    ghost last = { λ c. c.last };
+    ghost clock = { record { last = λ c. c.last; ticks = λ before reading after. reading ≡ after.last } };
 
     fn now(&mut self) -> u64 {
         if let Some(&reading) = self.readings.get(self.place) {

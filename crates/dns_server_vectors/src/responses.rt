@@ -2,7 +2,8 @@
 
 use crate::books::protocol_of;
 use crate::words::{hex_of, numbers_of, size, two};
-use dns_io::{Ip, MemorySink, Peer};
+use dns_edges::MemorySink;
+use dns_io::{Ip, Peer};
 use dns_requests::{ResponseHandle, ResponseHandler};
 use dns_wire::{Edns, Records, Reply};
 use std::alloc::Global;

@@ -7,7 +7,7 @@ use crate::words::two;
 use crate::zones::keeper;
 use dns_command::run::run;
 use dns_command::{Ended, Status};
-use dns_io::{MemoryClock, MemorySink};
+use dns_edges::{MemoryClock, MemorySink};
 use dns_keeper::{Keeper, MemoryKeeper};
 use dns_ports::MemoryHub;
 use std::alloc::Global;

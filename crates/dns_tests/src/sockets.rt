@@ -1,6 +1,7 @@
 //! Ports of the operating system, over loopback.
 
-use dns_io::{Ip, Peer, Sink, Source};
+use dns_edges::{Sink, Source};
+use dns_io::{IoFault, Ip, Peer};
 use dns_ports::{Hub, SocketHub, StopToken, TcpPort, UdpPort};
 use std::io::{Read, Write};
 use std::net::{IpAddr, Ipv4Addr, SocketAddr, TcpStream, UdpSocket};
@@ -59,7 +60,8 @@ fn datagram(rt: HostRuntime) -> Result<(), Fail> {
     Ok(())
 }
 
-/// Accepts a connection, sends back what is read, and reads on to its end; tells how many bytes were read.
+/// Accepts a connection, sends back what is read, and reads on, where the peer is silent for the limit: that read fails. Tells how many
+/// bytes were read.
 fn echo_connection<P: TcpPort>(port: &mut P) -> Result<usize, Fail> {
     let mut connection = port.accept()?.ok_or("stopped")?;
     let mut room = [0; 16];
@@ -68,12 +70,15 @@ fn echo_connection<P: TcpPort>(port: &mut P) -> Result<usize, Fail> {
     if !bytes.is_empty() {
         connection.output.write(bytes)?;
     }
-    let end = connection.input.read(&mut [0; 16])?;
+    let silent = connection.input.read(&mut [0; 16]);
     port.done(connection);
-    Ok(count.saturating_add(end))
+    match silent {
+        Err(IoFault::Failed) => Ok(count),
+        _ => Err(Fail::from("a silent connection went on")),
+    }
 }
 
-/// A connection's bytes go to the second of two listeners and back; the connection ends where it is silent for its limit, and
+/// A connection's bytes go to the second of two listeners and back; a read fails where it is silent for its limit, and
 /// a listener whose token is stopped gives none.
 #[test]
 fn connection(rt: HostRuntime) -> Result<(), Fail> {

@@ -3,7 +3,7 @@ use Rattle.std.proofs.Common.{◌≡◌, ℕ, zero, suc, ◌+◌, ◌==◌, eq-e
 use Rattle.std.proofs.lemmas.List.{append-nil}
 use Rattle.std.proofs.Math.Seq.{drop-append_seam}
 use Rattle.dns_io.specs.declared.fault.OutOfMemory.{OutOfMemory}
-use Rattle.dns_io.specs.Edge.{Told, Keeps}
+use Rattle.dns_io.specs.Told.{Told, Keeps}
 use Rattle.dns_wire.specs.declared.record.Record.{Record}
 use Rattle.dns_keeper.specs.declared.row.Row.{Row}
 use Rattle.dns_keeper.specs.Rows.{rows_of, last_id}

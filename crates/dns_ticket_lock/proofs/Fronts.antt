@@ -2,7 +2,7 @@
 use Rattle.std.proofs.Common.{◌≡◌, ◌⊎◌, inl, inr, ⊎_elim, ℕ, zero, suc, ◌+◌, ◌<◌, ◌||◌, Bool, true, false, Option, Some, None, Result, Ok, Err, IfOk, OnOk, OnErr, List, [], ◌∷◌, ◌++◌, map, length, refl, sym, ap, subst, ◌∙◌, arith}
 use Rattle.std.proofs.lemmas.List.{length-append, append-nil}
 use Rattle.dns_io.specs.declared.fault.OutOfMemory.{OutOfMemory}
-use Rattle.dns_io.specs.Edge.{Rose, Told as ToldOf}
+use Rattle.dns_io.specs.Told.{Rose, Told as ToldOf}
 use Rattle.dns_keeper.specs.declared.row.Row.{Row}
 use Rattle.dns_frames.specs.Frames.{Cut, frames, behind}
 use Rattle.dns_book.specs.Access.{Access}

@@ -4,7 +4,7 @@ use Rattle.std.proofs.lemmas.List.{length-append, append-nil}
 use mathlib.Core.Option.{some}
 use lib.ListN.{get_elem?}
 use Rattle.dns_io.specs.declared.fault.OutOfMemory.{OutOfMemory}
-use Rattle.dns_io.specs.Edge.{Rose}
+use Rattle.dns_io.specs.Told.{Rose}
 use Rattle.dns_wire.specs.declared.record.Record.{Record}
 use Rattle.dns_keeper.specs.declared.row.Row.{Row}
 use Rattle.dns_book.specs.Access.{Access}

@@ -2,7 +2,7 @@
 -- settle, and then the rows that a batch adds are made up: as many as it has, which bear the seat's number.
 use Rattle.std.specs.Prelude.{◌≡◌, ℕ, pos, ◌+◌, ◌≤◌, true, List, [], ◌++◌, length, drop, replicate, Option, Some, None}
 use Rattle.dns_keeper.specs.declared.row.Row.{Row}
-use Rattle.dns_io.specs.Edge.{Told}
+use Rattle.dns_io.specs.Told.{Told}
 use Rattle.dns_book.specs.declared.ask.Receipt.{Receipt}
 use Rattle.dns_book.specs.Book.{SeenOf}
 use Rattle.dns_ticket_lock.specs.declared.view.Terms.{Terms}

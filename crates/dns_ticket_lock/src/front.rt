@@ -4,7 +4,7 @@
 ghost use Rattle.std.specs.Prelude.{◌≡◌, ℕ, ◌+◌, ◌*◌, ◌<◌, ◌≤◌, ◌^◌, ◌⊎◌, ◌||◌, true, false, None, [], List, length, map, slice_set, IfOk, IfSome, OnOk, OnErr};
 ghost use mathlib.Core.Option.{some};
 ghost use lib.ListN.{get_elem?};
-ghost use Rattle.dns_io.specs.Edge.{Rose};
+ghost use Rattle.dns_io.specs.Told.{Rose};
 ghost use Rattle.dns_keeper.specs.declared.row.Row.{Row};
 ghost use Rattle.dns_book.specs.Into.{SettlesInto};
 ghost use Rattle.dns_book.specs.Book.{Settles, IsLeft};

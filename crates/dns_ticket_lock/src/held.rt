@@ -3,7 +3,7 @@
 ghost use Rattle.std.specs.Prelude.{◌≡◌, ℕ, ◌+◌, ◌<◌, ◌≤◌, ◌^◌, ◌⊎◌, ◌||◌, true, length, replicate, slice_set, IfOk, IfErr, IfSome, OnErr, None};
 ghost use mathlib.Core.Option.{some};
 ghost use lib.ListN.{get_elem?};
-ghost use Rattle.dns_io.specs.Edge.{Rose};
+ghost use Rattle.dns_io.specs.Told.{Rose};
 ghost use Rattle.dns_book.specs.Into.{SettlesInto};
 ghost use Rattle.dns_book.specs.Book.{Settles, IsLeft, IsKept};
 ghost use Rattle.dns_ticket_lock.specs.Lists.{total};

@@ -1,7 +1,7 @@
 -- Of what the program was given nothing is at fault: then it ends with the codes, or for want of memory.
 use Rattle.std.proofs.Common.{◌≡◌, ℕ, ◌≤◌, List, ◌++◌, inl, inr, length, Option, Some, None, IsSome, Result, Ok, Err, refl, sym, ap, subst, ◌∙◌, length-append, arith}
 use Rattle.std.proofs.lemmas.Option.{same_Some}
-use Rattle.dns_io.specs.Edge.{Told, WasLonger}
+use Rattle.dns_io.specs.Told.{Told, WasLonger}
 use Rattle.dns_wire.specs.declared.message.Message.{Message}
 use Rattle.dns_update_script.specs.declared.script.Sending.{Sending}
 use Rattle.dns_update_script.specs.Script.{script_of}
@@ -11,14 +11,13 @@ use Rattle.dns_update_client.specs.declared.status.UpdateStatus.{UpdateStatus}
 use Rattle.dns_update_client.specs.declared.status.UpdateStatus.TheVariants as status
 use Rattle.dns_update_client.specs.declared.submit_fault.SubmitFault.{SubmitFault}
 use Rattle.dns_update_client.specs.declared.submit_fault.SubmitFault.TheVariants as submit
-use Rattle.dns_update_client.specs.Settings.{settings_of}
 use Rattle.dns_update_client.specs.Status.{submit_status}
 use Rattle.dns_update_client.specs.Framed.{frames_of}
 use Rattle.dns_update_client.specs.Exchange.{Answers, StopsAt, IsDecided}
 use Rattle.dns_update_client.specs.World.{World}
 use Rattle.dns_update_client.specs.Steps.{script_bound, LoadsScript, LoadsNoScript, script_unread, script_too_long, script_refused, script_without_memory, SubmitsNot, IsRefused, at_words, at_script, at_messages, at_submit}
 use Rattle.dns_update_client.specs.Ends.{Ends, with_lines, with_refusal, without_line, with_write_fault, cut_for_memory}
-use Rattle.dns_update_client.specs.Completeness.{HasReplies, IsSound, Completes}
+use Rattle.dns_update_client.specs.Completeness.{IsSound, Completes}
 use Rattle.dns_update_client.proofs.Unique.{Answers-not}
 
 abbrev value_or : {A E : Type 0} → A → Result A E → A
@@ -50,16 +49,16 @@ not_stopped messages codes left rest before (Some y) p q fault is some answers s
 module _ (w : World) (x : IsSound w) where
   of_script : (s : UpdateStatus) → LoadsNoScript w.script s → s ≡ status.OutOfMemory
   of_script s (script_unread rose) = absurd (x.faultless.script rose)
-  of_script s (script_too_long longer) = absurd (not_longer w.script.before w.script.after x.script.text script_bound x.script.told x.told.script x.script.short longer)
-  of_script s (script_refused line kind read) =
-      let f = told _ w.script.before w.script.after x.script.text x.script.told x.told.script read in
+  of_script s (script_too_long longer calm) = absurd (not_longer w.script.before.left w.script.after.left x.script.text script_bound x.script.told x.told.script x.script.short longer)
+  of_script s (script_refused line kind read calm) =
+      let f = told _ w.script.before.left w.script.after.left x.script.text x.script.told x.told.script read in
       absurd (let good = x.script.meant in let bad = f.1.1.1 in cc)
-  of_script s script_without_memory = refl
+  of_script s (script_without_memory calm) = refl
 
   -- the sendings that were read are those of the script
   same_sendings : (sendings : List Sending) → LoadsScript w.script sendings → sendings ≡ x.sendings
   same_sendings sendings read =
-      let f = told _ w.script.before w.script.after x.script.text x.script.told x.told.script read in
+      let f = told _ w.script.before.left w.script.after.left x.script.text x.script.told x.told.script read.text in
       same_Ok (script_of x.script.text) _ _ f.1.1.1 x.script.meant
 
   -- the messages are all answered
@@ -71,11 +70,11 @@ module _ (w : World) (x : IsSound w) where
 
   none_stopped : (fault : SubmitFault) → SubmitsNot messages w.input w.output fault → IsDecided fault → ⊥
   none_stopped fault not decided =
-      not_stopped messages x.replies.codes (frames_of x.replies.replies ++ x.replies.rest) x.replies.rest w.input.before w.input.after w.output.before w.output.after fault x.replies.told x.told.input answers not.stopped decided
+      not_stopped messages x.replies.codes (frames_of x.replies.replies ++ x.replies.rest) x.replies.rest w.input.before.left w.input.after.left w.output.before.taken w.output.after.taken fault x.replies.told x.told.input answers not.stopped decided
 
   of_submit : (fault : SubmitFault) → SubmitsNot messages w.input w.output fault → submit_status fault ≡ status.OutOfMemory
-  of_submit submit.Read not = absurd (x.faultless.input not.risen)
-  of_submit submit.Write not = absurd (x.faultless.output not.risen)
+  of_submit submit.Read not = absurd (x.faultless.input not.read)
+  of_submit submit.Write not = absurd (x.faultless.output not.written)
   of_submit submit.OutOfMemory not = refl
   of_submit (submit.Proto error) not = absurd (none_stopped (submit.Proto error) not tt)
   of_submit (submit.Ended message) not = absurd (none_stopped (submit.Ended message) not tt)
@@ -98,7 +97,3 @@ completes w s (with_refusal some refuses written) x = inr (of_refusal w x s refu
 completes w s (without_line none refuses unwritten) x = inr (of_refusal w x s refuses)
 completes w s (with_write_fault rose cut) x = absurd (x.faultless.out rose)
 completes w s (cut_for_memory cut) x = inr refl
-
--- how it ends, and that it does its work
-pub ends_and_completes : (w : World) (s : UpdateStatus) → Ends w s → Ends w s × Completes w s
-ends_and_completes w s ends = (ends, completes w s ends)

@@ -1,7 +1,7 @@
 -- How the program ends, by what its parts did.
-use Rattle.std.proofs.Common.{◌≡◌, ℕ, List, Result, Ok, Err, refl, sym, subst}
-use Rattle.dns_io.specs.declared.edge.IoFault.{IoFault}
-use Rattle.dns_io.specs.declared.edge.IoFault.TheVariants.{Failed, OutOfMemory}
+use Rattle.std.proofs.Common.{ℕ, List, Result, Ok, Err, refl, sym, subst}
+use Rattle.dns_io.specs.declared.io_fault.IoFault.{IoFault}
+use Rattle.dns_io.specs.declared.io_fault.IoFault.TheVariants.{Failed, OutOfMemory}
 use Rattle.dns_words.specs.Writing.{WritesWhole, IsWritten}
 use Rattle.dns_update_client.specs.declared.status.UpdateStatus.{UpdateStatus}
 use Rattle.dns_update_client.specs.declared.status.UpdateStatus.TheVariants as status
@@ -15,8 +15,8 @@ use Rattle.dns_update_client.specs.Writing.{after_writing, EndsWriting, EndsRefu
 -- a text was written, or was not written to its end
 whole : (w : World) (text : List ℕ) (meant : UpdateStatus) (result : Result (Unit {0}) IoFault)
     → (IsWritten w.out text → Ends w meant) → (TookFront w text → IsCut w) → WritesWhole w.out text result → Ends w (after_writing meant result)
-whole w text meant (Ok done) good cut v = good (record { taken = v.written.ok; flushed = v.flushed })
-whole w text meant (Err Failed) good cut v = with_write_fault (v.written.cause.failed refl) (cut v.written.err)
+whole w text meant (Ok done) good cut v = good (record { taken = v.written.ok; flushed = v.flushed; faults = v.written.cause.counts })
+whole w text meant (Err Failed) good cut v = with_write_fault v.written.cause.counts (cut v.written.err)
 whole w text meant (Err OutOfMemory) good cut v = cut_for_memory (cut v.written.err)
 
 -- a refusal

@@ -3,7 +3,7 @@ use Rattle.std.proofs.Common.{◌≡◌, ℕ, ◌+◌, ◌≤◌, ◌<◌, List,
 use Rattle.std.proofs.lemmas.List.{append_assoc, append-nil, take-append-drop, drop_more}
 use Rattle.std.specs.Prelude.{Result, Ok, Err, IfErr}
 use Rattle.std.specs.List.{flat_map}
-use Rattle.dns_io.specs.Edge.{Takes, Grows}
+use Rattle.dns_io.specs.Told.{Takes, Grows}
 use Rattle.dns_io.proofs.ToldContents.{Takes-more, Grows-more, Grows-nothing}
 use Rattle.dns_wire.specs.declared.message.Message.{Message}
 use Rattle.dns_update_client.specs.declared.submit_fault.SubmitFault.{SubmitFault}

@@ -3,6 +3,8 @@ mod Pieces
 mod Exchanging
 mod NotSent
 mod FrameParts
+mod Framed
+mod Causes
 mod TooLong
 mod Unique
 mod UpdateReplies
@@ -11,3 +13,4 @@ mod LinesWritten
 mod Submitted
 mod Endings
 mod Completing
+mod Counting

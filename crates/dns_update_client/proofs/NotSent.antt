@@ -1,8 +1,8 @@
 -- Why a message was not sent.
 use Rattle.std.proofs.Common.{◌≡◌, ℕ, List, [], ◌++◌, length, Bool, true, false, ◌≤◌, refl, sym, ap, subst, ◌∙◌}
 use Rattle.std.specs.Prelude.{Result, Ok, Err, OnErr}
-use Rattle.dns_io.specs.declared.edge.IoFault.{IoFault}
-use Rattle.dns_io.specs.declared.edge.IoFault.TheVariants as io
+use Rattle.dns_io.specs.declared.io_fault.IoFault.{IoFault}
+use Rattle.dns_io.specs.declared.io_fault.IoFault.TheVariants as io
 use Rattle.dns_name.specs.declared.fault.ProtoError.{ProtoError}
 use Rattle.dns_name.specs.declared.fault.ProtoError.TheVariants as proto
 use Rattle.dns_wire.specs.declared.message.Message.{Message}

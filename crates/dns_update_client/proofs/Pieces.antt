@@ -1,7 +1,7 @@
 -- How an input goes on from read to read.
 use Rattle.std.proofs.Common.{◌≡◌, ℕ, ◌+◌, ◌*◌, ◌<◌, ◌≤◌, List, [], ◌∷◌, ◌++◌, length, get_or, Option, Some, None, refl, sym, ap, ◌∙◌, arith}
 use Rattle.std.proofs.lemmas.List.{append_assoc}
-use Rattle.dns_io.specs.Edge.{Takes, EndsAt}
+use Rattle.dns_io.specs.Told.{Takes, EndsAt}
 use Rattle.dns_io.proofs.ToldContents.{Told-same, Takes-more}
 use Rattle.dns_update_client.specs.declared.submit_fault.SubmitFault.{SubmitFault}
 use Rattle.dns_update_client.specs.declared.submit_fault.SubmitFault.TheVariants.{Proto, Write, Read, Ended, Mismatch, NotReply, OutOfMemory}

@@ -1,6 +1,6 @@
 -- What keeps the program from its work: nothing but a cause that is named above, and want of memory.
 use Rattle.std.specs.Prelude.{◌≡◌, ◌≤◌, ◌⊎◌, ℕ, List, ◌++◌, length, Some, IsSome, Ok}
-use Rattle.dns_io.specs.Edge.{Rose}
+use Rattle.dns_io.specs.Told.{Rose}
 use Rattle.dns_wire.specs.declared.message.Message.{Message}
 use Rattle.dns_update_script.specs.declared.script.Sending.{Sending}
 use Rattle.dns_update_script.specs.Script.{script_of}
@@ -17,7 +17,7 @@ use Rattle.dns_update_client.specs.World.{World}
 -- the script has these sendings, and is within its bound
 pub record HasScript (w : World) (sendings : List Sending) : Type 0 where
   pub text : List ℕ
-  pub told : w.script.before ≡ Some text
+  pub told : w.script.before.left ≡ Some text
   pub short : length text ≤ script_bound
   pub meant : script_of text ≡ Ok sendings
 
@@ -26,20 +26,20 @@ pub record HasReplies (w : World) (messages : List Message) : Type 0 where
   pub replies : List (List ℕ)
   pub codes : List ℕ
   pub rest : List ℕ
-  pub told : w.input.before ≡ Some (frames_of replies ++ rest)
+  pub told : w.input.before.left ≡ Some (frames_of replies ++ rest)
   pub exchanged : Exchanges messages replies codes
 
 -- no count of faults rose, nor stands at its last value
 pub record IsFaultless (w : World) : Type 0 where
-  pub script : Rose w.script.faults_before w.script.faults_after → ⊥
-  pub input : Rose w.input.faults_before w.input.faults_after → ⊥
-  pub output : Rose w.output.faults_before w.output.faults_after → ⊥
-  pub out : Rose w.out.faults_before w.out.faults_after → ⊥
+  pub script : Rose w.script.before.faults w.script.after.faults → ⊥
+  pub input : Rose w.input.before.faults w.input.after.faults → ⊥
+  pub output : Rose w.output.before.faults w.output.after.faults → ⊥
+  pub out : Rose w.out.before.faults w.out.after.faults → ⊥
 
 -- what the script and the input hold is told at the end, too
 pub record IsTold (w : World) : Type 0 where
-  pub script : IsSome w.script.after
-  pub input : IsSome w.input.after
+  pub script : IsSome w.script.after.left
+  pub input : IsSome w.input.after.left
 
 -- the words are legal, no line of the script is at fault, each message is answered, and no object failed
 pub record IsSound (w : World) : Type 0 where

@@ -1,7 +1,7 @@
 -- What the program does: the messages of the script are sent, their replies are read, and a line is written for each.
 use Rattle.std.specs.Prelude.{◌≡◌, ℕ, List, true, false}
-use Rattle.dns_io.specs.Edge.{Rose, GrowsByPrefix}
-use Rattle.dns_words.specs.Writing.{IsUnwritten, IsWritten}
+use Rattle.dns_io.specs.Told.{Rose, GrowsByPrefix}
+use Rattle.dns_words.specs.Writing.{IsUntouched, IsWritten}
 use Rattle.dns_update_client.specs.declared.status.UpdateStatus.{UpdateStatus}
 use Rattle.dns_update_client.specs.declared.status.UpdateStatus.TheVariants as status
 use Rattle.dns_update_client.specs.Lines.{code_lines}
@@ -22,7 +22,7 @@ Refuses w s = IsRefused w.words w.script w.input w.output s
 
 -- the output took a front of this text, where it is told afterwards
 abbrev pub TookFront : World → List ℕ → Type 0
-TookFront w text = (rest : List ℕ) × GrowsByPrefix w.out.before w.out.after text rest
+TookFront w text = (rest : List ℕ) × GrowsByPrefix w.out.before.taken w.out.after.taken text rest
 
 -- some of the bytes were not written, or not handed on: of the line of a refusal, or of the lines of the replies
 pub data IsCut (w : World) : Type 0 where
@@ -34,6 +34,6 @@ pub data IsCut (w : World) : Type 0 where
 pub data Ends (w : World) : UpdateStatus → Type 0 where
   with_lines : (text : List ℕ) → IsAnswered w text → IsWritten w.out text → Ends w status.Ok
   with_refusal : {s : UpdateStatus} → has_line s ≡ true → Refuses w s → IsWritten w.out (refusal_line s) → Ends w s
-  without_line : {s : UpdateStatus} → has_line s ≡ false → Refuses w s → IsUnwritten w.out → Ends w s
-  with_write_fault : Rose w.out.faults_before w.out.faults_after → IsCut w → Ends w status.WriteFault
+  without_line : {s : UpdateStatus} → has_line s ≡ false → Refuses w s → IsUntouched w.out → Ends w s
+  with_write_fault : Rose w.out.before.faults w.out.after.faults → IsCut w → Ends w status.WriteFault
   cut_for_memory : IsCut w → Ends w status.OutOfMemory

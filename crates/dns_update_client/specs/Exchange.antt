@@ -2,7 +2,7 @@
 -- behind its length before the next one is sent (RFC 1035 4.2.2, RFC 2136 2).
 use Rattle.std.specs.Prelude.{◌≡◌, ◌≢◌, ℕ, ◌+◌, ◌*◌, ◌≤◌, List, [], ◌∷◌, ◌++◌, length, true, Option, Some, None}
 use Rattle.std.specs.List.{flat_map}
-use Rattle.dns_io.specs.Edge.{Told, Takes, Grows}
+use Rattle.dns_io.specs.Told.{Told, Takes, Grows}
 use Rattle.dns_name.specs.declared.fault.ProtoError.{ProtoError}
 use Rattle.dns_name.specs.declared.fault.ProtoError.TheVariants as proto
 use Rattle.dns_wire.specs.declared.edns.Edns.{Edns}

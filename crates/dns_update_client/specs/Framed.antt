@@ -2,7 +2,7 @@
 use Rattle.std.specs.Prelude.{◌≡◌, ℕ, ◌+◌, ◌*◌, ◌<◌, ◌≤◌, List, [], ◌∷◌, ◌++◌, length, Option}
 use Rattle.std.specs.Int.{w16, to_be_bytes}
 use Rattle.std.specs.List.{flat_map}
-use Rattle.dns_io.specs.Edge.{Told}
+use Rattle.dns_io.specs.Told.{Told}
 
 -- a message behind its length
 unfoldable pub frame : List ℕ → List ℕ

@@ -8,5 +8,6 @@ pub mod Lines
 pub mod World
 pub mod Writing
 pub mod Steps
+pub mod Counts
 pub mod Ends
 pub mod Completeness

@@ -1,8 +1,8 @@
 -- How a run of the program ends, and the line that a refusal writes.
 use Rattle.std.specs.Prelude.{ℕ, ◌++◌, List, [], Bool, true, false, codes}
 use Rattle.std.specs.Fmt.{decimal}
-use Rattle.dns_io.specs.declared.to_end.ReadFault.{ReadFault}
-use Rattle.dns_io.specs.declared.to_end.ReadFault.TheVariants as read
+use Rattle.dns_edges.specs.declared.to_end.ReadFault.{ReadFault}
+use Rattle.dns_edges.specs.declared.to_end.ReadFault.TheVariants as read
 use Rattle.dns_zone.specs.declared.zone_text.ZoneTextKind.{ZoneTextKind}
 use Rattle.dns_zone.specs.declared.zone_text.ZoneTextKind.TheVariants as entry
 use Rattle.dns_update_script.specs.declared.fault.ScriptKind.{ScriptKind}

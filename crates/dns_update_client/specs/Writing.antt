@@ -1,9 +1,9 @@
 -- Writing the output, and how the program ends by it.
 use Rattle.std.specs.Prelude.{◌≡◌, ℕ, List, true, false, Result, Ok, Err}
-use Rattle.dns_io.specs.Around.{SinkAround}
-use Rattle.dns_io.specs.declared.edge.IoFault.{IoFault}
-use Rattle.dns_io.specs.declared.edge.IoFault.TheVariants.{Failed, OutOfMemory}
-use Rattle.dns_words.specs.Writing.{IsUnwritten, WritesWhole}
+use Rattle.dns_io.specs.declared.io_fault.IoFault.{IoFault}
+use Rattle.dns_io.specs.declared.io_fault.IoFault.TheVariants.{Failed, OutOfMemory}
+use Rattle.dns_edges.specs.Edges.{Around, SinkTold}
+use Rattle.dns_words.specs.Writing.{IsUntouched, WritesWhole}
 use Rattle.dns_update_client.specs.declared.status.UpdateStatus.{UpdateStatus}
 use Rattle.dns_update_client.specs.declared.status.UpdateStatus.TheVariants as status
 use Rattle.dns_update_client.specs.Status.{refusal_line, has_line}
@@ -15,12 +15,12 @@ after_writing meant (Err Failed) = status.WriteFault
 after_writing meant (Err OutOfMemory) = status.OutOfMemory
 
 -- the end of a call that writes a text and means to end with a status
-pub record EndsWriting (output : SinkAround) (text : List ℕ) (meant s : UpdateStatus) : Type 0 where
+pub record EndsWriting (output : Around SinkTold) (text : List ℕ) (meant s : UpdateStatus) : Type 0 where
   pub result : Result (Unit {0}) IoFault
   pub written : WritesWhole output text result
   pub status : s ≡ after_writing meant result
 
 -- the end of a refusal: by its line, or by nothing more where it has none
-pub data EndsRefusing (output : SinkAround) (meant s : UpdateStatus) : Type 0 where
-  silent : has_line meant ≡ false → s ≡ meant → IsUnwritten output → EndsRefusing output meant s
+pub data EndsRefusing (output : Around SinkTold) (meant s : UpdateStatus) : Type 0 where
+  silent : has_line meant ≡ false → s ≡ meant → IsUntouched output → EndsRefusing output meant s
   by_line : has_line meant ≡ true → EndsWriting output (refusal_line meant) meant s → EndsRefusing output meant s

@@ -1,11 +1,12 @@
 //! The top call: the messages of a script are sent, and the codes of their replies are written.
 
 ghost use Rattle.std.specs.Prelude.{◌≡◌, ◌≤◌, Ok, IfOk, IfErr, map, string_bytes};
-ghost use Rattle.dns_io.specs.Around.{around, around_sink};
+ghost use Rattle.dns_edges.specs.Edges.{around};
 ghost use Rattle.dns_update_client.specs.declared.status.UpdateStatus.TheVariants as status;
 ghost use Rattle.dns_update_client.specs.Lines.{code_lines};
 ghost use Rattle.dns_update_client.specs.World.{World};
 ghost use Rattle.dns_update_client.specs.Steps.{LoadsScript, LoadsNoScript, Converses, IsRefused};
+ghost use Rattle.dns_update_client.specs.Counts.{Counts};
 ghost use Rattle.dns_update_client.specs.Ends.{Ends};
 ghost use Rattle.dns_update_client.specs.Completeness.{Completes};
 ghost use Rattle.dns_update_client.specs.Writing.{EndsWriting};
@@ -13,8 +14,9 @@ ghost use Rattle.dns_update_client.specs.Writing.{EndsWriting};
 use crate::output::{put_codes, refuse};
 use crate::settings::settings_of;
 use crate::status::{UpdateStatus, after_writing};
-use crate::submit::submit;
-use dns_io::{OutOfMemory, Sink, Source, read_to_end};
+use crate::submitting::submit;
+use dns_edges::{Sink, Source, read_to_end};
+use dns_io::OutOfMemory;
 use dns_update_script::{Script, read_script};
 use std::alloc::Global;
 
@@ -45,15 +47,15 @@ pub fn nsupdate<E: Source, R: Source, W: Sink, O: Sink>(
 ) -> UpdateStatus
     ensures ends { let w : World = record {
       words = map string_bytes words.now.items;
-      script = around E.left E.faults script.old script.new;
-      input = around R.left R.faults input.old input.new;
-      output = around_sink W.taken W.flushed W.faults output.old output.new;
-      out = around_sink O.taken O.flushed O.faults out.old out.new;
-    } in Ends w result × Completes w result }
-    ensures later_script { E.faults script.old ≤ E.faults script.new }
-    ensures later_input { R.faults input.old ≤ R.faults input.new }
-    ensures later_output { W.faults output.old ≤ W.faults output.new }
-    ensures later_out { O.faults out.old ≤ O.faults out.new }
+      script = around E.source.told script.old script.new;
+      input = around R.source.told input.old input.new;
+      output = around W.sink.told output.old output.new;
+      out = around O.sink.told out.old out.new;
+    } in Ends w result × Completes w result × Counts O.sink out.old out.new w result }
+    ensures later_script { (E.source.told script.old).faults ≤ (E.source.told script.new).faults }
+    ensures later_input { (R.source.told input.old).faults ≤ (R.source.told input.new).faults }
+    ensures later_output { (W.sink.told output.old).faults ≤ (W.sink.told output.new).faults }
+    ensures later_out { (O.sink.told out.old).faults ≤ (O.sink.told out.new).faults }
 {
     match converse(alloc, words, script, input, output) {
         Ok(answered) => finish(alloc, &answered, out),
@@ -70,14 +72,14 @@ fn converse<E: Source, R: Source, W: Sink>(
     output: &mut W,
 ) -> Result<Answered, UpdateStatus>
     ensures ok { IfOk result (λ answered. Converses (map string_bytes words.now.items)
-        (around E.left E.faults script.old script.new) (around R.left R.faults input.old input.new)
-        (around_sink W.taken W.flushed W.faults output.old output.new) answered.first_id answered.codes.items) }
+        (around E.source.told script.old script.new) (around R.source.told input.old input.new)
+        (around W.sink.told output.old output.new) answered.first_id answered.codes.items) }
     ensures err { IfErr result (IsRefused (map string_bytes words.now.items)
-        (around E.left E.faults script.old script.new) (around R.left R.faults input.old input.new)
-        (around_sink W.taken W.flushed W.faults output.old output.new)) }
-    ensures later_script { E.faults script.old ≤ E.faults script.new }
-    ensures later_input { R.faults input.old ≤ R.faults input.new }
-    ensures later_output { W.faults output.old ≤ W.faults output.new }
+        (around E.source.told script.old script.new) (around R.source.told input.old input.new)
+        (around W.sink.told output.old output.new)) }
+    ensures later_script { (E.source.told script.old).faults ≤ (E.source.told script.new).faults }
+    ensures later_input { (R.source.told input.old).faults ≤ (R.source.told input.new).faults }
+    ensures later_output { (W.sink.told output.old).faults ≤ (W.sink.told output.new).faults }
 {
     let Some(settings) = settings_of(words.as_slice()) else {
         return Err(UpdateStatus::Usage);
@@ -93,9 +95,9 @@ fn converse<E: Source, R: Source, W: Sink>(
 
 /// The script of a text, which is read to its end.
 fn load_script<E: Source>(alloc: Global, source: &mut E) -> Result<Script, UpdateStatus>
-    ensures ok { IfOk result (LoadsScript (around E.left E.faults source.old source.new)) }
-    ensures err { IfErr result (LoadsNoScript (around E.left E.faults source.old source.new)) }
-    ensures later { E.faults source.old ≤ E.faults source.new }
+    ensures ok { IfOk result (LoadsScript (around E.source.told source.old source.new)) }
+    ensures err { IfErr result (LoadsNoScript (around E.source.told source.old source.new)) }
+    ensures later { (E.source.told source.old).faults ≤ (E.source.told source.new).faults }
 {
     let text = read_to_end(alloc, source, SCRIPT_BOUND)?;
     Ok(read_script(alloc, text.as_slice())?)
@@ -103,9 +105,9 @@ fn load_script<E: Source>(alloc: Global, source: &mut E) -> Result<Script, Updat
 
 /// Writes the lines of the replies, and tells how the program ends.
 fn finish<O: Sink>(alloc: Global, answered: &Answered, out: &mut O) -> UpdateStatus
-    ensures ends { EndsWriting (around_sink O.taken O.flushed O.faults out.old out.new)
+    ensures ends { EndsWriting (around O.sink.told out.old out.new)
         (code_lines answered.now.first_id answered.now.codes.items) status.Ok result }
-    ensures later { O.faults out.old ≤ O.faults out.new }
+    ensures later { (O.sink.told out.old).faults ≤ (O.sink.told out.new).faults }
 {
     after_writing(
         UpdateStatus::Ok,

@@ -1,6 +1,8 @@
 //! What an exchange obeys: each law is a call that does nothing and whose contract is the law.
 
-ghost use Rattle.std.specs.Prelude.{◌≡◌, ◌++◌, ℕ, List, Option, Some, false};
+ghost use Rattle.std.specs.Prelude.{◌≡◌, ◌≤◌, ◌++◌, ℕ, List, Option, Some, false, length, map};
+ghost use Rattle.std.specs.List.{AllByRecursion};
+ghost use Rattle.dns_frames.specs.Frames.{frames, ahead};
 ghost use Rattle.dns_wire.specs.declared.message.Message.{Message};
 ghost use Rattle.dns_book.specs.Access.{Access};
 ghost use Rattle.dns_book.specs.declared.ask.Ask.{Ask as Asked};
@@ -9,7 +11,7 @@ ghost use Rattle.dns_book.specs.Book.{SeenOf, Settles};
 ghost use Rattle.dns_book.specs.Sources.{IsSafe};
 ghost use Rattle.dns_wire.specs.MessageBytes.{message_bytes};
 ghost use Rattle.dns_update_client.specs.declared.submit_fault.SubmitFault.{SubmitFault as Fault};
-ghost use Rattle.dns_update_client.specs.Exchange.{Answers, Exchanges, IsDecided, StopsAt};
+ghost use Rattle.dns_update_client.specs.Exchange.{message_frames, Answers, Exchanges, IsDecided, StopsAt};
 ghost use Rattle.dns_update_client.specs.Framed.{frames_of};
 ghost use Rattle.dns_update_client.specs.SettledUpdates.{IsUpdate, SettlesUpdates};
 
@@ -42,4 +44,15 @@ pub fn answered_updates<K: Keeper>()
     ensures replied { (access : Access) (before after : SeenOf K) (m : Message) (ask : Asked) (settled : Done) → IsUpdate m → m.header.qr ≡ false
         → ask.bytes ≡ message_bytes m → IsSafe ask.source → Settles K.rows K.faults access before ask settled after
         → (bytes : List ℕ) × (settled.reply ≡ Some bytes) }
+{}
+
+/// What is sent, and what is received, are streams of messages, each behind its length (RFC 1035 4.2.2): the frames of a stream are
+/// those messages, whatever follows them.
+pub fn framed_messages()
+    ensures frames { (messages : List (List ℕ)) (rest : List ℕ) → AllByRecursion (λ message. length message ≤ 65535) messages
+        → frames (frames_of messages ++ rest) ≡ ahead messages (frames rest) }
+    ensures sent { (messages : List Message) (replies : List (List ℕ)) (codes rest : List ℕ) → Exchanges messages replies codes
+        → frames (message_frames messages ++ rest) ≡ ahead (map message_bytes messages) (frames rest) }
+    ensures received { (messages : List Message) (replies : List (List ℕ)) (codes rest : List ℕ) → Exchanges messages replies codes
+        → frames (frames_of replies ++ rest) ≡ ahead replies (frames rest) }
 {}

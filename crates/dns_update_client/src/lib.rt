@@ -12,11 +12,13 @@ mod receiving;
 mod sending;
 mod settings;
 mod status;
-pub mod submit;
 mod submit_fault;
+mod submitting;
 
 pub use client::nsupdate;
+pub use dns_update_script::{Script, ScriptFault, ScriptKind, Sending, read_entry, read_script};
 pub use help::{HELP, VERSION};
 pub use settings::{Settings, settings_of};
 pub use status::{UpdateStatus, after_writing};
 pub use submit_fault::SubmitFault;
+pub use submitting::submit;

@@ -1,33 +1,54 @@
 //! Writing the output: each line is handed over whole, and at the end all is handed on.
 
-ghost use Rattle.std.specs.Prelude.{◌≡◌, ◌≤◌, string_bytes};
-ghost use Rattle.dns_io.specs.Around.{around_sink};
+ghost use Rattle.std.specs.Prelude.{◌≡◌, ◌≤◌, string_bytes, IsErrOf};
+ghost use Rattle.dns_edges.specs.Edges.{around};
 ghost use Rattle.dns_words.specs.Writing.{Writes, WritesWhole};
+ghost use Rattle.dns_update_client.specs.Counts.{WantedMemory};
 ghost use Rattle.dns_update_client.specs.Lines.{code_line, code_lines};
 ghost use Rattle.dns_update_client.specs.Status.{refusal_line};
 ghost use Rattle.dns_update_client.specs.Writing.{EndsRefusing, after_writing};
 
 use crate::lines::code_line;
 use crate::status::{UpdateStatus, after_writing, refusal_line};
-use dns_io::{IoFault, Sink};
+use dns_edges::{Sink, write_all};
+use dns_io::IoFault;
 use dns_words::{put_line, put_text};
 use std::alloc::Global;
 
+/// The line of a run that could not read: no memory is taken for it, so that want of memory does not hide the fault.
+const READ_FAULT: &str = "read fault\n";
+
 /// Writes the one line of a refusal, where it has one, and tells how the program ends.
 pub(crate) fn refuse<O: Sink>(alloc: Global, status: UpdateStatus, out: &mut O) -> UpdateStatus
-    ensures ends { EndsRefusing (around_sink O.taken O.flushed O.faults out.old out.new) status result }
-    ensures later { O.faults out.old ≤ O.faults out.new }
+    ensures ends { EndsRefusing (around O.sink.told out.old out.new) status result }
+    // A fault of reading gives way to want of memory only where the output wants it for the line.
+    ensures wanted { status ≡ UpdateStatus.ReadFault → result ≡ UpdateStatus.OutOfMemory
+        → WantedMemory O.sink out.old (refusal_line UpdateStatus.ReadFault) out.new }
+    ensures later { (O.sink.told out.old).faults ≤ (O.sink.told out.new).faults }
 {
     match status {
         UpdateStatus::OutOfMemory => UpdateStatus::OutOfMemory,
         UpdateStatus::WriteFault => UpdateStatus::WriteFault,
+        UpdateStatus::ReadFault => after_writing(
+            UpdateStatus::ReadFault,
+            put_whole(READ_FAULT, out),
+        ),
         status => after_writing(status, put_refusal(alloc, &status, out)),
     }
 }
 
+/// Writes a text that is the whole output, and hands it on; where memory is wanted, the output wanted it.
+fn put_whole<O: Sink>(text: &str, out: &mut O) -> Result<(), IoFault>
+    ensures written { WritesWhole (around O.sink.told out.old out.new) text.now result }
+    ensures wanted { IsErrOf result IoFault.OutOfMemory → WantedMemory O.sink out.old text.now out.new }
+{
+    write_all(out, text.as_bytes())?;
+    out.flush()
+}
+
 /// Writes the line of a refusal, and hands it on.
 fn put_refusal<O: Sink>(alloc: Global, status: &UpdateStatus, out: &mut O) -> Result<(), IoFault>
-    ensures { WritesWhole (around_sink O.taken O.flushed O.faults out.old out.new) (refusal_line status.now) result }
+    ensures { WritesWhole (around O.sink.told out.old out.new) (refusal_line status.now) result }
 {
     let line = refusal_line(alloc, status)?;
     put_text(line.as_str(), out)
@@ -40,7 +61,7 @@ pub(crate) fn put_codes<O: Sink>(
     codes: &[u16],
     out: &mut O,
 ) -> Result<(), IoFault>
-    ensures { WritesWhole (around_sink O.taken O.flushed O.faults out.old out.new) (code_lines first_id codes.now) result }
+    ensures { WritesWhole (around O.sink.told out.old out.new) (code_lines first_id codes.now) result }
 {
     put_lines(alloc, first_id, codes, out)?;
     out.flush()
@@ -53,7 +74,7 @@ fn put_lines<O: Sink>(
     codes: &[u16],
     out: &mut O,
 ) -> Result<(), IoFault>
-    ensures { Writes (around_sink O.taken O.flushed O.faults out.old out.new) (code_lines first_id codes.now) result }
+    ensures { Writes (around O.sink.told out.old out.new) (code_lines first_id codes.now) result }
 {
     let mut id = first_id;
     for code in codes {
@@ -65,7 +86,7 @@ fn put_lines<O: Sink>(
 
 /// Writes the line of a reply.
 fn put_code<O: Sink>(alloc: Global, id: u16, code: u16, out: &mut O) -> Result<(), IoFault>
-    ensures { Writes (around_sink O.taken O.flushed O.faults out.old out.new) (code_line id code) result }
+    ensures { Writes (around O.sink.told out.old out.new) (code_line id code) result }
 {
     let line = code_line(alloc, id, code)?;
     put_line(line.as_str(), out)

@@ -1,12 +1,13 @@
 //! How one frame is received.
 
-ghost use Rattle.std.specs.Prelude.{◌≡◌, ◌≤◌, ◌<◌, ◌+◌, ◌*◌, ℕ, List, length, get_or, take, drop, IfOk, IfErr, IfSome, IfNone, OnErr, IsErrOf};
-ghost use Rattle.dns_io.specs.Edge.{EndsAt, HasCause, Keeps, Rose, Takes};
+ghost use Rattle.std.specs.Prelude.{◌≡◌, ◌≤◌, ◌<◌, ◌+◌, ◌*◌, ℕ, List, length, get_or, take, drop, IfOk, IfErr, IfSome, IfNone, OnErr};
+ghost use Rattle.dns_io.specs.Told.{EndsAt, Keeps, Takes};
 ghost use Rattle.dns_update_client.specs.Exchange.{IsInputFault, StopsReceiving, TakesUntil};
+ghost use Rattle.dns_update_client.specs.Faults.{HasReadCause};
 ghost use Rattle.dns_update_client.specs.Framed.{frame, GivesUpTo};
 
 use crate::submit_fault::SubmitFault;
-use dns_wire::{IoFault, Source};
+use dns_edges::Source;
 use std::alloc::Global;
 
 /// The bytes of the next frame, without their length. No byte behind it is taken.
@@ -15,11 +16,11 @@ pub(crate) fn receive<R: Source>(
     number: u64,
     input: &mut R,
 ) -> Result<Vec<u8>, SubmitFault>
-    ensures ok { IfOk result (λ bytes. Takes (R.left input.old) (R.left input.new) (frame bytes.items)) }
+    ensures ok { IfOk result (λ bytes. Takes (R.source.told input.old).left (R.source.told input.new).left (frame bytes.items)) }
     ensures short { IfOk result (λ bytes. length bytes.items ≤ 65535) }
-    ensures err { IfErr result (λ fault. (got : List ℕ) × StopsReceiving number got fault × TakesUntil fault (R.left input.old) (R.left input.new) got) }
-    ensures later { R.faults input.old ≤ R.faults input.new }
-    ensures failed { IsErrOf result SubmitFault.Read → Rose (R.faults input.old) (R.faults input.new) }
+    ensures err { IfErr result (λ fault. (got : List ℕ) × StopsReceiving number got fault
+        × TakesUntil fault (R.source.told input.old).left (R.source.told input.new).left got) }
+    ensures cause { HasReadCause (R.source.told input.old).faults (R.source.told input.new).faults result }
 {
     let prefix = read_up_to(alloc, input, 2)?;
     let Some(count) = said_length(prefix.as_slice()) else {
@@ -53,12 +54,12 @@ fn said_length(prefix: &[u8]) -> Option<usize>
 
 /// Reads until there are so many bytes, or the input ends.
 fn read_up_to<R: Source>(alloc: Global, input: &mut R, count: usize) -> Result<Vec<u8>, SubmitFault>
-    ensures given { IfOk result (λ bytes. GivesUpTo count (R.left input.old) (R.left input.new) bytes.items) }
+    ensures given { IfOk result (λ bytes. GivesUpTo count (R.source.told input.old).left (R.source.told input.new).left bytes.items) }
     ensures within { IfOk result (λ bytes. length bytes.items ≤ count) }
-    ensures part { OnErr result ((got : List ℕ) × (length got ≤ count) × Takes (R.left input.old) (R.left input.new) got) }
+    ensures part { OnErr result ((got : List ℕ) × (length got ≤ count)
+        × Takes (R.source.told input.old).left (R.source.told input.new).left got) }
     ensures kind { IfErr result IsInputFault }
-    ensures later { R.faults input.old ≤ R.faults input.new }
-    ensures failed { IsErrOf result SubmitFault.Read → Rose (R.faults input.old) (R.faults input.new) }
+    ensures cause { HasReadCause (R.source.told input.old).faults (R.source.told input.new).faults result }
 {
     let mut bytes = Vec::new(alloc);
     bytes.resize(count, 0)?;
@@ -70,11 +71,12 @@ fn read_up_to<R: Source>(alloc: Global, input: &mut R, count: usize) -> Result<V
 /// Reads until the room is full, or the input ends, and tells how many bytes came.
 fn fill<R: Source>(input: &mut R, room: &mut [u8]) -> Result<usize, SubmitFault>
     ensures within { IfOk result (λ count. count ≤ length room.new) }
-    ensures given { IfOk result (λ count. GivesUpTo (length room.new) (R.left input.old) (R.left input.new) (take count room.new)) }
-    ensures part { OnErr result ((got : List ℕ) × (length got ≤ length room.old) × Takes (R.left input.old) (R.left input.new) got) }
+    ensures given { IfOk result (λ count.
+        GivesUpTo (length room.new) (R.source.told input.old).left (R.source.told input.new).left (take count room.new)) }
+    ensures part { OnErr result ((got : List ℕ) × (length got ≤ length room.old)
+        × Takes (R.source.told input.old).left (R.source.told input.new).left got) }
     ensures kind { IfErr result IsInputFault }
-    ensures later { R.faults input.old ≤ R.faults input.new }
-    ensures failed { IsErrOf result SubmitFault.Read → Rose (R.faults input.old) (R.faults input.new) }
+    ensures cause { HasReadCause (R.source.told input.old).faults (R.source.told input.new).faults result }
 {
     let mut filled = 0;
     while filled < room.len() {
@@ -96,12 +98,12 @@ fn read_behind<R: Source>(
     requires { start < length room.old }
     ensures before { take start room.new ≡ take start room.old }
     ensures count { IfOk result (λ count. start + count ≤ length room.new) }
-    ensures given { IfOk result (λ count. Takes (R.left input.old) (R.left input.new) (take count (drop start room.new))) }
-    ensures end { IfOk result (λ count. EndsAt (R.left input.old) (R.left input.new) count) }
-    ensures kept { OnErr result (Keeps (R.left input.old) (R.left input.new)) }
+    ensures given { IfOk result (λ count.
+        Takes (R.source.told input.old).left (R.source.told input.new).left (take count (drop start room.new))) }
+    ensures end { IfOk result (λ count. EndsAt (R.source.told input.old).left (R.source.told input.new).left count) }
+    ensures kept { OnErr result (Keeps (R.source.told input.old).left (R.source.told input.new).left) }
     ensures kind { IfErr result IsInputFault }
-    ensures later { R.faults input.old ≤ R.faults input.new }
-    ensures failed { IsErrOf result SubmitFault.Read → Rose (R.faults input.old) (R.faults input.new) }
+    ensures cause { HasReadCause (R.source.told input.old).faults (R.source.told input.new).faults result }
 {
     match input.read(&mut room[start..]) {
         Ok(count) => Ok(count),

@@ -1,12 +1,16 @@
 //! How one message is sent.
 
-ghost use Rattle.std.specs.Prelude.{◌≡◌, ◌≤◌, ◌++◌, ℕ, List, length, IfOk, IfErr, OnOk, OnErr, IsErrOf};
-ghost use Rattle.dns_io.specs.Edge.{Grows, HasCause, IsHandedOn, Rose};
+ghost use Rattle.std.specs.Prelude.{◌≡◌, ◌≤◌, ◌++◌, ℕ, List, length, IfOk, IfErr, OnOk, OnErr};
+ghost use Rattle.dns_io.specs.Told.{Grows, IsHandedOn};
+ghost use Rattle.dns_edges.specs.Edges.{HasCause};
 ghost use Rattle.dns_update_client.specs.Exchange.{message_frame, IsSendable, StopsSending};
+ghost use Rattle.dns_update_client.specs.Faults.{HasWriteCause};
 ghost use Rattle.dns_update_client.specs.Framed.{frame};
 
 use crate::submit_fault::SubmitFault;
-use dns_wire::{IoFault, Message, OutOfMemory, Sink, write_all};
+use dns_edges::{Sink, write_all};
+use dns_io::{IoFault, OutOfMemory};
+use dns_wire::Message;
 use std::alloc::Global;
 
 /// Writes the message behind its length by one call, and flushes.
@@ -15,11 +19,12 @@ pub(crate) fn send<W: Sink>(
     message: &Message,
     output: &mut W,
 ) -> Result<(), SubmitFault>
-    ensures ok { OnOk result (IsSendable message.now × Grows (W.taken output.old) (W.taken output.new) (message_frame message.now)) }
-    ensures handed { OnOk result (IsHandedOn (W.taken output.new) (W.flushed output.new)) }
-    ensures err { IfErr result (λ fault. (sent : List ℕ) × StopsSending message.now sent fault × Grows (W.taken output.old) (W.taken output.new) sent) }
-    ensures later { W.faults output.old ≤ W.faults output.new }
-    ensures failed { IsErrOf result SubmitFault.Write → Rose (W.faults output.old) (W.faults output.new) }
+    ensures ok { OnOk result (IsSendable message.now
+        × Grows (W.sink.told output.old).taken (W.sink.told output.new).taken (message_frame message.now)) }
+    ensures handed { OnOk result (IsHandedOn (W.sink.told output.new).taken (W.sink.told output.new).flushed) }
+    ensures err { IfErr result (λ fault. (sent : List ℕ) × StopsSending message.now sent fault
+        × Grows (W.sink.told output.old).taken (W.sink.told output.new).taken sent) }
+    ensures cause { HasWriteCause (W.sink.told output.old).faults (W.sink.told output.new).faults result }
 {
     let bytes = message.to_vec(alloc)?;
     let frame = framed(alloc, bytes.as_slice())?;
@@ -42,10 +47,11 @@ fn framed(alloc: Global, bytes: &[u8]) -> Result<Vec<u8>, OutOfMemory>
 
 /// Writes the bytes, and hands on what was taken.
 fn write_and_flush<W: Sink>(output: &mut W, bytes: &[u8]) -> Result<(), IoFault>
-    ensures ok { OnOk result (Grows (W.taken output.old) (W.taken output.new) bytes.now) }
-    ensures handed { OnOk result (IsHandedOn (W.taken output.new) (W.flushed output.new)) }
-    ensures err { OnErr result ((front rest : List ℕ) × (bytes.now ≡ front ++ rest) × Grows (W.taken output.old) (W.taken output.new) front) }
-    ensures cause { HasCause (W.faults output.old) (W.faults output.new) result }
+    ensures ok { OnOk result (Grows (W.sink.told output.old).taken (W.sink.told output.new).taken bytes.now) }
+    ensures handed { OnOk result (IsHandedOn (W.sink.told output.new).taken (W.sink.told output.new).flushed) }
+    ensures err { OnErr result ((front rest : List ℕ) × (bytes.now ≡ front ++ rest)
+        × Grows (W.sink.told output.old).taken (W.sink.told output.new).taken front) }
+    ensures cause { HasCause (W.sink.told output.old).faults (W.sink.told output.new).faults result }
 {
     write_all(output, bytes)?;
     output.flush()

@@ -1,7 +1,7 @@
 //! What the words of the command line ask for. The program's name is not among them.
 
 ghost use Rattle.std.specs.Prelude.{◌≡◌, map, string_bytes};
-ghost use Rattle.dns_update_client.specs.Settings.{id_of, server_in, id_in, settings_by, settings_in, settings_of};
+ghost use Rattle.dns_update_client.specs.Settings.{id_of, server_in, id_in, settings_by, settings_of};
 
 use dns_io::Peer;
 use dns_words::{address_of, behind, decimal_of};
@@ -21,24 +21,14 @@ pub struct Settings {
     pub first_id: u16,
 }
 
-/// What the words ask for: `--server=IP:PORT` and `--id=N`, each once, in either order. IP has 8 (IPv4) or 32 (IPv6) hex
-/// digits, and PORT and N are decimal numbers below 65,536 with no zero before another digit. Any other words give None.
+/// What the words ask for: `--server=IP:PORT` and then `--id=N`. IP has 8 (IPv4) or 32 (IPv6) hex digits, and PORT and N are decimal numbers below 65,536 with no zero before another digit. Any other words give None.
 #[tactic(auto, unfolding(crate::specs::Settings::settings_of))]
 pub fn settings_of(words: &[String]) -> Option<Settings>
     ensures { result ≡ settings_of (map string_bytes words.now) }
 {
     match words {
-        [one, other] => settings_in(one.as_str(), other.as_str()),
+        [server, id] => settings_by(server.as_str(), id.as_str()),
         _ => None,
-    }
-}
-
-fn settings_in(one: &str, other: &str) -> Option<Settings>
-    ensures { result ≡ settings_in one.now other.now }
-{
-    match settings_by(one, other) {
-        Some(settings) => Some(settings),
-        None => settings_by(other, one),
     }
 }
 

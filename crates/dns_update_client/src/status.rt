@@ -6,7 +6,8 @@ ghost use Rattle.dns_update_client.specs.Status.{status_number, entry_kind_text,
 ghost use Rattle.dns_update_client.specs.Writing.{after_writing};
 
 use crate::submit_fault::SubmitFault;
-use dns_io::{IoFault, OutOfMemory, ReadFault};
+use dns_edges::ReadFault;
+use dns_io::{IoFault, OutOfMemory};
 use dns_update_script::{ScriptFault, ScriptKind};
 use dns_zone::ZoneTextKind;
 use std::alloc::Global;

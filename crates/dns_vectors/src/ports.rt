@@ -1,8 +1,7 @@
 //! Ports in memory, whose calls fail by their numbers.
 
-use dns_io::{
-    IoFault, Ip, MemoryClock, MemorySink, MemorySource, Octets, OutOfMemory, Peer, Source,
-};
+use dns_edges::{MemoryClock, MemorySink, MemorySource, Source};
+use dns_io::{IoFault, Ip, Octets, OutOfMemory, Peer};
 use dns_ports::{Accepted, Hub, MemoryHub, MemoryTcp, MemoryUdp, StopToken, TcpPort, UdpPort};
 use std::alloc::Global;
 use std::test::Fail;

@@ -1,10 +1,11 @@
 //! Sources, sinks and clocks: over std's readers and writers, which are interrupted and fail, and in memory.
 
 use crate::words::{number, two};
-use dns_io::{
-    Clock, FileSource, MemoryClock, MemorySink, MemorySource, Octets, Reading, Sink, Source,
-    SystemClock, Writing, read_to_end, write_all,
+use dns_edges::{
+    Clock, FileSource, MemoryClock, MemorySink, MemorySource, Reading, Sink, Source, SystemClock,
+    Writing, read_to_end, write_all,
 };
+use dns_io::Octets;
 use std::alloc::Global;
 use std::cell::Cell;
 use std::io::{self, ErrorKind, Read, Write};

@@ -28,10 +28,7 @@ mod writing;
 mod writing_data;
 
 pub use boxed_name::BoxedName;
-pub use dns_io::{
-    Clock, FileSource, IoFault, Ip, MemoryClock, MemorySink, MemorySource, Octets, OutOfMemory,
-    Peer, Protocol, Reading, Sink, Source, SystemClock, Writing, told_contents, write_all,
-};
+pub use dns_io::{IoFault, Ip, Octets, OutOfMemory, Peer, Protocol, told_contents};
 pub use dns_name::{Labels, Name, ProtoError, name_laws};
 pub use edns::Edns;
 pub use header::Header;

@@ -1,6 +1,6 @@
 -- Texts that were read to their end.
 use Rattle.std.proofs.Common.{◌≡◌, ℕ, List, Option, Some, None, sym, subst}
-use Rattle.dns_io.specs.Edge.{WasRead}
+use Rattle.dns_io.specs.Told.{WasRead}
 
 -- what holds of the bytes that were read holds of the text
 pub WasRead-bytes : (a b : Option (List ℕ)) (bytes : List ℕ) (P : List ℕ → Type 0) → WasRead a b (λ text. text ≡ bytes) → P bytes → WasRead a b P

@@ -12,7 +12,7 @@ ghost use Rattle.dns_update.specs.Replay.{IsJournalledAsIs};
 ghost use Rattle.dns_zone.specs.Updates.{zone_after, IsBatchOf, Journals, LeavesBatchOf};
 ghost use Rattle.dns_keeper.specs.Keeping.{GrowsByBatch, HasCause};
 ghost use Rattle.dns_keeper.specs.Crash.{LeavesTold};
-ghost use Rattle.dns_io.specs.Edge.{Keeps};
+ghost use Rattle.dns_io.specs.Told.{Keeps};
 ghost use Rattle.dns_zone_map.specs.Mapped.{contents};
 
 use crate::zone::Zone;

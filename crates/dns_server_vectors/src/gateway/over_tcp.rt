@@ -2,7 +2,8 @@
 
 use crate::gateway::book::{PEER, book};
 use crate::gateway::words::{bytes_of, numbers, put_bytes, two};
-use dns_io::{MemoryClock, MemorySink, MemorySource, Octets};
+use dns_edges::{MemoryClock, MemorySink, MemorySource};
+use dns_io::Octets;
 use dns_requests::{ServeFault, serve_connection};
 use dns_server_core::AccessControl;
 use std::alloc::Global;

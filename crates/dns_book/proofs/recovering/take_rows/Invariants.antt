@@ -1,7 +1,7 @@
 use Rattle.std.proofs.Common.{◌≡◌, ◌≤◌}
 use Rattle.std.specs.Prelude.{IfSome}
 use Rattle.dns_name.specs.Name.{fold_of}
-use Rattle.dns_io.specs.Edge.{Keeps}
+use Rattle.dns_io.specs.Told.{Keeps}
 use Rattle.dns_keeper.specs.Crash.{LeavesNoOther}
 use Rattle.dns_book.specs.Recovering.{IsReadUpTo}
 use Rattle.dns_book.proofs.recovering.take_rows.Given as goal

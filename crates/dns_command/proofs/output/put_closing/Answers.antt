@@ -29,12 +29,12 @@ returns-in_err-put_number-2 g c =
     let second = rw c.from-2.ensures at c.in_err-put_number-2.ensures in
     rw (p.1, p.2)
     (Writes-stop _ (serial_line c.args.serial ++ rows_line c.args.length) (open_line c.args.connections) _
-    (Writes-then _ _ _ _ _ _ _ _ _ (serial_line c.args.serial) (rows_line c.args.length) _ first second))
+    (Writes-then _ _ _ (serial_line c.args.serial) (rows_line c.args.length) _ first second))
 
 pub returns : goal.returns
 returns g c =
     let first = rw c.from.ensures at c.in_ok-put_number.ensures in
     let second = rw c.from-2.ensures at c.in_ok-put_number-2.ensures in
     let third = rw c.from-3.ensures at c.put_number-3.ensures in
-    Writes-then _ _ _ _ _ _ _ _ _ (serial_line c.args.serial ++ rows_line c.args.length) (open_line c.args.connections) _
-    (Writes-then _ _ _ _ _ _ _ _ _ (serial_line c.args.serial) (rows_line c.args.length) _ first second) third
+    Writes-then _ _ _ (serial_line c.args.serial ++ rows_line c.args.length) (open_line c.args.connections) _
+    (Writes-then _ _ _ (serial_line c.args.serial) (rows_line c.args.length) _ first second) third

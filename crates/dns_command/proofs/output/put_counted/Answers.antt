@@ -41,7 +41,7 @@ returns-in_err-put_number-2 g c =
     let p = err_from_is_err_and c.from_residual-in_err-put_number-2.result c.from_residual-in_err-put_number-2.ensures.1 in
     let first = rw c.from.ensures at c.in_ok-put_number.ensures in
     rw (p.1, p.2)
-    (Writes-then _ _ _ _ _ _ _ _ _ (messages c.args.messages) (from_replies c.args.summary.now) _ first
+    (Writes-then _ _ _ (messages c.args.messages) (from_replies c.args.summary.now) _ first
     (Writes-stop _ (replies c.args.summary.now) (from_bytes c.args.summary.now) _ c.in_err-put_number-2.ensures))
 
 pub returns-in_err-put_number-3 : goal.returns-in_err-put_number-3
@@ -49,8 +49,8 @@ returns-in_err-put_number-3 g c =
     let p = err_from_is_err_and c.from_residual-in_err-put_number-3.result c.from_residual-in_err-put_number-3.ensures.1 in
     let first = rw c.from.ensures at c.in_ok-put_number.ensures in
     rw (p.1, p.2)
-    (Writes-then _ _ _ _ _ _ _ _ _ (messages c.args.messages) (from_replies c.args.summary.now) _ first
-    (Writes-then _ _ _ _ _ _ _ _ _ (replies c.args.summary.now) (from_bytes c.args.summary.now) _ c.in_ok-put_number-2.ensures
+    (Writes-then _ _ _ (messages c.args.messages) (from_replies c.args.summary.now) _ first
+    (Writes-then _ _ _ (replies c.args.summary.now) (from_bytes c.args.summary.now) _ c.in_ok-put_number-2.ensures
     (Writes-stop _ (bytes c.args.summary.now) (from_noerror c.args.summary.now) _ c.in_err-put_number-3.ensures)))
 
 pub returns-in_err-put_number-4 : goal.returns-in_err-put_number-4
@@ -58,15 +58,15 @@ returns-in_err-put_number-4 g c =
     let p = err_from_is_err_and c.from_residual-in_err-put_number-4.result c.from_residual-in_err-put_number-4.ensures.1 in
     let first = rw c.from.ensures at c.in_ok-put_number.ensures in
     rw (p.1, p.2)
-    (Writes-then _ _ _ _ _ _ _ _ _ (messages c.args.messages) (from_replies c.args.summary.now) _ first
-    (Writes-then _ _ _ _ _ _ _ _ _ (replies c.args.summary.now) (from_bytes c.args.summary.now) _ c.in_ok-put_number-2.ensures
-    (Writes-then _ _ _ _ _ _ _ _ _ (bytes c.args.summary.now) (from_noerror c.args.summary.now) _ c.in_ok-put_number-3.ensures
+    (Writes-then _ _ _ (messages c.args.messages) (from_replies c.args.summary.now) _ first
+    (Writes-then _ _ _ (replies c.args.summary.now) (from_bytes c.args.summary.now) _ c.in_ok-put_number-2.ensures
+    (Writes-then _ _ _ (bytes c.args.summary.now) (from_noerror c.args.summary.now) _ c.in_ok-put_number-3.ensures
     (Writes-stop _ (noerror c.args.summary.now) (nxdomain c.args.summary.now) _ c.in_err-put_number-4.ensures))))
 
 pub returns : goal.returns
 returns g c =
     let first = rw c.from.ensures at c.in_ok-put_number.ensures in
-    Writes-then _ _ _ _ _ _ _ _ _ (messages c.args.messages) (from_replies c.args.summary.now) _ first
-    (Writes-then _ _ _ _ _ _ _ _ _ (replies c.args.summary.now) (from_bytes c.args.summary.now) _ c.in_ok-put_number-2.ensures
-    (Writes-then _ _ _ _ _ _ _ _ _ (bytes c.args.summary.now) (from_noerror c.args.summary.now) _ c.in_ok-put_number-3.ensures
-    (Writes-then _ _ _ _ _ _ _ _ _ (noerror c.args.summary.now) (nxdomain c.args.summary.now) _ c.in_ok-put_number-4.ensures c.put_number-5.ensures)))
+    Writes-then _ _ _ (messages c.args.messages) (from_replies c.args.summary.now) _ first
+    (Writes-then _ _ _ (replies c.args.summary.now) (from_bytes c.args.summary.now) _ c.in_ok-put_number-2.ensures
+    (Writes-then _ _ _ (bytes c.args.summary.now) (from_noerror c.args.summary.now) _ c.in_ok-put_number-3.ensures
+    (Writes-then _ _ _ (noerror c.args.summary.now) (nxdomain c.args.summary.now) _ c.in_ok-put_number-4.ensures c.put_number-5.ensures)))

@@ -10,9 +10,9 @@ returns-in_err-put_outs g c =
 pub returns-in_err-put_closing : goal.returns-in_err-put_closing
 returns-in_err-put_closing g c =
     let p = err_from_is_err_and c.from_residual-in_err-put_closing.result c.from_residual-in_err-put_closing.ensures.1 in
-    rw (p.1, p.2) (Whole-stop _ _ _ (Writes-then _ _ _ _ _ _ _ _ _ _ _ _ c.in_ok-put_outs.ensures c.in_err-put_closing.ensures))
+    rw (p.1, p.2) (Whole-stop _ _ _ (Writes-then _ _ _ _ _ _ c.in_ok-put_outs.ensures c.in_err-put_closing.ensures))
 
 pub returns : goal.returns
 returns g c =
-    let written = Writes-then _ _ _ _ _ _ _ _ _ _ _ _ c.in_ok-put_outs.ensures c.in_ok-put_closing.ensures in
-    Whole-flush _ _ _ _ _ _ _ _ _ _ _ written c.flush.ensures.kept c.flush.ensures.all c.flush.ensures.cause
+    let written = Writes-then _ _ _ _ _ _ c.in_ok-put_outs.ensures c.in_ok-put_closing.ensures in
+    Whole-flush _ _ _ _ _ written c.flush.ensures.told.kept c.flush.ensures.told.all c.flush.ensures.told.cause

@@ -5,4 +5,4 @@ use Rattle.dns_command.proofs.output.put_refusal.Goals as goal
 pub returns-in_err-line : goal.returns-in_err-line
 returns-in_err-line g c =
     let p = err_from_is_err_and c.from_residual.result c.from_residual.ensures.1 in
-    rw (p.1, p.2) (Whole-stop _ _ _ (Writes-nothing _ _ _ _))
+    rw (p.1, p.2) (Whole-stop _ _ _ (Writes-nothing _ _))

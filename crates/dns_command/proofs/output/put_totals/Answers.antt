@@ -15,11 +15,11 @@ returns-in_err-put_number-2 g c =
     let p = err_from_is_err_and c.from_residual-in_err-put_number-2.result c.from_residual-in_err-put_number-2.ensures.1 in
     let first = rw c.from.ensures at c.in_ok-put_number.ensures in
     let second = rw c.from-2.ensures at c.in_err-put_number-2.ensures in
-    rw (p.1, p.2) (Whole-stop _ _ _ (Writes-then _ _ _ _ _ _ _ _ _ (number_line (codes "serial") c.args.serial) _ _ first second))
+    rw (p.1, p.2) (Whole-stop _ _ _ (Writes-then _ _ _ (number_line (codes "serial") c.args.serial) _ _ first second))
 
 pub returns : goal.returns
 returns g c =
     let first = rw c.from.ensures at c.in_ok-put_number.ensures in
     let second = rw c.from-2.ensures at c.in_ok-put_number-2.ensures in
-    let written = Writes-then _ _ _ _ _ _ _ _ _ (number_line (codes "serial") c.args.serial) _ _ first second in
-    Whole-flush _ _ _ _ _ _ _ _ _ _ _ written c.flush.ensures.kept c.flush.ensures.all c.flush.ensures.cause
+    let written = Writes-then _ _ _ (number_line (codes "serial") c.args.serial) _ _ first second in
+    Whole-flush _ _ _ _ _ written c.flush.ensures.told.kept c.flush.ensures.told.all c.flush.ensures.told.cause

@@ -1,13 +1,13 @@
-use Rattle.std.proofs.Common.{rules, ◌∷◌, [], List, refl, sym, ap, subst, ◌∙◌, length, length-append, arith}
+use Rattle.std.proofs.Common.{rules, ◌≡◌, ◌⊎◌, inl, ◌∷◌, [], List, refl, sym, ap, subst, ◌∙◌, length, length-append, arith}
 use Rattle.std.specs.Vec.Iter.{into_iter_items}
-use Rattle.dns_io.specs.Edge.{Grows}
+use Rattle.dns_io.specs.Told.{Grows}
 use Rattle.dns_io.proofs.ToldContents.{Keeps-same, Keeps-more, Grows-nothing, Grows-more}
-use Rattle.dns_command.specs.ServingParts.{AnyFault}
-use Rattle.dns_command.proofs.Loops.{one_more, all_done, some_left, rose_more}
+use Rattle.dns_command.specs.Hubs.{AnyFault}
+use Rattle.dns_command.proofs.Loops.{one_more, all_done, some_left, rose_more, calm_more}
 use Rattle.dns_command.proofs.ports.close_listeners.Goals as goal
 
 pub loop-listener-init : goal.loop-listener-init
-loop-listener-init g c = ((tt, tt), search rules, search rules, Grows-nothing _, search rules, Keeps-same _, Keeps-same _, refl, search rules, λ none. absurd none)
+loop-listener-init g c = ((tt, tt), search rules, search rules, Grows-nothing _, search rules, Keeps-same _, Keeps-same _, refl, search rules, (λ none. absurd none), inl refl)
 
 pub close_tcp-requires : goal.close_tcp-requires
 close_tcp-requires g c =
@@ -21,7 +21,7 @@ pub loop-listener-preserved : goal.loop-listener-preserved
 loop-listener-preserved g c =
     let kept = c.loop-listener.invariant in
     let steps = c.in-Some.ensures.steps in
-    let closed = c.close_tcp.ensures in
+    let closed = c.close_tcp.ensures.told in
     let one = length-append c.loop-listener.yielded (c.in-Some.listener ∷ []) in (
       (tt, tt),
       one_more _ _ _ _ _ kept.1 steps.0,
@@ -31,8 +31,9 @@ loop-listener-preserved g c =
       Keeps-more _ _ _ kept.5 closed.kept,
       Keeps-more _ _ _ kept.6 closed.udp_kept,
       closed.udp_lent ∙ kept.7,
-      (let was = kept.8 in let later = closed.later in omega (arith, was, later)),
-      rose_more _ _ _ _ _ _ kept.9 kept.8 closed.later closed.raised,
+      (let was = kept.8 in let later = closed.cause.later in omega (arith, was, later)),
+      rose_more _ _ _ _ _ _ kept.9 kept.8 closed.cause.later closed.cause.raised,
+      calm_more _ _ _ _ _ _ kept.10 closed.cause,
     )
 
 pub returns : goal.returns
@@ -40,11 +41,12 @@ returns g c =
     let kept = c.loop-listener.invariant in
     let all = all_done c.loop-listener.yielded (into_iter_items c.loop-listener.listener-iterator) c.args.listeners.items kept.1 (sym kept.2 ∙ c.in-None.ensures.steps.0) in
     record {
-      back = subst (λ (l : List g.row.H-Tcp.Denot). Grows (g.H.Hub.closed_tcp c.args.hub.now) (g.H.Hub.closed_tcp c.loop-listener.hub) l) all kept.3;
+      back = subst (λ (l : List g.row.H-Tcp.Denot). Grows (g.H.Hub.told c.args.hub.now).closed_tcp (g.H.Hub.told c.loop-listener.hub).closed_tcp l) all kept.3;
       out = let n = ap length all in let was = kept.4 in omega (arith, n, was);
       opened = kept.5;
       sockets = kept.6;
       sockets_out = kept.7;
       later = kept.8;
-      raised = λ any. kept.9 (subst (λ (l : List g.row.H-Tcp.Denot). AnyFault g.H.Tcp.TcpPort.faults l) (sym all) any);
+      raised = λ any. kept.9 (subst (λ (l : List g.row.H-Tcp.Denot). AnyFault (λ port. (g.H.Tcp.TcpPort.told port).faults) l) (sym all) any);
+      calm = subst (λ (l : List g.row.H-Tcp.Denot). ((g.H.Hub.told c.loop-listener.hub).faults ≡ (g.H.Hub.told c.args.hub.now).faults) ⊎ AnyFault (λ port. (g.H.Tcp.TcpPort.told port).faults) l) all kept.10;
     }

@@ -6,8 +6,7 @@ use Rattle.dns_command.proofs.run.serve_opened.Goals as goal
 pub returns-in_err-book-clause-err : goal.returns-in_err-book-clause-err
 returns-in_err-book-clause-err g c =
     let p = err_from_is_err_and c.from_residual.result c.from_residual.ensures.1 in
-    rw (p.1, p.2) (not_opened c.in_err-book.ensures.err c.in_err-book.ensures.kept
-    (record { opened = refl; sockets = refl; listeners = refl; sockets_out = refl; listeners_out = refl; faults = refl }) (record { content = refl; faults = refl }))
+    rw (p.1, p.2) (not_opened c.in_err-book.ensures.err c.in_err-book.ensures.kept refl refl)
 
 pub returns-in_err-served-clause-err : goal.returns-in_err-served-clause-err
 returns-in_err-served-clause-err g c =

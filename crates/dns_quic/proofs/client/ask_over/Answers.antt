@@ -8,17 +8,11 @@ returns-in-Ok-clause-went g c =
       between = c.open.new.self;
       answer = Ok (c.in-Ok.send, c.in-Ok.recv);
       opened = c.in-Ok.ensures.next;
-      asked = c.in-Ok.ensures.told;
+      asked = c.in-Ok.ensures.told.asked;
       ended = (
         c.talk-answer.new.stream,
         rw c.new-stream.ensures at c.talk-answer.ensures.talks,
-        record {
-          later_send = rw c.new-stream.ensures at c.talk-answer.ensures.later_send;
-          later_recv = rw c.new-stream.ensures at c.talk-answer.ensures.later_recv;
-          failed = rw c.new-stream.ensures at c.talk-answer.ensures.failed;
-          calm_send = rw c.new-stream.ensures at c.talk-answer.ensures.calm_send;
-          calm_recv = rw c.new-stream.ensures at c.talk-answer.ensures.calm_recv;
-        },
-        rw c.into_halves-send.ensures at c.done.ensures.told,
+        rw c.new-stream.ensures at c.talk-answer.ensures.cause,
+        rw c.into_halves-send.ensures at c.done.ensures.told.told,
       );
     }

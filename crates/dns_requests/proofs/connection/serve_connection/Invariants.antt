@@ -1,20 +1,17 @@
 -- All messages so far were settled, and their replies written.
-use Rattle.std.proofs.Common.{◌≡◌, ◌≤◌, []}
+use Rattle.std.proofs.Common.{◌≡◌, []}
 use Rattle.dns_io.specs.declared.peer.Protocol.TheVariants.{Tcp}
-use Rattle.dns_io.specs.Edge.{Keeps}
-use Rattle.dns_requests.specs.Arrivals.{Ticks}
+use Rattle.dns_io.specs.Told.{Keeps}
 use Rattle.dns_requests.proofs.Going.{Going}
 use Rattle.dns_requests.proofs.connection.serve_connection.Given as goal
 
 abbrev pub invariant-loop-turn : goal.invariant-loop-turn
 invariant-loop-turn g l =
     record {
-      going : Going (g.T.RequestHandler.serves l.access) g.T.RequestHandler.skips g.R.Source.left g.R.Source.faults g.W.Sink.taken g.W.Sink.faults (Ticks g.C.Clock.last) (record { peer = l.fn.peer; limit = l.limit; reads = l.reads })
+      going : Going (g.T.RequestHandler.serves l.access) g.T.RequestHandler.skips g.R.Source.source g.W.Sink.sink g.C.Clock.clock (record { peer = l.fn.peer; limit = l.limit; reads = l.reads })
           (record { handler = l.fn.handler; source = l.fn.source; sink = l.fn.sink; clock = l.fn.clock })
           (record { handler = l.handler; source = l.source; sink = l.sink; clock = l.clock }) l._turn l.base l.unread.items l.taken;
       ask : l.ask ≡ record { bytes = l.ask.bytes; source = l.fn.peer; protocol = Tcp; at = l.ask.at; client = 0 };
       written : l.replies.items ≡ [];
-      unflushed : Keeps (g.W.Sink.flushed l.fn.sink) (g.W.Sink.flushed l.sink);
-      read_faults : g.R.Source.faults l.fn.source ≤ g.R.Source.faults l.source;
-      write_faults : g.W.Sink.faults l.fn.sink ≤ g.W.Sink.faults l.sink;
+      unflushed : Keeps (g.W.Sink.sink.told l.fn.sink).flushed (g.W.Sink.sink.told l.sink).flushed;
     }

@@ -1,7 +1,7 @@
 -- What holds of each worker.
 use Rattle.std.proofs.Common.{rules, subst₂}
 use Rattle.dns_server.specs.declared.worker.Worker.{Worker}
-use Rattle.dns_requests.specs.Arrivals.{Ticks}
+use Rattle.dns_ports.specs.Ports.{listener_of}
 use Rattle.dns_server.specs.Servers.{ServedListener}
 use Rattle.dns_server.proofs.AllPasses.{book_at, matches_at}
 use Rattle.dns_server.proofs.listener_threads.run_listeners.Goals as goal
@@ -11,5 +11,5 @@ for_each_mut-requires-clause-accepts g c κs within = λ i w small e. book_at c.
 
 pub returns : goal.returns
 returns g c =
-    let P : Worker g.row.T.Denot → Worker g.row.T.Denot → Type 0 = ServedListener g.K.Keeper.rows g.K.Keeper.faults g.T.In.Source.left g.T.In.Source.faults g.T.Out.Sink.taken g.T.Out.Sink.flushed g.T.Out.Sink.faults (Ticks g.T.Time.Clock.last) g.T.TcpPort.left g.T.TcpPort.accepted g.T.TcpPort.ended g.T.TcpPort.faults c.args.access.now in
+    let P : Worker g.row.T.Denot → Worker g.row.T.Denot → Type 0 = ServedListener g.K.Keeper.rows g.K.Keeper.faults (listener_of g.T.TcpPort.told g.T.In.Source.source g.T.Out.Sink.sink g.T.Time.Clock.clock) c.args.access.now in
     matches_at P c.args.workers.now c.for_each_mut.new.s c.for_each_mut.auto.s (λ i d low. let h = (c.for_each_mut.ensures i d low).1 in subst₂ P h.argument_is h.left (search rules))

@@ -1,5 +1,5 @@
 -- What became of a connection.
-use Rattle.std.proofs.Common.{arith, refl, sym, ◌∙◌, Some, None}
+use Rattle.std.proofs.Common.{refl, sym, ◌∙◌, Some, None}
 use Rattle.dns_server.proofs.listener_worker.attend.Goals as goal
 
 pub returns-then-not-is_safe : goal.returns-then-not-is_safe
@@ -7,10 +7,10 @@ returns-then-not-is_safe g c = record {
   back = c.args.connection;
   answer = None;
   treated = record { unsafe = sym c.is_safe.ensures ∙ c.if-not-is_safe.true; same = refl; still = refl };
-  unread = c.done.ensures.kept;
-  unaccepted = c.done.ensures.unaccepted;
-  handed = c.done.ensures.grows;
-  later = omega (arith, c.done.ensures.calm);
+  unread = c.done.ensures.told.kept;
+  unaccepted = c.done.ensures.told.unaccepted;
+  handed = c.done.ensures.told.grows;
+  calm = c.done.ensures.told.calm;
   met = λ found. refl;
 }
 
@@ -19,9 +19,9 @@ returns g c = record {
   back = c.serve-found.new.connection;
   answer = Some c.serve-found.ensures.answer;
   treated = c.serve-found.ensures.served;
-  unread = c.done-2.ensures.kept;
-  unaccepted = c.done-2.ensures.unaccepted;
-  handed = c.done-2.ensures.grows;
-  later = omega (arith, c.done-2.ensures.calm);
+  unread = c.done-2.ensures.told.kept;
+  unaccepted = c.done-2.ensures.told.unaccepted;
+  handed = c.done-2.ensures.told.grows;
+  calm = c.done-2.ensures.told.calm;
   met = c.serve-found.ensures.met;
 }

@@ -1,7 +1,6 @@
 -- From datagram to datagram.
-use Rattle.std.proofs.Common.{◌≡◌, ◌∙◌, ℕ, List, ◌++◌, length, take, drop, Option, ap, subst, arith, Err}
+use Rattle.std.proofs.Common.{◌≡◌, ◌∙◌, ℕ, List, ◌++◌, length, take, drop, Option, ap, sym, subst, arith}
 use Rattle.std.proofs.lemmas.List.{take_at}
-use Rattle.dns_io.specs.declared.edge.IoFault.{IoFault}
 use Rattle.dns_ports.specs.declared.port.Arrived.{Arrived}
 use Rattle.dns_ports.specs.Ports.{GivesNext, GrowsBy, came_into}
 use Rattle.dns_server.specs.Sockets.{Handles, ask_for}
@@ -9,7 +8,7 @@ use Rattle.dns_server.proofs.Handling.{Going-begun, Going-more, Works-done, Work
 use Rattle.dns_server.proofs.socket_worker.serve_socket.Goals as goal
 
 pub loop-init : goal.loop-init
-loop-init g c = ((tt, tt), Going-begun (g.H.RequestHandler.serves c.args.access.now) g.H.RequestHandler.skips g.U.UdpPort.left g.U.UdpPort.received g.U.UdpPort.taken g.U.UdpPort.faults (record { handler = c.args.handler.now; port = c.args.socket.now }), c.in-Ok.ensures)
+loop-init g c = ((tt, tt), Going-begun (g.H.RequestHandler.serves c.args.access.now) g.H.RequestHandler.skips g.U.UdpPort.told (record { handler = c.args.handler.now; port = c.args.socket.now }), c.in-Ok.ensures)
 
 pub loop-preserved : goal.loop-preserved
 loop-preserved g c =
@@ -18,25 +17,26 @@ loop-preserved g c =
     let whole : take c.loop.room.len (room ++ drop (length room) c.loop.room.items) ≡ room = take_at room (drop (length room) c.loop.room.items) c.loop.room.len size in
     let front : c.split_at.result.0.now ≡ take c.in-Ok-Some.arrived.len room = c.split_at.ensures.front ∙ ap (λ (l : List ℕ). take c.in-Ok-Some.arrived.len l) (c.deref.ensures.value ∙ whole) in
     let handles = subst
-    (λ (b : List ℕ). Handles (g.H.RequestHandler.serves c.args.access.now) g.H.RequestHandler.skips g.U.UdpPort.left g.U.UdpPort.received g.U.UdpPort.taken g.U.UdpPort.faults
-    (record { handler = c.loop.handler; port = c.receive.new.self }) (record { handler = c.handle-found.new.handler; port = c.handle-found.new.socket })
-    (ask_for (b, c.in-Ok-Some.arrived.from, c.in-Ok-Some.arrived.at)) c.handle-found.result)
-    front c.handle-found.ensures in
-    let given = subst (λ (o : Option Arrived). GivesNext (g.U.UdpPort.left c.loop.socket) (g.U.UdpPort.left c.receive.new.self) (came_into room o)) c.in-Ok-Some.field-0-is c.in-Ok-Some.ensures.given in
-    let grows = subst (λ (o : Option Arrived). GrowsBy (g.U.UdpPort.received c.loop.socket) (g.U.UdpPort.received c.receive.new.self) (came_into room o)) c.in-Ok-Some.field-0-is c.in-Ok-Some.ensures.grows in (
+    (λ (b : List ℕ). Handles (g.H.RequestHandler.serves c.args.access.now) g.H.RequestHandler.skips g.U.UdpPort.told
+    (record { handler = c.loop.handler; port = c.receive.new.self }) (record { handler = c.handle-outcome.new.handler; port = c.handle-outcome.new.socket })
+    (ask_for (b, c.in-Ok-Some.arrived.from, c.in-Ok-Some.arrived.at)) c.handle-outcome.result)
+    front c.handle-outcome.ensures in
+    let given = subst (λ (o : Option Arrived). GivesNext (g.U.UdpPort.told c.loop.socket).left (g.U.UdpPort.told c.receive.new.self).left (came_into room o)) c.in-Ok-Some.field-0-is c.in-Ok-Some.ensures.told.given in
+    let grows = subst (λ (o : Option Arrived). GrowsBy (g.U.UdpPort.told c.loop.socket).received (g.U.UdpPort.told c.receive.new.self).received (came_into room o)) c.in-Ok-Some.field-0-is c.in-Ok-Some.ensures.told.grows in (
       (tt, tt),
-      Going-more _ _ _ _ _ _ _ c.loop.handler c.loop.socket c.receive.new.self (take c.in-Ok-Some.arrived.len room, c.in-Ok-Some.arrived.from, c.in-Ok-Some.arrived.at) c.handle-found.new.handler c.handle-found.new.socket
-          c.loop.is_short c.handle-found.result c.is_short_then-is_short.result c.loop.invariant.1 given grows c.receive.ensures.unanswered c.receive.ensures.cause.later handles c.is_short_then-is_short.ensures,
+      Going-more _ _ _ _ c.loop.handler c.loop.socket c.receive.new.self (take c.in-Ok-Some.arrived.len room, c.in-Ok-Some.arrived.from, c.in-Ok-Some.arrived.at) c.handle-outcome.new.handler c.handle-outcome.new.socket
+          c.loop.is_short c.handle-outcome.result c.is_short_then-is_short.result c.loop.invariant.1 given grows c.receive.ensures.told.unanswered c.in-Ok-Some.ensures.told.cause.counts handles
+          (λ e. let f = c.is_short_then-is_short.ensures e in (f.0, sym c.found_memory.ensures ∙ f.1)),
       omega (arith, ap length whole, size, c.loop.room.ok, c.loop.invariant.2),
     )
 
 pub returns-in-Ok-None : goal.returns-in-Ok-None
 returns-in-Ok-None g c =
-    let given = subst (λ (o : Option Arrived). GivesNext (g.U.UdpPort.left c.loop.socket) (g.U.UdpPort.left c.receive.new.self) (came_into c.receive.new.room o)) c.in-Ok-None.field-0-is c.in-Ok-None.ensures.given in
-    let grows = subst (λ (o : Option Arrived). GrowsBy (g.U.UdpPort.received c.loop.socket) (g.U.UdpPort.received c.receive.new.self) (came_into c.receive.new.room o)) c.in-Ok-None.field-0-is c.in-Ok-None.ensures.grows in
-    Works-done _ _ _ _ _ _ _ c.loop.handler c.loop.socket c.receive.new.self c.loop.is_short c.ended.result c.loop.invariant.1 given grows c.receive.ensures.unanswered c.receive.ensures.cause.later c.ended.ensures
+    let given = subst (λ (o : Option Arrived). GivesNext (g.U.UdpPort.told c.loop.socket).left (g.U.UdpPort.told c.receive.new.self).left (came_into c.receive.new.room o)) c.in-Ok-None.field-0-is c.in-Ok-None.ensures.told.given in
+    let grows = subst (λ (o : Option Arrived). GrowsBy (g.U.UdpPort.told c.loop.socket).received (g.U.UdpPort.told c.receive.new.self).received (came_into c.receive.new.room o)) c.in-Ok-None.field-0-is c.in-Ok-None.ensures.told.grows in
+    Works-done _ _ _ _ c.loop.handler c.loop.socket c.receive.new.self c.loop.is_short c.ended.result c.loop.invariant.1 given grows c.receive.ensures.told.unanswered c.in-Ok-None.ensures.told.cause.counts c.ended.ensures
 
 pub returns-in-Err : goal.returns-in-Err
 returns-in-Err g c =
-    Works-failed _ _ _ _ _ _ _ c.loop.handler c.loop.socket c.receive.new.self c.loop.is_short c.in-Err.fault c.loop.invariant.1 c.in-Err.ensures.kept c.in-Err.ensures.unreceived c.receive.ensures.unanswered c.receive.ensures.cause.later
-    (λ e. c.in-Err.ensures.cause.failed (ap (λ (x : IoFault). Err x) e))
+    Works-failed _ _ _ _ c.loop.handler c.loop.socket c.receive.new.self c.loop.is_short c.in-Err.fault c.loop.invariant.1 c.in-Err.ensures.told.kept c.in-Err.ensures.told.unreceived c.receive.ensures.told.unanswered c.receive.ensures.told.cause.later
+    c.in-Err.ensures.told.cause.counts

@@ -6,5 +6,5 @@ use Rattle.dns_server.proofs.socket_worker.serve_socket.Given as goal
 abbrev pub invariant-loop : goal.invariant-loop
 invariant-loop g l =
     ((goal.iterator-loop g).can_next l.iterator' × (goal.iterator-loop g).is_finite l.iterator')
-    × Going (g.H.RequestHandler.serves l.access) g.H.RequestHandler.skips g.U.UdpPort.left g.U.UdpPort.received g.U.UdpPort.taken g.U.UdpPort.faults (record { handler = l.fn.handler; port = l.fn.socket }) l.handler l.socket l.is_short
+    × Going (g.H.RequestHandler.serves l.access) g.H.RequestHandler.skips g.U.UdpPort.told (record { handler = l.fn.handler; port = l.fn.socket }) l.handler l.socket l.is_short
     × (length l.room.items ≡ 65535)

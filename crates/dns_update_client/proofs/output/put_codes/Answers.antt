@@ -8,4 +8,4 @@ returns-in_err-put_lines g c =
     rw (p.1, p.2) (Whole-stop _ _ _ c.in_err-put_lines.ensures)
 
 pub returns : goal.returns
-returns g c = Whole-flush _ _ _ _ _ _ _ _ _ _ _ c.in_ok-put_lines.ensures c.flush.ensures.kept c.flush.ensures.all c.flush.ensures.cause
+returns g c = Whole-flush _ _ _ _ _ c.in_ok-put_lines.ensures c.flush.ensures.told.kept c.flush.ensures.told.all c.flush.ensures.told.cause

@@ -1,8 +1,10 @@
 use Rattle.std.proofs.Common.{◌≡◌, ◌+◌, ◌++◌, ◌∙◌, ℕ, List, length, take, drop, ap, arith}
 use Rattle.std.proofs.Math.Seq.{take-add}
 use Rattle.std.proofs.lemmas.List.{length-take-le}
+use Rattle.std.proofs.lemmas.Result.{err_from_is_err_and}
 use Rattle.dns_io.proofs.ToldContents.{Takes-Keeps, Takes-more}
 use Rattle.dns_update_client.proofs.NotSent.{on-err}
+use Rattle.dns_update_client.proofs.Causes.{read-err, read-then}
 use Rattle.dns_update_client.proofs.receiving.fill.Goals as goal
 
 pub returns-in_err-count-clause-part : goal.returns-in_err-count-clause-part
@@ -24,5 +26,10 @@ loop-filled-preserved g c =
     record {
       taken = rw all (Takes-more _ _ _ _ _ c.loop-filled.invariant.taken c.in_ok-count.ensures.given);
       within = c.in_ok-count.ensures.count;
-      later = omega (arith, c.loop-filled.invariant.later, c.in_ok-count.ensures.later);
+      calm = c.in_ok-count.ensures.cause.counts ∙ c.loop-filled.invariant.calm;
     }
+
+pub returns-in_err-count-clause-cause : goal.returns-in_err-count-clause-cause
+returns-in_err-count-clause-cause g c =
+    let p = err_from_is_err_and c.from_residual.result c.from_residual.ensures.1 in
+    rw (p.1, p.2) (read-then _ _ _ _ c.loop-filled.invariant.calm (read-err _ _ _ c.in_err-count.ensures.cause))

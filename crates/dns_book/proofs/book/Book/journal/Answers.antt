@@ -1,5 +1,5 @@
 use Rattle.std.proofs.Common.{rules, ◌≡◌, ℕ, ◌+◌, ◌<◌, length, false, Some, None, Err, refl, sym, ap, subst, arith}
-use Rattle.dns_io.specs.Edge.{Keeps}
+use Rattle.dns_io.specs.Told.{Keeps}
 use Rattle.dns_update.specs.Change.{batch_of}
 use Rattle.dns_book.specs.Book.{SeenOf, Ends}
 use Rattle.dns_book.specs.Outcome.{IsPassing, Journals}

@@ -3,7 +3,7 @@ use Rattle.sqlite.specs.Held.{state}
 use Rattle.sqlite.specs.State.{State}
 use Rattle.sqlite.specs.Effect.{Database}
 use Rattle.dns_sqlite.specs.Versions.{IsAtVersion}
-use Rattle.dns_io.specs.Edge.{Keeps}
+use Rattle.dns_io.specs.Told.{Keeps}
 use Rattle.dns_wire.specs.WireFormat.{record_bytes}
 use Rattle.dns_keeper.specs.Keeping.{IsStampFor}
 use Rattle.dns_keeper.specs.Crash.{IsGrownFrom}

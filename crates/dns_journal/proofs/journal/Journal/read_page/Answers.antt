@@ -2,7 +2,7 @@ use Rattle.std.proofs.Common.{◌≡◌, pos, sym, subst, arith, w64, to_z, of_z
 use Rattle.std.proofs.lemmas.Int.{to_z-of_z}
 use Rattle.sqlite.specs.Held.{state}
 use Rattle.sqlite.specs.Effect.{Database}
-use Rattle.dns_io.specs.Edge.{Keeps}
+use Rattle.dns_io.specs.Told.{Keeps}
 use Rattle.dns_sqlite.specs.Reads.{HasPage}
 use Rattle.dns_journal.specs.Told.{rows_in}
 use Rattle.dns_journal.specs.Stored.{ShowsRow}

@@ -1,4 +1,4 @@
-use Rattle.dns_program.specs.HostFiles.{file_rows}
+use Rattle.dns_program.specs.HostFiles.{file_rows, file_may_leave}
 use Rattle.dns_program.proofs.file_journal.FileJournalKeeper.append.Goals as goal
 
 pub returns-clause-ok : goal.returns-clause-ok
@@ -12,3 +12,11 @@ returns-clause-err c = c.append.ensures.err
 pub returns-clause-ascending : goal.returns-clause-ascending
 unfolding file_rows
 returns-clause-ascending c = c.append.ensures.ascending
+
+pub returns-clause-alone : goal.returns-clause-alone
+unfolding file_rows file_may_leave
+returns-clause-alone c = c.append.ensures.alone
+
+pub returns-clause-left : goal.returns-clause-left
+unfolding file_rows file_may_leave
+returns-clause-left c = c.append.ensures.left

@@ -1,7 +1,7 @@
 -- The server has all passes still.
 use Rattle.std.proofs.Common.{◌≡◌, ◌++◌, List, length, take, drop, arith, subst}
 use Rattle.std.proofs.lemmas.List.{take_at}
-use Rattle.dns_requests.specs.Arrivals.{Ticks}
+use Rattle.dns_ports.specs.Ports.{listener_of}
 use Rattle.dns_server.specs.declared.worker.Worker.{Worker}
 use Rattle.dns_server.specs.Servers.{Matches, ServedListener, ServedSocket}
 use Rattle.dns_server.proofs.AllPasses.{whole_ran}
@@ -12,9 +12,8 @@ invariant_of-self g c =
     let s = c.self.inside in
     let sockets : List (Worker g.row.U.Denot) = c.run_all.new.sockets in
     let listeners : List (Worker g.row.T.Denot) = c.run_all.new.listeners in
-    let R : Worker g.row.U.Denot → Worker g.row.U.Denot → Type 0 = ServedSocket g.K.Keeper.rows g.K.Keeper.faults g.U.UdpPort.left g.U.UdpPort.received g.U.UdpPort.taken g.U.UdpPort.faults s.access in
-    let S : Worker g.row.T.Denot → Worker g.row.T.Denot → Type 0 = ServedListener g.K.Keeper.rows g.K.Keeper.faults g.T.In.Source.left g.T.In.Source.faults g.T.Out.Sink.taken g.T.Out.Sink.flushed g.T.Out.Sink.faults (Ticks g.T.Time.Clock.last)
-    g.T.TcpPort.left g.T.TcpPort.accepted g.T.TcpPort.ended g.T.TcpPort.faults s.access in
+    let R : Worker g.row.U.Denot → Worker g.row.U.Denot → Type 0 = ServedSocket g.K.Keeper.rows g.K.Keeper.faults g.U.UdpPort.told s.access in
+    let S : Worker g.row.T.Denot → Worker g.row.T.Denot → Type 0 = ServedListener g.K.Keeper.rows g.K.Keeper.faults (listener_of g.T.TcpPort.told g.T.In.Source.source g.T.Out.Sink.sink g.T.Time.Clock.clock) s.access in
     let m = subst (λ (l : List (Worker g.row.U.Denot)). Matches R l sockets) c.as_mut_slice.ensures.value c.run_all.ensures.sockets in
     let n = subst (λ (l : List (Worker g.row.T.Denot)). Matches S l listeners) c.as_mut_slice-2.ensures.value c.run_all.ensures.listeners in
     let all : take s.sockets.len (sockets ++ drop (length sockets) s.sockets.items) ≡ sockets = take_at sockets (drop (length sockets) s.sockets.items) s.sockets.len (omega (arith, c.run_all.auto.sockets, c.as_mut_slice.ensures.len)) in

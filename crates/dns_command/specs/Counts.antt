@@ -1,0 +1,55 @@
+-- Which counts of faults rose in the top call: those alone of which its status tells, or the work that it tells of.
+use Rattle.std.specs.Prelude.{◌≡◌, ◌⊎◌, List, Some}
+use Rattle.dns_io.specs.Told.{Grows, Rose}
+use Rattle.dns_edges.specs.Edges.{Around, SourceTold}
+use Rattle.dns_ports.specs.Ports.{HubTold}
+use Rattle.dns_command.specs.declared.status.Status.{Status}
+use Rattle.dns_command.specs.declared.status.Status.TheVariants as status
+use Rattle.dns_command.specs.declared.listening_words.Service.{Service}
+use Rattle.dns_command.specs.ListeningWords.{service_of}
+use Rattle.dns_command.specs.Status.{refusal_line}
+use Rattle.dns_command.specs.World.{World, IsStill}
+use Rattle.dns_command.specs.Hubs.{Meanings, TakesFaulty}
+use Rattle.dns_command.specs.Ends.{TookFront}
+use Rattle.dns_command.specs.Serving.{openings_of}
+
+-- it ended with the status of a refusal; or the line of that refusal was cut, for a fault of the output or for want of memory
+pub data ComesOf (w : World) (cause : Status) : Status → Type 0 where
+  with_line : ComesOf w cause cause
+  cut_by_fault : TookFront w (refusal_line cause) → ComesOf w cause status.WriteFault
+  cut_for_memory : TookFront w (refusal_line cause) → ComesOf w cause status.OutOfMemory
+
+-- the count of a source stood still, or it is told that it could not be read
+abbrev pub CountsReading : World → Around SourceTold → Status → Type 0
+CountsReading w source s = IsStill source ⊎ (Rose source.before.faults source.after.faults × ComesOf w status.ReadFault s)
+
+-- the count of the output stood still, or it is told that it could not be written
+abbrev pub CountsWriting : World → Status → Type 0
+CountsWriting w s =
+    (w.output.after.faults ≡ w.output.before.faults) ⊎ (Rose w.output.before.faults w.output.after.faults × (s ≡ status.WriteFault))
+
+-- the counts of the texts and of the output, for a list of events
+pub record Counts (w : World) (s : Status) : Type 0 where
+  pub zone : CountsReading w w.zone s
+  pub events : CountsReading w w.events s
+  pub output : CountsWriting w s
+
+-- the ports of the words of `serve` were all opened
+pub record HasServed {U T : Type 0} (w : World) (hub : Around (HubTold U T)) : Type 0 where
+  pub service : Service
+  pub legal : service_of w.words ≡ Some service
+  pub opened : Grows hub.before.openings hub.after.openings (openings_of service.listening)
+
+-- the hub took back a port whose own count is above 0
+pub record TakesSomeFaulty {K U T R W C : Type 0} (m : Meanings K U T R W C) (hub : Around (HubTold U T)) : Type 0 where
+  pub sockets : List U
+  pub listeners : List T
+  pub taken : TakesFaulty m hub sockets listeners
+
+-- The counts of all objects but the journal. That of the source of the events also rises where it failed while the ports were served,
+-- which ends that; and the hub's where a port could not be opened or failed, and where it took one back whose own count is above 0.
+pub record RunCounts {K U T R W C : Type 0} (m : Meanings K U T R W C) (w : World) (hub : Around (HubTold U T)) (s : Status) : Type 0 where
+  pub zone : CountsReading w w.zone s
+  pub events : CountsReading w w.events s ⊎ HasServed w hub
+  pub output : CountsWriting w s
+  pub ports : (hub.after.faults ≡ hub.before.faults) ⊎ ((Rose hub.before.faults hub.after.faults × ComesOf w status.PortFault s) ⊎ TakesSomeFaulty m hub)

@@ -1,0 +1,6 @@
+-- A flush changes nothing that was taken.
+use Rattle.std.specs.Io.KnownBytes.{Keeps}
+use Rattle.dns_edges.proofs.adapters.flush_retrying.Given as goal
+
+abbrev pub invariant-loop : goal.invariant-loop
+invariant-loop g l = Keeps (g.W.Write.contents l.fn.writer) (g.W.Write.contents l.writer)

@@ -1,6 +1,0 @@
--- A flush changes nothing that was taken.
-use Rattle.std.specs.Io.KnownBytes.{Keeps}
-use Rattle.dns_io.proofs.adapters.flush_retrying.Given as goal
-
-abbrev pub invariant-loop : goal.invariant-loop
-invariant-loop g l = Keeps (g.W.Write.contents l.fn.writer) (g.W.Write.contents l.writer)

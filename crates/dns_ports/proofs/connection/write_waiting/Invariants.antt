@@ -1,0 +1,6 @@
+-- A write that failed took nothing.
+use Rattle.std.specs.Io.KnownBytes.{Keeps}
+use Rattle.dns_ports.proofs.connection.write_waiting.Given as goal
+
+abbrev pub invariant-loop : goal.invariant-loop
+invariant-loop g l = Keeps (g.W.Write.contents l.fn.writer) (g.W.Write.contents l.writer)

@@ -1,0 +1,29 @@
+//! What the words of the command line choose.
+
+ghost use Rattle.std.specs.Prelude.{◌≡◌, IfOk, map, string_bytes};
+ghost use Rattle.std.specs.Option.{option_map};
+ghost use Rattle.dns_program.specs.Choices.{journal_path, zone_path};
+
+use dns_command::{JOURNAL, ZONE, is_command, path_of};
+use dns_io::OutOfMemory;
+use std::alloc::Global;
+
+/// The path of the journal's file: the one that the words of a command name. For words that are no command no file is opened.
+pub fn journal_path<'a>(alloc: Global, words: &'a [String]) -> Result<Option<&'a str>, OutOfMemory>
+    ensures { IfOk result (λ path. option_map (λ p. p.now) path ≡ journal_path (map string_bytes words.now)) }
+{
+    let Some(path) = path_of(words, JOURNAL) else {
+        return Ok(None);
+    };
+    if is_command(alloc, words)? {
+        return Ok(Some(path));
+    }
+    Ok(None)
+}
+
+/// The path of the zone text's file, where the words name one.
+pub fn zone_path<'a>(words: &'a [String]) -> Option<&'a str>
+    ensures { option_map (λ path. path.now) result ≡ zone_path (map string_bytes words.now) }
+{
+    path_of(words, ZONE)
+}
