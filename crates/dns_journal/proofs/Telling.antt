@@ -181,8 +181,8 @@ left_told s clean live shown rows m = rw (clean_of s.is_clean clean, live) (ap (
 
 -- ---- what is told is of calls that go to a connection, a clean disk and an open connection
 
-pub record Tells (ready : Bool) (s : State) (rows : List Row) : Type 0 where
-  pub ready : ready ≡ true
+pub record Tells (is_ready : Bool) (s : State) (rows : List Row) : Type 0 where
+  pub ready : is_ready ≡ true
   pub clean : IsTrue s.is_clean
   pub live : IsTrue s.is_open
   pub told : told (s.now.trees 1) ≡ Some rows

@@ -46,7 +46,7 @@ abbrev pub PassesFirst : ℤ → Page → Page → Type 0
 PassesFirst id old new = (row : Row) → row.id ≡ id → (table : List Shown) → HoldsPage old.next table (row ∷ into_iter_items old.rest) → Holds new table
 
 -- what a journal keeps is true of its connection
-pub record IsTrueOf (ready : Bool) (version : ℤ) (page : Page) (s : State) : Type 0 where
-  pub ready : IsReady ready version s
-  pub page : HoldsRows page s
+pub record IsTrueOf (is_ready : Bool) (version : ℤ) (kept : Page) (s : State) : Type 0 where
+  pub ready : IsReady is_ready version s
+  pub page : HoldsRows kept s
   pub fits : FitsConnection version s

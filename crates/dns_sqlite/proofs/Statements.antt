@@ -1,5 +1,5 @@
 -- How statements follow one another inside a transaction.
-use Rattle.std.proofs.Common.{true, false, IsTrue, Result, Ok, Err, OnOk, IsErr, arith}
+use Rattle.std.proofs.Common.{Result, Ok, Err, OnOk, IsErr, arith}
 use Rattle.sqlite.specs.declared.error.Error.{Error}
 use Rattle.sqlite.specs.Effect.{Database}
 use Rattle.sqlite.specs.State.{State, HasCleanDisk}

@@ -1,9 +1,4 @@
-use Rattle.std.proofs.Common.{true, false, refl, sym, subst}
-use Rattle.sqlite.specs.Effect.{Database}
-use Rattle.dns_sqlite.specs.Tables.{empty_schema}
-use Rattle.dns_sqlite.specs.Statements.{HasSchema, Statement}
-use Rattle.dns_sqlite.specs.Versions.{HasMade, IsVersionZero, IsNewJournal, IsBefore}
-use Rattle.dns_sqlite.proofs.Statements.{refused, follows}
+use Rattle.dns_sqlite.proofs.Statements.{refused}
 use Rattle.dns_sqlite.proofs.schema.make_tables.Goals as goal
 
 pub returns-in_err-_made-clause-done : goal.returns-in_err-_made-clause-done

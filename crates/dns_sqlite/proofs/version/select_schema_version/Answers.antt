@@ -1,4 +1,4 @@
-use Rattle.std.proofs.Common.{◌≡◌, true, false, Some, None, pos, rules}
+use Rattle.std.proofs.Common.{◌≡◌, false, Some, None, pos, rules}
 use Rattle.sqlite.specs.Held.{state}
 use Rattle.dns_sqlite.specs.Versions.{has_versions, version_of}
 use Rattle.dns_sqlite.proofs.Versions.{not_there, version_hides, fits_table, lacks}
