@@ -1,5 +1,5 @@
 -- How far the records of a journal are read.
-use Rattle.std.proofs.Common.{◌≡◌, ◌+ℤ◌, ◌-◌, ◌^◌, ◌++◌, ◌≤◌, ℤ, pos, neg_ℤ, List, [], ◌∷◌, true, false, Option, Some, None, inl, inr, refl, sym, ap, subst, ◌∙◌, arith, append_assoc, append-nil, if◌then◌else◌}
+use Rattle.std.proofs.Common.{◌≡◌, ◌+ℤ◌, ◌-◌, ◌^◌, ◌++◌, ◌≤◌, ℤ, pos, neg_ℤ, List, [], ◌∷◌, true, false, Option, Some, None, Ok, Err, inl, inr, refl, sym, ap, subst, ◌∙◌, arith, append_assoc, append-nil, if◌then◌else◌}
 use Rattle.std.specs.Int.Signed.{le_z}
 use Rattle.std.proofs.lemmas.Int.{ints}
 use Rattle.std.proofs.lemmas.Bool.{cases_Bool, and_parts}
@@ -11,10 +11,14 @@ use Rattle.dns_wire.specs.declared.record.Record.{Record}
 use Rattle.dns_keeper.specs.declared.row.Row.{Row}
 use Rattle.dns_keeper.specs.Rows.{first_from, is_below_first, is_ascending}
 use Rattle.dns_keeper.specs.Keeping.{TellsAscending}
-use Rattle.dns_journal.specs.Told.{View, rows_of, told_rows}
+use Rattle.dns_io.specs.Told.{one_more}
+use Rattle.dns_journal.specs.declared.error.PersistenceError.{PersistenceError}
+use Rattle.dns_journal.specs.declared.error.PersistenceError.TheVariants.{Sqlite, OutOfMemory}
+use Rattle.dns_journal.specs.Counting.{CountsAs}
+use Rattle.dns_journal.specs.Selects.{WasRead, Selects, SelectsAll}
+use Rattle.dns_journal.specs.Told.{View, rows_of, told_rows, IsUnready}
 use Rattle.sqlite.specs.State.{State, HasCleanDisk}
 use Rattle.sqlite_trees.specs.View.{doubt}
-use Rattle.dns_journal.specs.Crash.{LeavesTrees}
 use Rattle.dns_journal.specs.Stored.{KeepsDatabase, IsStoredFrom, AreStored, ShowsRecord, ShowsNoRecord, ShowsRecords, HasStoredNoRecord}
 use Rattle.sqlite.specs.Effect.{Database}
 use Rattle.dns_journal.specs.Records.{IsNoRecord, IsRecordOf, IsRecordFrom, IsNoRecordFrom, AreRecords, AreRecordsOf, HasNoRecord, TellsNoRecord}
@@ -123,7 +127,7 @@ module _ {S : Type 0} (g : Ghosts S) (j : View S) where
       go : (o : Option (List Row)) → told_rows g j ≡ o → IsReadTo o (neg_ℤ (pos (2 ^ 63))) []
       go None e = tt
       go (Some rows) e = λ more all.
-          let it = tells j.version (state g j.conn) rows e in
+          let it = tells j.is_ready (state g j.conn) rows e in
           subst (λ rs. AreRecords rs more) (all_from ((state g j.conn).now.trees 1) rows (told_is ((state g j.conn).now.trees 1) rows it.told).reads) all
 
   pub read_all : (records : List Record) → IsReadTo (told_rows g j) (pos (2 ^ 63 - 1) +ℤ pos 1) records → AreRecordsOf (told_rows g j) records
@@ -132,7 +136,7 @@ module _ {S : Type 0} (g : Ghosts S) (j : View S) where
       go : (o : Option (List Row)) → told_rows g j ≡ o → IsReadTo o (pos (2 ^ 63 - 1) +ℤ pos 1) records → AreRecordsOf o records
       go None e read = tt
       go (Some rows) e read =
-          let it = tells j.version (state g j.conn) rows e in
+          let it = tells j.is_ready (state g j.conn) rows e in
           let all : AreRecords rows (records ++ []) = read [] (subst (λ rs. AreRecords rs []) (sym (none_from ((state g j.conn).now.trees 1) rows (told_is ((state g j.conn).now.trees 1) rows it.told).reads)) tt) in
           subst (AreRecords rows) (append-nil records) all
 
@@ -217,51 +221,128 @@ stored_no_record first mid now from records falls was is = λ clean.
 
 -- what a loop keeps that read the rows below this id
 pub record Read {S : Type 0} (g : Ghosts S) (first now : View S) (from : ℤ) (records : List Record) : Type 0 where
-  pub version : now.version ≡ first.version
+  pub was : WasRead g first now
   pub counted : now.faults ≡ first.faults
-  pub falls : doubt (state g first.conn).is_clean ≤ doubt (state g now.conn).is_clean
-  pub kept : Keeps (told_rows g first) (told_rows g now)
-  pub left : LeavesTrees (state g now.conn) (state g first.conn).may_leave
   pub read : IsReadTo (told_rows g now) from records
-  pub untouched : KeepsDatabase (state g first.conn) (state g now.conn)
   pub shown : IsShownTo (state g first.conn) (state g now.conn) from records
+
+-- a journal that was not touched was only read
+pub was_read_none : {S : Type 0} (g : Ghosts S) (j : View S) → WasRead g j j
+was_read_none g j = record {
+  kept = keeps_same (told_rows g j);
+  untouched = λ clean live. (live, refl);
+  left = λ clean db may. may;
+  falls = omega arith;
+  mode = λ alone. alone;
+  version = refl;
+  ready = refl;
+}
+
+-- what was read twice was only read
+pub was_read_then : {S : Type 0} (g : Ghosts S) (first mid now : View S) → WasRead g first mid → WasRead g mid now → WasRead g first now
+was_read_then g first mid now was is = record {
+  kept = keeps_then (told_rows g first) (told_rows g mid) (told_rows g now) was.kept is.kept;
+  untouched = keeps_database_then (state g first.conn) (state g mid.conn) (state g now.conn) is.falls was.untouched is.untouched;
+  left = λ clean db may. let early : HasCleanDisk (state g mid.conn) = omega (arith, is.falls, clean) in was.left early db (is.left clean db may);
+  falls = let a = was.falls in omega (arith, a, is.falls);
+  mode = λ alone. is.mode (was.mode alone);
+  version = is.version ∙ was.version;
+  ready = is.ready ∙ was.ready;
+}
 
 pub begins : {S : Type 0} (g : Ghosts S) (j : View S) → Read g j j (neg_ℤ (pos (2 ^ 63))) []
 begins g j = record {
-  version = refl;
+  was = was_read_none g j;
   counted = refl;
-  falls = omega arith;
-  kept = keeps_same (told_rows g j);
-  left = λ clean db may. may;
   read = read_none g j;
-  untouched = λ clean live. (live, refl);
   shown = λ clean. (refl, λ more all. all);
 }
 
 -- a row more
-pub goes_on : {S : Type 0} (g : Ghosts S) (first mid now : View S) (from id : ℤ) (records : List Record) (r : Record) → Read g first mid from records → now.version ≡ mid.version → now.faults ≡ mid.faults
-    → doubt (state g mid.conn).is_clean ≤ doubt (state g now.conn).is_clean → Keeps (told_rows g mid) (told_rows g now) → LeavesTrees (state g now.conn) (state g mid.conn).may_leave
-    → IsRecordFrom (told_rows g now) from (Some (id, r)) → KeepsDatabase (state g mid.conn) (state g now.conn) → ShowsRecord from (state g mid.conn) (state g now.conn) (Some (id, r))
+pub goes_on : {S : Type 0} (g : Ghosts S) (first mid now : View S) (from id : ℤ) (records : List Record) (r : Record) → Read g first mid from records → Selects g mid now from (Ok (Some (id, r)))
     → Read g first now (id +ℤ pos 1) (records ++ r ∷ [])
-goes_on g first mid now from id records r was version counted falls kept left found untouched shown = record {
-  version = version ∙ was.version;
-  counted = counted ∙ was.counted;
-  falls = let a = was.falls in omega (arith, a, falls);
-  kept = keeps_then (told_rows g first) (told_rows g mid) (told_rows g now) was.kept kept;
-  left = λ clean db may. let early : HasCleanDisk (state g mid.conn) = omega (arith, falls, clean) in was.left early db (left clean db may);
-  read = read_more (told_rows g mid) (told_rows g now) from id records r (told_ascends g now) kept found was.read;
-  untouched = keeps_database_then (state g first.conn) (state g mid.conn) (state g now.conn) falls was.untouched untouched;
-  shown = shown_more (state g first.conn) (state g mid.conn) (state g now.conn) from id records r falls was.shown shown;
+goes_on g first mid now from id records r was one = record {
+  was = was_read_then g first mid now was.was one.read;
+  counted = one.cause.counts ∙ was.counted;
+  read = read_more (told_rows g mid) (told_rows g now) from id records r (told_ascends g now) one.read.kept one.found was.read;
+  shown = shown_more (state g first.conn) (state g mid.conn) (state g now.conn) from id records r one.read.falls was.shown one.shown;
 }
 
 -- ---- how a loop ends
 
-module _ {S : Type 0} (g : Ghosts S) (first mid now : View S) (from : ℤ) (records : List Record) (was : Read g first mid from records) (falls : doubt (state g mid.conn).is_clean ≤ doubt (state g now.conn).is_clean) where
-  pub stays : KeepsDatabase (state g mid.conn) (state g now.conn) → KeepsDatabase (state g first.conn) (state g now.conn)
-  stays is = keeps_database_then (state g first.conn) (state g mid.conn) (state g now.conn) falls was.untouched is
+-- a version that is the current one, and calls that go to the connection
+pub not_unready : {S : Type 0} {X : Type 0} (j : View S) → j.version ≡ pos 1 → j.is_ready ≡ true → IsUnready j → X
+not_unready j current ready (inl other) = absurd (other current)
+not_unready j current ready (inr none) = absurd (let it : true ≡ false = sym ready ∙ none in cc)
 
-  pub ends : ShowsRecord from (state g mid.conn) (state g now.conn) None → ShowsRecords (state g first.conn) (state g now.conn) records
-  ends is = shown_end (state g first.conn) (state g mid.conn) (state g now.conn) from records falls was.shown is
+-- the calls of the journal do not go to the connection
+pub all_unready : {S : Type 0} (g : Ghosts S) (old new : View S) → old.is_ready ≡ false → new ≡ record old { faults = one_more old.faults } → SelectsAll g old new (Err Sqlite)
+all_unready g old new unready counted = subst (λ j. SelectsAll g old j (Err Sqlite)) (sym counted) (record {
+  records = tt;
+  recovery = λ is. absurd (cc);
+  shown = tt;
+  spoiled = λ is. absurd (cc);
+  read = record { kept = keeps_same (told_rows g old); untouched = λ clean live. (live, refl); left = λ clean db may. may; falls = omega arith; mode = λ alone. alone; version = refl; ready = refl };
+  named = tt;
+  other = λ _. record { named = refl; counted = refl };
+  cause = record { later = omega arith; counts = omega arith };
+})
 
-  pub breaks : ShowsNoRecord from (state g mid.conn) (state g now.conn) → HasStoredNoRecord (state g first.conn) (state g now.conn)
-  breaks is = stored_no_record (state g first.conn) (state g mid.conn) (state g now.conn) from records falls was.shown is
+module _ {S : Type 0} (g : Ghosts S) (first mid now : View S) (from : ℤ) (records : List Record) (was : Read g first mid from records) (current : first.version ≡ pos 1) (ready : first.is_ready ≡ true) where
+  -- all were read
+  all_read : (was_read : WasRead g first now) → now.faults ≡ first.faults → AreRecordsOf (told_rows g now) records → ShowsRecords (state g first.conn) (state g now.conn) records → SelectsAll g first now (Ok records)
+  all_read was_read calm told shown = record {
+    records = told;
+    recovery = λ is. absurd (cc);
+    shown = shown;
+    spoiled = λ is. absurd (cc);
+    read = was_read;
+    named = tt;
+    other = not_unready first current ready;
+    cause = record { later = omega (arith, calm); counts = calm };
+  }
+
+  -- no row is left
+  pub ends : Selects g mid now from (Ok None) → SelectsAll g first now (Ok records)
+  ends last =
+      all_read (was_read_then g first mid now was.was last.read) (last.cause.counts ∙ was.counted) (read_end (told_rows g mid) (told_rows g now) from records last.read.kept last.found was.read)
+      (shown_end (state g first.conn) (state g mid.conn) (state g now.conn) from records last.read.falls was.shown last.shown)
+
+  -- no id is left
+  pub ends_full : from ≡ pos (2 ^ 63 - 1) +ℤ pos 1 → SelectsAll g first mid (Ok records)
+  ends_full full = record {
+    records = read_all g mid records (subst (λ n. IsReadTo (told_rows g mid) n records) full was.read);
+    recovery = λ is. absurd (cc);
+    shown = shown_all (state g first.conn) (state g mid.conn) from records full was.shown;
+    spoiled = λ is. absurd (cc);
+    read = was.was;
+    named = tt;
+    other = not_unready first current ready;
+    cause = record { later = let calm = was.counted in omega (arith, calm); counts = was.counted };
+  }
+
+  -- a row was refused
+  pub breaks : (e : PersistenceError) → Selects g mid now from (Err e) → SelectsAll g first now (Err e)
+  breaks e last = record {
+    records = tt;
+    recovery = λ is. tells_no_record (told_rows g now) from (last.recovery is);
+    shown = tt;
+    spoiled = λ is. stored_no_record (state g first.conn) (state g mid.conn) (state g now.conn) from records last.read.falls was.shown (last.spoiled is);
+    read = was_read_then g first mid now was.was last.read;
+    named = last.named;
+    other = not_unready first current ready;
+    cause = record { later = let calm = was.counted in let rises = last.cause.later in omega (arith, calm, rises); counts = subst (λ n. CountsAs n now.faults e) was.counted last.cause.counts };
+  }
+
+  -- memory was wanting
+  pub wants : SelectsAll g first mid (Err OutOfMemory)
+  wants = record {
+    records = tt;
+    recovery = λ is. absurd (cc);
+    shown = tt;
+    spoiled = λ is. absurd (cc);
+    read = was.was;
+    named = tt;
+    other = not_unready first current ready;
+    cause = record { later = let calm = was.counted in omega (arith, calm); counts = was.counted };
+  }

@@ -5,3 +5,6 @@ pub mod Pages
 pub mod Reading
 pub mod RecordsRead
 pub mod Iterating
+pub mod SentJournal
+pub mod Asking
+pub mod Inserting

@@ -1,5 +1,5 @@
 -- What the query of one row finds of the rows that are told.
-use Rattle.std.proofs.Common.{◌≡◌, ◌&&◌, ℤ, pos, neg_ℤ, ◌^◌, List, [], ◌∷◌, map, filter, take, true, Option, Some, None, inl, inr, refl, sym, ap, subst, ◌∙◌, int_eq}
+use Rattle.std.proofs.Common.{◌≡◌, ◌&&◌, ℤ, pos, neg_ℤ, ◌^◌, List, [], ◌∷◌, map, filter, take, true, Option, Some, None, inl, inr, refl, sym, ap, subst, ◌∙◌}
 use Rattle.std.specs.Int.Signed.{le_z}
 use Rattle.std.proofs.lemmas.Bool.{and_parts, cases_Bool}
 use Rattle.sqlite.specs.declared.types.Value.TheVariants.{Null, Int, Text, Blob}
@@ -97,7 +97,7 @@ row_from_is id s r stored = elim (cases_Bool (s.is_clean && s.is_open)) [
 
 -- what is stored is what a journal tells
 pub row_told : {S : Type 0} (g : Ghosts S) (j : View S) (id : ℤ) (r : Option Row) → IsStoredIn id (state g j.conn) r → IsRowFrom (told_rows g j) id r
-row_told g j id r stored = elim (cases_Bool (int_eq j.version (pos 1))) [
+row_told g j id r stored = elim (cases_Bool j.is_ready) [
   | inl current ↦ rw current (row_from_is id (state g j.conn) r stored)
   | inr other ↦ rw other tt
 ]
@@ -109,7 +109,7 @@ ascends None = tt
 ascends (Some rows) = elim (cases_Bool (is_ascending rows)) [ inl up ↦ rw up up | inr down ↦ rw down tt ]
 
 pub told_ascends : {S : Type 0} (g : Ghosts S) (j : View S) → TellsAscending (told_rows g j)
-told_ascends g j = elim (cases_Bool (int_eq j.version (pos 1))) [
+told_ascends g j = elim (cases_Bool j.is_ready) [
   | inl current ↦
       let s = state g j.conn in
       elim (cases_Bool (s.is_clean && s.is_open)) [
@@ -142,7 +142,7 @@ first_row_is s r is = first_told (rows_in s) r shown_rows is
     ]
 
 pub first_row_told : {S : Type 0} (g : Ghosts S) (j : View S) (r : Option Row) → IsStoredIn (neg_ℤ (pos (2 ^ 63))) (state g j.conn) r → IsFirstRow (told_rows g j) r
-first_row_told g j r stored = elim (cases_Bool (int_eq j.version (pos 1))) [
+first_row_told g j r stored = elim (cases_Bool j.is_ready) [
   | inl current ↦ rw current (first_row_is (state g j.conn) r (row_from_is (neg_ℤ (pos (2 ^ 63))) (state g j.conn) r stored))
   | inr other ↦ rw other tt
 ]

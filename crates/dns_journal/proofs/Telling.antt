@@ -1,5 +1,5 @@
 -- What a batch that is put does to what is told.
-use Rattle.std.proofs.Common.{◌≡◌, ◌&&◌, ◌+ℤ◌, ◌≤◌, ◌⊎◌, ℕ, ℤ, pos, negsuc, List, [], ◌∷◌, ◌++◌, map, true, Option, Some, None, IsTrue, inl, inr, refl, sym, ap, subst, ◌∙◌, arith, int_eq, if◌then◌else◌}
+use Rattle.std.proofs.Common.{◌≡◌, ◌≢◌, ◌&&◌, ◌+ℤ◌, ◌≤◌, ◌⊎◌, ℕ, ℤ, pos, Bool, List, [], ◌∷◌, ◌++◌, map, true, false, Option, Some, None, IsTrue, inl, inr, refl, sym, ap, subst, ◌∙◌, arith, if◌then◌else◌}
 use Rattle.std.proofs.lemmas.Bool.{and_parts, cases_Bool}
 use Rattle.sqlite.specs.Order.{Row as Stored}
 use Rattle.sqlite.specs.Tree.{Trees}
@@ -12,7 +12,8 @@ use Rattle.dns_io.specs.Told.{Keeps}
 use Rattle.dns_wire.specs.declared.record.Record.{Record}
 use Rattle.dns_wire.specs.WireFormat.{record_bytes}
 use Rattle.dns_sqlite.specs.Tables.{journal_schema}
-use Rattle.dns_sqlite.specs.Versions.{IsVersion, IsAtVersion}
+use Rattle.dns_sqlite.specs.Statements.{HasTables}
+use Rattle.dns_sqlite.specs.Versions.{IsVersion, FitsTables, KeepsDatabase}
 use Rattle.dns_sqlite.specs.Batch.{ArePut, batch, IsGrown, MayGrow, Grows}
 use Rattle.dns_sqlite.proofs.Rows.{put_appends, keyed_before}
 use Rattle.dns_keeper.specs.declared.row.Row.{Row}
@@ -20,7 +21,7 @@ use Rattle.dns_stamp.specs.Stamp.{IsStampOf}
 use Rattle.dns_keeper.specs.Rows.{appended, rows_of as batch_of}
 use Rattle.dns_keeper.specs.Keeping.{IsStampFor, GrowsByBatch}
 use Rattle.dns_keeper.specs.Crash.{IsGrownFrom}
-use Rattle.dns_journal.specs.Told.{is_signed, joined, rows_of, told, rows_in}
+use Rattle.dns_journal.specs.Told.{is_signed, joined, rows_of, told, rows_in, IsReady, FitsConnection}
 use Rattle.dns_journal.specs.Crash.{MayLeave}
 use Rattle.dns_journal.specs.Stored.{LeavesBatch}
 use Rattle.dns_journal.proofs.Order.{split, told_is, is_told, next_is}
@@ -147,41 +148,50 @@ module _ (old new : State) (falls : doubt old.is_clean ≤ doubt new.is_clean) w
             inr (rw (clean_of old.is_clean was, may.0, t.is) (record { stamp = grown.0; stamped = grown.1; is = t.grown }))
       ]
 
--- the current version
-pub one : (version : ℤ) → version ≡ pos 1 → int_eq version (pos 1) ≡ true
-one version is = rw is refl
+-- ---- what a journal keeps of its connection
 
-pub tables_at : (version : ℤ) (d : Database) → version ≡ pos 1 → IsAtVersion version d → (d.schema ≡ journal_schema) × IsVersion (pos 1) (d.trees 0)
-tables_at version d is (inl it) = absurd (let e : pos 1 ≡ negsuc 0 = sym is ∙ it.0 in cc)
-tables_at version d is (inr (inl it)) = absurd (let e : pos 1 ≡ pos 0 = sym is ∙ it.0 in cc)
-tables_at version d is (inr (inr it)) = (it.1, it.2)
+-- a batch leaves it ready
+pub ready_grown : (version : ℤ) (old new : State) → IsReady true version old → new.in_transaction ≡ false → (HasCleanDisk new → IsTrue new.is_open → HasTables new.now) → IsReady true version new
+ready_grown version old new ready alone has = (ready.0, alone, has)
 
--- a batch leaves the version as it is
-pub still_current : (version : ℤ) (client serial : ℕ) (stamp : List ℕ) (encoded : List (List ℕ)) (was is : Database) → version ≡ pos 1 → IsGrown client serial stamp encoded was is → IsVersion (pos 1) (was.trees 0)
-    → IsAtVersion version is
-still_current version client serial stamp encoded was is current grown at =
-    let same : is.trees 0 ≡ was.trees 0 = grown.others 0 (λ e. absurd (cc)) in
-    inr (inr (current, grown.schema, subst (IsVersion (pos 1)) (sym same) at))
+-- and leaves its version as it is
+pub fits_grown : (version : ℤ) (client serial : ℕ) (stamp : List ℕ) (encoded : List (List ℕ)) (was is : Database) → HasTables was → FitsTables version was → IsGrown client serial stamp encoded was is → FitsTables version is
+fits_grown version client serial stamp encoded was is has fits grown = λ _. subst (IsVersion version) (sym (grown.others 0 (λ e. absurd (cc)))) (fits (inr has))
+
+-- so does what leaves the database as it was
+pub ready_kept : (ready : Bool) (version : ℤ) (old new : State) → IsReady ready version old → (old.in_transaction ≡ false → new.in_transaction ≡ false) → doubt old.is_clean ≤ doubt new.is_clean → KeepsDatabase old new → IsReady ready version new
+ready_kept false version old new ready alone falls kept = tt
+ready_kept true version old new ready alone falls kept = (
+  ready.0,
+  alone ready.1,
+  λ clean live. let it = kept clean live in subst HasTables (sym it.1) (ready.2 (omega (arith, falls, clean)) it.0),
+)
+
+pub fits_kept : (version : ℤ) (old new : State) → FitsConnection version old → doubt old.is_clean ≤ doubt new.is_clean → KeepsDatabase old new → FitsConnection version new
+fits_kept version old new fits falls kept = λ clean live. let it = kept clean live in subst (FitsTables version) (sym it.1) (fits (omega (arith, falls, clean)) it.0)
+
+-- a journal that is not at the current version is not ready
+pub unready : (ready : Bool) (version : ℤ) (old new : State) → version ≢ pos 1 → IsReady ready version old → IsReady ready version new
+unready false version old new other ready = tt
+unready true version old new other ready = absurd (other ready.0)
 
 -- where a crash leaves what the connection shows, it leaves the rows that are told
 pub left_told : (s : State) → HasCleanDisk s → IsTrue s.is_open → ((db : Trees) → s.may_leave db → db ≡ s.now.trees) → (rows : List Row) → MayLeave s rows → rows_in s ≡ Some rows
 left_told s clean live shown rows m = rw (clean_of s.is_clean clean, live) (ap (λ (t : Trees). told (t 1)) (sym (shown m.db m.left) ∙ m.opens.2) ∙ m.opens.1.told)
 
--- ---- what is told is of the current version, a clean disk and an open connection
+-- ---- what is told is of calls that go to a connection, a clean disk and an open connection
 
-pub record Tells (version : ℤ) (s : State) (rows : List Row) : Type 0 where
-  pub current : version ≡ pos 1
+pub record Tells (is_ready : Bool) (s : State) (rows : List Row) : Type 0 where
+  pub ready : is_ready ≡ true
   pub clean : IsTrue s.is_clean
   pub live : IsTrue s.is_open
   pub told : told (s.now.trees 1) ≡ Some rows
 
-pub tells : (version : ℤ) (s : State) (rows : List Row) → (if int_eq version (pos 1) then rows_in s else None) ≡ Some rows → Tells version s rows
-tells version s rows e = elim (cases_Bool (int_eq version (pos 1))) [
-  | inl is ↦ elim (cases_Bool (s.is_clean && s.is_open)) [
-    | inl shows ↦
-        let both = and_parts s.is_clean s.is_open shows in
-        record { current = (let same : version ≡ pos 1 = grind arith in same); clean = both.0; live = both.1; told = rw (is, shows) at e }
-    | inr hidden ↦ absurd (let it : None ≡ Some rows = rw (is, hidden) at e in cc)
-  ]
-  | inr other ↦ absurd (let it : None ≡ Some rows = rw other at e in cc)
+pub tells : (ready : Bool) (s : State) (rows : List Row) → (if ready then rows_in s else None) ≡ Some rows → Tells ready s rows
+tells false s rows e = absurd (cc)
+tells true s rows e = elim (cases_Bool (s.is_clean && s.is_open)) [
+  | inl shows ↦
+      let both = and_parts s.is_clean s.is_open shows in
+      record { ready = refl; clean = both.0; live = both.1; told = rw shows at e }
+  | inr hidden ↦ absurd (let it : None ≡ Some rows = rw hidden at e in cc)
 ]

@@ -1,7 +1,13 @@
 pub mod Told
 pub mod Crash
+pub mod Keepers
+pub mod Counting
 pub mod Reads
 pub mod Records
 pub mod Opening
 pub mod Stored
 pub mod Pages
+pub mod Inserts
+pub mod Selects
+pub mod HostFiles
+pub mod Closed

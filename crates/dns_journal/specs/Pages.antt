@@ -1,11 +1,12 @@
 -- Rows that were read and that are not taken yet.
-use Rattle.std.specs.Prelude.{◌≡◌, ℕ, ℤ, List, [], ◌∷◌, Option, Some, None}
+use Rattle.std.specs.Prelude.{◌≡◌, ℕ, ℤ, Bool, List, [], ◌∷◌, Option, Some, None}
 use Rattle.std.specs.Vec.Iter.{into_iter_items}
 use Rattle.sqlite.specs.Order.{Row as Shown}
 use Rattle.sqlite.specs.State.{State, HasCleanDisk}
 use Rattle.dns_sqlite.specs.Tables.{HasRows}
 use Rattle.dns_sqlite.specs.Reads.{AreRead}
 use Rattle.dns_keeper.specs.declared.row.Row.{Row}
+use Rattle.dns_journal.specs.Told.{IsReady, FitsConnection}
 use Rattle.dns_journal.specs.Stored.{IsStoredFrom}
 use Rattle.dns_journal.specs.declared.page.Page.{Page}
 
@@ -39,3 +40,13 @@ HoldsRows page s = HasCleanDisk s → Holds page (s.now.trees 1)
 -- where the disk is clean, the row of the connection with the least id from this one on reads as this row; or there is none
 abbrev pub IsStoredIn : ℤ → State → Option Row → Type 0
 IsStoredIn id s found = HasCleanDisk s → IsStoredFrom id (s.now.trees 1) found
+
+-- a page goes on behind its first row, which has this id
+abbrev pub PassesFirst : ℤ → Page → Page → Type 0
+PassesFirst id old new = (row : Row) → row.id ≡ id → (table : List Shown) → HoldsPage old.next table (row ∷ into_iter_items old.rest) → Holds new table
+
+-- what a journal keeps is true of its connection
+pub record IsTrueOf (is_ready : Bool) (version : ℤ) (kept : Page) (s : State) : Type 0 where
+  pub ready : IsReady is_ready version s
+  pub page : HoldsRows kept s
+  pub fits : FitsConnection version s

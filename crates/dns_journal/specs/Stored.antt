@@ -1,21 +1,17 @@
 -- What becomes of a journal's database, and what is read of it, whether or not each of its rows reads.
-use Rattle.std.specs.Prelude.{◌≡◌, ◌-◌, ◌+ℤ◌, ◌^◌, ◌⊎◌, ℕ, ℤ, pos, neg_ℤ, List, [], ◌∷◌, map, Option, Some, None, IsTrue}
+use Rattle.std.specs.Prelude.{◌≡◌, ◌-◌, ◌+ℤ◌, ◌^◌, ◌⊎◌, ℕ, ℤ, pos, neg_ℤ, List, [], ◌∷◌, map, Option, Some, None}
 use Rattle.sqlite.specs.Order.{Row as Shown}
 use Rattle.sqlite.specs.State.{State, HasCleanDisk}
 use Rattle.dns_wire.specs.declared.record.Record.{Record}
 use Rattle.dns_wire.specs.WireFormat.{record_bytes}
 use Rattle.dns_sqlite.specs.Tables.{HasRow}
 use Rattle.dns_sqlite.specs.Batch.{Grows, MayGrow}
-use Rattle.dns_sqlite.specs.Versions.{KeepsNow}
+pub use Rattle.dns_sqlite.specs.Versions.{KeepsDatabase}
 use Rattle.dns_keeper.specs.declared.row.Row.{Row}
 use Rattle.dns_keeper.specs.Keeping.{IsStampFor}
 use Rattle.dns_journal.specs.Reads.{FirstReadsAs}
 use Rattle.dns_journal.specs.Crash.{LeavesTrees}
 use Rattle.dns_journal.specs.Records.{IsOneRecord, IsRecordOf, IsNoRecord}
-
--- where the disk is clean and the connection is open, it was open before, and the database is as it was
-abbrev pub KeepsDatabase : State → State → Type 0
-KeepsDatabase old new = HasCleanDisk new → IsTrue new.is_open → KeepsNow old new
 
 -- this holds with the stamp of a batch
 abbrev pub HasStamp : ℕ → List Record → (List ℕ → Type 0) → Type 0

@@ -1,26 +1,30 @@
 -- What a journal tells of its rows.
-use Rattle.std.specs.Prelude.{◌≡◌, ◌-◌, ◌^◌, ◌&&◌, ℕ, ℤ, pos, neg_ℤ, Bool, if◌then◌else◌, IsTrue, List, [], ◌∷◌, Option, Some, None, refl}
-use Rattle.std.specs.Ordering.{int_eq}
+use Rattle.std.specs.Prelude.{◌≡◌, ◌≢◌, ◌⊎◌, ◌-◌, ◌^◌, ◌&&◌, ℕ, ℤ, pos, neg_ℤ, Bool, true, false, if◌then◌else◌, IsTrue, List, [], ◌∷◌, Option, Some, None, Result, Err, refl}
 use Rattle.std.specs.Int.Signed.{le_z}
-use Rattle.std.specs.Coded.{Coded, code_by, coded×, coded_ℕ, coded_ℤ}
+use Rattle.std.specs.Coded.{Coded, code_by, coded×, coded_ℕ, coded_ℤ, coded_bool}
 use Rattle.sqlite.specs.declared.types.Value.TheVariants.{Null, Int, Text, Blob}
 use Rattle.sqlite.specs.Order.{Row as Stored}
 use Rattle.sqlite.specs.Store.{Ghosts}
 use Rattle.sqlite.specs.State.{State, HasCleanDisk}
 use Rattle.sqlite.specs.Held.{Held, held_code, state}
-use Rattle.dns_sqlite.specs.Versions.{IsAtVersion}
+use Rattle.dns_io.specs.Told.{one_more}
+use Rattle.dns_sqlite.specs.Statements.{HasTables}
+use Rattle.dns_sqlite.specs.Versions.{FitsTables}
 use Rattle.dns_keeper.specs.declared.row.Row.{Row}
 use Rattle.dns_keeper.specs.Rows.{is_ascending}
 
--- what contracts see of a journal: its connection, the version of its schema, its count of faults
+-- what contracts see of a journal: its connection, the version of its schema, whether its calls go to the connection, and its count of
+-- faults
 pub record View (S : Type 0) : Type 0 where
   pub conn : Held S
   pub version : ℤ
+  pub is_ready : Bool
   pub faults : ℕ
 
 abbrev pub view_code : {S : Type 0} → Coded S → Coded (View S)
 view_code {S} store =
-    code_by (Held S × (ℤ × ℕ)) (coded× (held_code store) (coded× coded_ℤ coded_ℕ)) (λ v. (v.conn, (v.version, v.faults))) (λ p. record { conn = p.0; version = p.1.0; faults = p.1.1 }) (λ _. refl)
+    code_by (Held S × (ℤ × (Bool × ℕ))) (coded× (held_code store) (coded× coded_ℤ (coded× coded_bool coded_ℕ))) (λ v. (v.conn, (v.version, (v.is_ready, v.faults))))
+    (λ p. record { conn = p.0; version = p.1.0; is_ready = p.1.1.0; faults = p.1.1.1 }) (λ _. refl)
 
 -- a number of 64 bits
 abbrev pub is_signed : ℤ → Bool
@@ -54,13 +58,44 @@ told stored = if_ascending (rows_of stored)
 abbrev pub rows_in : State → Option (List Row)
 rows_in s = if (s.is_clean && s.is_open) then told (s.now.trees 1) else None
 
--- the rows that a journal tells: those of its connection, at version 1
+-- the rows that a journal tells: those of its connection, where its calls go there
 abbrev pub told_rows : {S : Type 0} → Ghosts S → View S → Option (List Row)
-told_rows g j = if int_eq j.version (pos 1) then rows_in (state g j.conn) else None
+told_rows g j = if j.is_ready then rows_in (state g j.conn) else None
 
--- the database is at this version, while the disk is clean and the connection is open
-abbrev pub HasVersion : ℤ → State → Type 0
-HasVersion version s = HasCleanDisk s → IsTrue s.is_open → IsAtVersion version s.now
+-- a connection of this version takes the calls of a journal: it has the tables of one and no others, at the current version, and is in no
+-- transaction
+pub record TakesCalls (version : ℤ) (s : State) : Type 0 where
+  pub current : version ≡ pos 1
+  pub alone : s.in_transaction ≡ false
+  pub tables : HasTables s.now
+
+-- ---- what a journal keeps of its connection, while the disk is clean and the connection is open
+
+-- where its calls go there, it takes them
+abbrev pub IsReady : Bool → ℤ → State → Type 0
+IsReady false version s = Unit {0}
+IsReady true version s = (version ≡ pos 1) × (s.in_transaction ≡ false) × (HasCleanDisk s → IsTrue s.is_open → HasTables s.now)
+
+-- the version is that of its tables, where they are those of a journal
+abbrev pub FitsConnection : ℤ → State → Type 0
+FitsConnection version s = HasCleanDisk s → IsTrue s.is_open → FitsTables version s.now
+
+-- ---- what a call of a journal does whose calls do not go to the connection
+
+-- the version is not the current one, or the tables are not those of a journal, or the connection is in a transaction
+abbrev pub IsUnready : {S : Type 0} → View S → Type 0
+IsUnready j = (j.version ≢ pos 1) ⊎ (j.is_ready ≡ false)
+
+-- all but its count of faults stays as it is
+pub record Stays {S : Type 0} (old new : View S) : Type 0 where
+  pub conn : new.conn ≡ old.conn
+  pub version : new.version ≡ old.version
+  pub ready : new.is_ready ≡ old.is_ready
+
+-- it is refused: it counts a fault, and changes nothing
+pub record Refuses {S T E : Type 0} (old new : View S) (refusal : E) (result : Result T E) : Type 0 where
+  pub named : result ≡ Err refusal
+  pub counted : new ≡ record old { faults = one_more old.faults }
 
 -- no rows but these are told
 abbrev pub TellsOnly : List Row → Option (List Row) → Type 0

@@ -8,31 +8,39 @@ ghost use Rattle.dns_journal.specs.Records.{from_proto};
 use dns_io::OutOfMemory;
 use dns_wire::ProtoError;
 use std::alloc::{AllocError, AllocFailed};
-use std::fmt;
+use thiserror::Error;
 
 /// What of a journal could not be recovered.
-#[derive(Clone, Copy, Debug, PartialEq, Eq)]
+#[derive(Clone, Copy, Debug, PartialEq, Eq, Error)]
 pub enum RecoveryKind {
-    /// The tables are not those of a journal, or the version is not theirs.
+    /// The table of the version has not one row, or its number is none of a journal; of a file also: there are other tables.
+    #[error("schema version")]
     SchemaVersion,
     /// The bytes of a row are not one record from the first to the last.
+    #[error("row is no record")]
     NoRecord,
 }
 
 /// Why a call of a journal was refused.
-#[derive(Clone, Copy, Debug, PartialEq, Eq)]
+#[derive(Clone, Copy, Debug, PartialEq, Eq, Error)]
 pub enum PersistenceError {
     /// What the database holds is no journal.
+    #[error("error recovering from journal: {0}")]
     Recovery(RecoveryKind),
     /// Another number of rows was inserted than were given. No call answers it: a batch is inserted whole or not at all.
+    #[error("wrong insert count: {got} expect: {expect}")]
     WrongInsertCount { got: usize, expect: usize },
     /// A record cannot be written.
+    #[error("proto error: {}", variant_name(.0))]
     Proto(ProtoError),
-    /// The connection refused a statement, or a column did not read as the type of its field.
+    /// The connection refused a statement, a column did not read as the type of its field, or the journal's calls do not go there.
+    #[error("sqlite error")]
     Sqlite,
     /// The call took too long. No call answers it.
+    #[error("request timed out")]
     Timeout,
     /// Memory ran out.
+    #[error("out of memory")]
     OutOfMemory,
 }
 
@@ -71,15 +79,6 @@ impl<T: Drop> From<AllocFailed<T>> for PersistenceError {
     }
 }
 
-impl fmt::Display for RecoveryKind {
-    fn fmt<W: fmt::Write>(&self, f: &mut fmt::Formatter<W>) -> fmt::Result {
-        f.write_str(match self {
-            RecoveryKind::SchemaVersion => "schema version",
-            RecoveryKind::NoRecord => "row is no record",
-        })
-    }
-}
-
 /// The name of a variant.
 fn variant_name(error: &ProtoError) -> &'static str {
     match error {
@@ -91,26 +90,5 @@ fn variant_name(error: &ProtoError) -> &'static str {
         ProtoError::BadEscape => "BadEscape",
         ProtoError::NameLong => "NameLong",
         ProtoError::OutOfMemory => "OutOfMemory",
-    }
-}
-
-impl fmt::Display for PersistenceError {
-    fn fmt<W: fmt::Write>(&self, f: &mut fmt::Formatter<W>) -> fmt::Result {
-        match self {
-            PersistenceError::Recovery(kind) => {
-                f.write_str("error recovering from journal: ")?;
-                kind.fmt(f)
-            }
-            PersistenceError::WrongInsertCount { got, expect } => {
-                write!(f, "wrong insert count: {got} expect: {expect}")
-            }
-            PersistenceError::Proto(error) => {
-                f.write_str("proto error: ")?;
-                f.write_str(variant_name(error))
-            }
-            PersistenceError::Sqlite => f.write_str("sqlite error"),
-            PersistenceError::Timeout => f.write_str("request timed out"),
-            PersistenceError::OutOfMemory => f.write_str("out of memory"),
-        }
     }
 }

@@ -1,9 +1,9 @@
 //! A journal in a file.
 
-ghost use Rattle.std.specs.Prelude.{◌≡◌, pos, IfOk, IfErr};
+ghost use Rattle.std.specs.Prelude.{◌≡◌, pos, true, IfOk, IfErr};
 ghost use Rattle.dns_journal.specs.Opening.{IsOpenFault};
 
-use crate::error::PersistenceError;
+use crate::error::{PersistenceError, RecoveryKind};
 use crate::journal::{Journal, refusal_of};
 use sqlite::{Connection, File, FileStore};
 use std::rt::HostRuntime;
@@ -13,7 +13,8 @@ pub type HostStore = FileStore<File>;
 
 /// The journal at a path, at the version that the file has.
 fn opened(rt: &HostRuntime, path: &str) -> Result<Journal<HostStore>, PersistenceError>
-    ensures { IfErr result IsOpenFault }
+    ensures faults { IfOk result (λ j. j.faults ≡ 0) }
+    ensures named { IfErr result IsOpenFault }
 {
     match Connection::open(rt, path) {
         Ok(conn) => Journal::new(rt.alloc(), conn),
@@ -23,13 +24,21 @@ fn opened(rt: &HostRuntime, path: &str) -> Result<Journal<HostStore>, Persistenc
 
 impl Journal<HostStore> {
     /// Opens the file at a path, or makes it, and goes to the current version. `Recovery` says that what the file holds
-    /// is no journal, `Sqlite` that SQLite refused. Of the rows nothing is known: no clause ties a file to its path.
+    /// is no journal, or not that alone, `Sqlite` that SQLite refused. Of the rows nothing is known: no clause ties a file to its path.
     pub fn from_file(rt: &HostRuntime, path: &str) -> Result<Journal<HostStore>, PersistenceError>
         ensures version { IfOk result (λ j. j.version ≡ pos 1) }
+        ensures ready { IfOk result (λ j. j.is_ready ≡ true) }
+        ensures faults { IfOk result (λ j. j.faults ≡ 0) }
         ensures named { IfErr result IsOpenFault }
     {
         let mut journal = opened(rt, path)?;
+        if !journal.has_place() {
+            return Err(PersistenceError::Recovery(RecoveryKind::SchemaVersion));
+        }
         let _version = journal.schema_up()?;
+        if !journal.ready {
+            return Err(PersistenceError::Recovery(RecoveryKind::SchemaVersion));
+        }
         Ok(journal)
     }
 }

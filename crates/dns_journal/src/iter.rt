@@ -1,20 +1,12 @@
 //! All records of a journal.
 
-ghost use Rattle.std.specs.Prelude.{◌≡◌, ◌≢◌, ◌≤◌, ◌-◌, ◌^◌, ◌+ℤ◌, ◌++◌, pos, [], Err, IfOk, IfErr, IfSome, IfNone, IsErrOf, FitsSigned};
+ghost use Rattle.std.specs.Prelude.{◌≡◌, ◌-◌, ◌^◌, ◌+ℤ◌, ◌++◌, pos, [], IfSome, IfNone, FitsSigned};
 ghost use Rattle.std.specs.Int.{w64};
 ghost use Rattle.std.specs.Option.{option_to_list};
-ghost use Rattle.sqlite_trees.specs.View.{doubt};
-ghost use Rattle.sqlite.specs.Held.{state};
-ghost use Rattle.dns_io.specs.Told.{Keeps, Rose, one_more};
-ghost use Rattle.dns_journal.specs.Told.{told_rows};
-ghost use Rattle.dns_journal.specs.Crash.{LeavesTrees};
-ghost use Rattle.dns_journal.specs.Records.{AreRecordsOf, TellsNoRecord, IsRecordFault};
-ghost use Rattle.dns_journal.specs.Stored.{KeepsDatabase, ShowsRecords, HasStoredNoRecord};
-ghost use Rattle.dns_journal.specs.declared.error.PersistenceError.TheVariants.{Recovery, Sqlite};
-ghost use Rattle.dns_journal.specs.declared.error.RecoveryKind.TheVariants.{NoRecord};
+ghost use Rattle.dns_journal.specs.Selects.{SelectsAll};
 
 use crate::error::PersistenceError;
-use crate::journal::{Journal, is_current};
+use crate::journal::Journal;
 use dns_wire::Record;
 use sqlite::Alter;
 use std::alloc::Global;
@@ -67,23 +59,11 @@ pub(crate) fn id_after(id: i64) -> Option<i64>
 
 impl<S: Alter> Journal<S> {
     /// All records of the journal, by ascending id of their rows. `Recovery` says that a row is no record; `Sqlite` that
-    /// the journal is not at the current version, the connection refused or a row did not read.
+    /// the journal's calls do not go to the connection, that this refused or a row did not read.
     pub fn iter(&mut self) -> Result<JournalIter, PersistenceError>
-        ensures records { IfOk result (AreRecordsOf (told_rows S.Store self.new)) }
-        ensures recovery { IsErrOf result (Recovery NoRecord) → TellsNoRecord (told_rows S.Store self.new) }
-        ensures shown { IfOk result (ShowsRecords (state S.Store self.old.conn) (state S.Store self.new.conn)) }
-        ensures spoiled { IsErrOf result (Recovery NoRecord) → HasStoredNoRecord (state S.Store self.old.conn) (state S.Store self.new.conn) }
-        ensures untouched { KeepsDatabase (state S.Store self.old.conn) (state S.Store self.new.conn) }
-        ensures named { IfErr result IsRecordFault }
-        ensures kept { Keeps (told_rows S.Store self.old) (told_rows S.Store self.new) }
-        ensures left { LeavesTrees (state S.Store self.new.conn) (state S.Store self.old.conn).may_leave }
-        ensures other { self.old.version ≢ pos 1 → (result ≡ Err Sqlite) × (self.new ≡ record self.old { faults = one_more self.old.faults }) }
-        ensures version { self.new.version ≡ self.old.version }
-        ensures later { self.old.faults ≤ self.new.faults }
-        ensures cause { IsErrOf result Sqlite → Rose self.old.faults self.new.faults }
-        ensures uncounted { result ≢ Err Sqlite → self.new.faults ≡ self.old.faults }
+        ensures selected { SelectsAll S.Store self.old self.new result }
     {
-        if !is_current(self.version) {
+        if !self.ready {
             self.count();
             return Err(PersistenceError::Sqlite);
         }

@@ -1,18 +1,23 @@
 //! A journal over one connection: its version, and the schema.
 
-ghost use Rattle.std.specs.Prelude.{◌≡◌, ◌≢◌, ◌≤◌, ◌⊎◌, ◌↔◌, pos, negsuc, [], Some, Ok, Err, false, IsTrue, IfOk, IfErr, OnOk, OnErr, IsErrOf};
+ghost use Rattle.std.specs.Prelude.{◌≡◌, ◌≢◌, ◌≤◌, ◌⊎◌, ◌↔◌, pos, [], Ok, true, false, IsTrue};
+ghost use Rattle.std.specs.Prelude.{IfOk, IfErr, IfSome, OnOk, OnErr};
+ghost use Rattle.sqlite_trees.specs.View.{doubt};
 ghost use Rattle.sqlite.specs.Held.{state};
 ghost use Rattle.sqlite.specs.State.{HasCleanDisk};
-ghost use Rattle.dns_io.specs.Told.{Rose, one_more};
-ghost use Rattle.dns_sqlite.specs.Versions.{IsAtVersion, KeepsNow, BecomesNewJournal};
-ghost use Rattle.dns_journal.specs.Told.{told_rows, TellsOnly};
-ghost use Rattle.dns_journal.specs.Crash.{LeftAs, LeavesTrees};
-ghost use Rattle.dns_journal.specs.Opening.{WasRead, HasNoVersion, refusal_of, version_refusal, is_memory};
+ghost use Rattle.dns_io.specs.Told.{one_more};
+ghost use Rattle.dns_sqlite.specs.Shapes.{IsStart};
+ghost use Rattle.dns_sqlite.specs.Reads.{WasAsked, StaysAs, StaysOrIsUndone};
+ghost use Rattle.dns_sqlite.specs.Versions.{IsAtVersion, FitsTables, KeepsDatabase};
+ghost use Rattle.dns_journal.specs.Told.{told_rows, TellsOnly, TakesCalls, Stays};
+ghost use Rattle.dns_journal.specs.Crash.{LeftAs, LeavesTrees, LeavesNew, IsNewIn};
+ghost use Rattle.dns_journal.specs.Counting.{CountsAs, HasCause};
+ghost use Rattle.dns_journal.specs.Opening.{HasNoVersion, HasNoVersionOf, refusal_of, version_refusal, is_memory};
 ghost use Rattle.dns_journal.specs.declared.error.PersistenceError.TheVariants.{Sqlite, OutOfMemory as NoMemory};
 
 use crate::error::{PersistenceError, RecoveryKind};
 use crate::page::Page;
-use dns_sqlite::VersionFault;
+use dns_sqlite::{VersionFault, has_tables, start_of};
 use sqlite::{Alter, Connection, Error, ErrorCode};
 use std::alloc::Global;
 use std::marker::Model;
@@ -21,31 +26,33 @@ use std::marker::Model;
 pub const CURRENT_VERSION: i64 = 1;
 
 /// A journal over one connection. Its rows stand in the table `records`, the version in the one row of `tdns_schema`.
-/// It tells its rows at the current version, while the disk returns what was written to it and each row reads, as long
-/// as no other program writes to it.
+/// Its calls go to the connection at the current version, where it has these two tables and no others, and is in no transaction; else each
+/// of them counts a fault. It tells its rows then, while the disk returns what was written to it and each row reads, as long as no other
+/// program writes to it.
 #[derive(Drop)]
 pub struct Journal<S: Alter> {
     pub(crate) alloc: Global,
     pub(crate) conn: Connection<S>,
     pub(crate) version: i64,
+    /// Whether calls go to the connection.
+    pub(crate) ready: bool,
     pub(crate) faults: u64,
     /// Rows of the connection that were read and not asked for yet. A call that writes lets them go.
     pub(crate) page: Page,
 }
 
 impl<S: Alter> Model for Journal<S> {
-    ghost use Rattle.std.specs.Prelude.{◌≡◌, false};
     ghost use Rattle.sqlite.specs.Held.{state};
-    ghost use Rattle.dns_journal.specs.Told.{View, view_code, HasVersion};
-    ghost use Rattle.dns_journal.specs.Pages.{HoldsRows};
+    ghost use Rattle.dns_journal.specs.Told.{View, view_code};
+    ghost use Rattle.dns_journal.specs.Pages.{IsTrueOf};
 
     ghost Value = { View S };
 
     ghost coded = { view_code S.code };
 
-    ghost view = { λ j. record { conn = j.conn; version = j.version; faults = j.faults } };
+    ghost view = { λ j. record { conn = j.conn; version = j.version; is_ready = j.ready; faults = j.faults } };
 
-    ghost invariant = { λ j. (((state S.Store j.conn).in_transaction ≡ false) × HoldsRows j.page (state S.Store j.conn)) × HasVersion j.version (state S.Store j.conn) };
+    ghost invariant = { λ j. IsTrueOf j.ready j.version j.page (state S.Store j.conn) };
 }
 
 /// Whether this is the current version.
@@ -55,11 +62,17 @@ pub(crate) fn is_current(version: i64) -> bool
     version == CURRENT_VERSION
 }
 
-/// Whether this is the version of a database with no table.
-fn is_absent(version: i64) -> bool
-    ensures { IsTrue result ↔ (version ≡ negsuc 0) }
+/// Whether a connection of this version takes the calls of a journal.
+fn takes_calls<S: Alter>(conn: &Connection<S>, version: i64) -> bool
+    ensures { IsTrue result ↔ TakesCalls version (state S.Store conn.now) }
 {
-    version == -1
+    if !is_current(version) {
+        return false;
+    }
+    if !conn.is_autocommit() {
+        return false;
+    }
+    has_tables(conn)
 }
 
 /// Whether an error is want of memory.
@@ -90,13 +103,17 @@ fn version_refusal(fault: VersionFault) -> PersistenceError
     }
 }
 
-/// The version of the schema that a connection shows: -1 with no table, 0 with the table of the version alone, 1 with
-/// both tables. `Recovery` says that the database is none of these; `Sqlite` that the connection refused to answer.
+/// The version of the schema that a connection shows: -1 where there is no table `tdns_schema`, whatever else there is, and else the
+/// number in its one row, 0 or 1. `Recovery` says that it has not one row or another number; `Sqlite` that the connection refused to
+/// answer.
 pub fn select_schema_version<S: Alter>(conn: &mut Connection<S>) -> Result<i64, PersistenceError>
     ensures version { HasCleanDisk (state S.Store conn.new) → IfOk result (λ n. IsAtVersion n (state S.Store conn.old).now) }
     ensures none { IfErr result (HasNoVersion (state S.Store conn.old) (state S.Store conn.new)) }
-    ensures alone { (state S.Store conn.old).in_transaction ≡ false → (state S.Store conn.new).in_transaction ≡ false }
-    ensures read { (state S.Store conn.old).in_transaction ≡ false → WasRead (state S.Store conn.old) (state S.Store conn.new) }
+    ensures fits { HasCleanDisk (state S.Store conn.new) → IfOk result (λ n. FitsTables n (state S.Store conn.old).now) }
+    ensures asked { WasAsked S.Store conn.old conn.new }
+    ensures shown { OnOk result (KeepsDatabase (state S.Store conn.old) (state S.Store conn.new)) }
+    ensures same { OnOk result (StaysAs S.Store conn.old conn.new) }
+    ensures undone { OnErr result (StaysOrIsUndone S.Store conn.old conn.new) }
 {
     match dns_sqlite::select_schema_version(conn) {
         Ok(version) => Ok(version),
@@ -106,17 +123,19 @@ pub fn select_schema_version<S: Alter>(conn: &mut Connection<S>) -> Result<i64, 
 
 impl<S: Alter + Drop> Journal<S> {
     /// A journal over a connection, at the version that the connection shows. A connection with no version, or one that
-    /// refuses to tell it, is dropped. Inside a transaction a connection is no journal: `is_autocommit` is the test.
+    /// refuses to tell it, is dropped. In a transaction it is a journal whose calls each count a fault.
     pub fn new(alloc: Global, mut conn: Connection<S>) -> Result<Journal<S>, PersistenceError>
-        requires { (state S.Store conn).in_transaction ≡ false }
         ensures version { IfOk result (λ j. HasCleanDisk (state S.Store j.conn) → IsAtVersion j.version (state S.Store conn).now) }
-        ensures read { IfOk result (λ j. WasRead (state S.Store conn) (state S.Store j.conn)) }
+        ensures ready { IfOk result (λ j. IsTrue j.is_ready ↔ TakesCalls j.version (state S.Store j.conn)) }
+        ensures asked { IfOk result (λ j. WasAsked S.Store conn j.conn) }
+        ensures shown { IfOk result (λ j. KeepsDatabase (state S.Store conn) (state S.Store j.conn)) }
         ensures faults { IfOk result (λ j. j.faults ≡ 0) }
-        ensures none { IfErr result (λ e. (after : _) × WasRead (state S.Store conn) (state S.Store after) × HasNoVersion (state S.Store conn) (state S.Store after) e) }
+        ensures none { IfErr result (HasNoVersionOf S.Store conn) }
     {
         match select_schema_version(&mut conn) {
             Ok(version) => Ok(Journal {
                 alloc,
+                ready: takes_calls(&conn, version),
                 conn,
                 version,
                 faults: 0,
@@ -128,14 +147,16 @@ impl<S: Alter + Drop> Journal<S> {
 }
 
 impl<S: Alter> Journal<S> {
-    /// The connection, which is given back.
+    /// The connection, which is given back; in no transaction where the journal's calls went to it.
     pub fn into_conn(self) -> Connection<S>
-        ensures { result ≡ self.conn }
+        ensures same { result ≡ self.conn }
+        ensures alone { self.is_ready ≡ true → (state S.Store result).in_transaction ≡ false }
     {
         let Journal {
             alloc: _,
             conn,
             version: _,
+            ready: _,
             faults: _,
             page: _page,
         } = self;
@@ -159,8 +180,9 @@ impl<S: Alter> Journal<S> {
 
     /// Counts an error of the connection, unless it is want of memory.
     pub(crate) fn blame(&mut self, error: Error) -> PersistenceError
-        ensures kept { (self.new.conn ≡ self.old.conn) × (self.new.version ≡ self.old.version) }
+        ensures kept { Stays self.old self.new }
         ensures named { result ≡ Sqlite ⊎ result ≡ NoMemory }
+        ensures counts { CountsAs self.old.faults self.new.faults result }
         ensures cause { result ≡ Sqlite → self.new.faults ≡ one_more self.old.faults }
         ensures uncounted { result ≢ Sqlite → self.new.faults ≡ self.old.faults }
         ensures later { self.old.faults ≤ self.new.faults }
@@ -172,30 +194,53 @@ impl<S: Alter> Journal<S> {
         PersistenceError::Sqlite
     }
 
+    /// From what the tables can be made; none where the connection has other tables, or is in a transaction.
+    fn start(&self) -> Option<bool>
+        ensures start { IfSome result (λ is_empty. IsStart is_empty self.now.version (state S.Store self.now.conn).now.schema) }
+        ensures alone { IfSome result (λ _. (state S.Store self.now.conn).in_transaction ≡ false) }
+    {
+        if !self.conn.is_autocommit() {
+            return None;
+        }
+        start_of(&self.conn, self.version)
+    }
+
+    /// Whether the tables are those of a journal, or such that these can be made from them.
+    pub(crate) fn has_place(&self) -> bool {
+        self.ready || self.start().is_some()
+    }
+
     /// Makes the tables that are missing and raises the version to the current one, all in one transaction; a journal
-    /// at that version is left alone. A refusal changes neither the version nor a table. A crash leaves what it might
-    /// leave before the call, or the current version with no row.
+    /// at that version is left alone. `Sqlite` says that there are other tables, or that the connection is in a transaction or refused. A
+    /// refusal changes neither the version nor a table. A crash leaves what it might leave before the call, or the current version with no
+    /// row.
     pub fn schema_up(&mut self) -> Result<i64, PersistenceError>
         ensures ok { IfOk result (λ n. (n ≡ pos 1) × (self.new.version ≡ pos 1)) }
         ensures current { self.old.version ≡ pos 1 → (result ≡ Ok (pos 1)) × (self.new ≡ self.old) }
+        ensures ready { self.old.version ≢ pos 1 → OnOk result (self.new.is_ready ≡ true) }
         ensures made { self.old.version ≢ pos 1 → OnOk result (TellsOnly [] (told_rows S.Store self.new)) }
-        ensures stored { self.old.version ≢ pos 1 → OnOk result (HasCleanDisk (state S.Store self.new.conn) → BecomesNewJournal (state S.Store self.new.conn)) }
-        ensures err { OnErr result ((self.new.version ≡ self.old.version) × (HasCleanDisk (state S.Store self.new.conn) → IsTrue (state S.Store self.new.conn).is_open → KeepsNow (state S.Store self.old.conn) (state S.Store self.new.conn))) }
+        ensures stored { self.old.version ≢ pos 1 → OnOk result (IsNewIn S.Store self.new) }
+        ensures err { OnErr result ((self.new.version ≡ self.old.version) × (self.new.is_ready ≡ self.old.is_ready)) }
+        ensures kept { OnErr result (KeepsDatabase (state S.Store self.old.conn) (state S.Store self.new.conn)) }
         ensures alone { self.old.version ≢ pos 1 → OnOk result (LeavesTrees (state S.Store self.new.conn) (LeftAs [])) }
-        ensures left { LeavesTrees (state S.Store self.new.conn) (λ db. (state S.Store self.old.conn).may_leave db ⊎ LeftAs [] db) }
-        ensures later { self.old.faults ≤ self.new.faults }
-        ensures cause { IsErrOf result Sqlite → Rose self.old.faults self.new.faults }
-        ensures uncounted { result ≢ Err Sqlite → self.new.faults ≡ self.old.faults }
+        ensures left { LeavesNew S.Store self.old self.new }
+        ensures falls { doubt (state S.Store self.old.conn).is_clean ≤ doubt (state S.Store self.new.conn).is_clean }
+        ensures mode { (state S.Store self.old.conn).in_transaction ≡ false → (state S.Store self.new.conn).in_transaction ≡ false }
+        ensures cause { HasCause self.old.faults self.new.faults result }
         ensures named { IfErr result (λ e. e ≡ Sqlite ⊎ e ≡ NoMemory) }
     {
         if is_current(self.version) {
             return Ok(CURRENT_VERSION);
         }
-        let is_empty = is_absent(self.version);
+        let Some(is_empty) = self.start() else {
+            self.count();
+            return Err(PersistenceError::Sqlite);
+        };
         self.page = Page::empty(self.alloc);
         match dns_sqlite::schema_up(&mut self.conn, is_empty) {
             Ok(()) => {
                 self.version = CURRENT_VERSION;
+                self.ready = true;
                 Ok(CURRENT_VERSION)
             }
             Err(error) => Err(self.blame(error)),

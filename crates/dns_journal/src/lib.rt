@@ -2,8 +2,10 @@
 //! what a crash may leave of it.
 #![tactic(auto)]
 
+mod closed_journal;
 mod error;
 mod file;
+mod file_journal;
 mod inserts;
 mod iter;
 mod journal;
@@ -11,8 +13,10 @@ pub mod laws;
 mod page;
 mod records;
 
+pub use closed_journal::ClosedJournal;
 pub use dns_keeper::{KeepFault, Keeper, MemoryKeeper, Row};
 pub use error::{PersistenceError, RecoveryKind};
 pub use file::HostStore;
+pub use file_journal::FileJournal;
 pub use iter::JournalIter;
 pub use journal::{CURRENT_VERSION, Journal, select_schema_version};

@@ -1,13 +1,12 @@
 //! A page of rows that were read, which are taken one by one.
 
-ghost use Rattle.std.specs.Prelude.{◌≡◌, ◌+ℤ◌, ◌++◌, ◌∷◌, [], List, pos, true, Some, IfSome, IfNone, FitsSigned};
+ghost use Rattle.std.specs.Prelude.{◌≡◌, ◌+ℤ◌, ◌++◌, [], List, pos, true, Some, IfSome, IfNone, FitsSigned};
 ghost use Rattle.std.specs.Int.{w64};
 ghost use Rattle.std.specs.Int.Signed.{le_z};
 ghost use Rattle.std.specs.Option.{option_to_list};
 ghost use Rattle.std.specs.Vec.Iter.{into_iter_items};
 ghost use Rattle.sqlite.specs.Order.{Row as Shown};
-ghost use Rattle.dns_keeper.specs.declared.row.Row.{Row as JournalRow};
-ghost use Rattle.dns_journal.specs.Pages.{rows_left, IsFirstOf, HoldsPage, Holds};
+ghost use Rattle.dns_journal.specs.Pages.{rows_left, IsFirstOf, PassesFirst, Holds};
 
 use crate::iter::id_after;
 use dns_keeper::Row;
@@ -86,7 +85,7 @@ impl Page {
 
     /// Goes behind a row with this id. Where the row that follows it does not follow by its own id, no row is left.
     fn pass(&mut self, id: i64)
-        ensures held { (row : JournalRow) → row.id ≡ id → (table : List Shown) → HoldsPage self.old.next table (row ∷ into_iter_items self.old.rest) → Holds self.new table }
+        ensures held { PassesFirst id self.old self.new }
     {
         let row = next_of(&mut self.rest);
         match behind(id, row) {

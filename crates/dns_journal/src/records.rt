@@ -1,16 +1,9 @@
 //! The records of a journal's rows.
 
-ghost use Rattle.std.specs.Prelude.{◌≡◌, ◌≢◌, ◌≤◌, ◌-◌, ◌+ℤ◌, ◌^◌, ◌⊎◌, ◌∷◌, [], pos, None, Some, Ok, Err, IfOk, IfErr, IsErrOf, IfSome, FitsSigned};
+ghost use Rattle.std.specs.Prelude.{◌≡◌, ◌≢◌, ◌-◌, ◌+ℤ◌, ◌^◌, pos, None, Some, Ok, IfOk, IfErr, IfSome, FitsSigned};
 ghost use Rattle.std.specs.Int.{w64};
-ghost use Rattle.sqlite_trees.specs.View.{doubt};
-ghost use Rattle.sqlite.specs.Held.{state};
-ghost use Rattle.dns_io.specs.Told.{Keeps, Rose, one_more};
-ghost use Rattle.dns_journal.specs.Told.{told_rows};
-ghost use Rattle.dns_journal.specs.Crash.{LeavesTrees};
-ghost use Rattle.dns_journal.specs.Records.{IsOneRecord, IsReading, IsUnread, IsRecordOf, whole_of, IsRecordFrom, IsNoRecordFrom, IsRecordFault};
-ghost use Rattle.dns_journal.specs.Stored.{KeepsDatabase, ShowsRecord, ShowsNoRecord};
-ghost use Rattle.dns_journal.specs.declared.error.PersistenceError.TheVariants.{Recovery, Sqlite};
-ghost use Rattle.dns_journal.specs.declared.error.RecoveryKind.TheVariants.{NoRecord};
+ghost use Rattle.dns_journal.specs.Records.{IsOneRecord, IsReading, IsUnread, IsRecordOf, whole_of};
+ghost use Rattle.dns_journal.specs.Selects.{Selects};
 
 use crate::error::{PersistenceError, RecoveryKind};
 use crate::journal::Journal;
@@ -61,24 +54,10 @@ fn found(alloc: Global, row: &Row) -> Result<Option<(i64, Record)>, PersistenceE
 
 impl<S: Alter> Journal<S> {
     /// The row with the least id that is not below this one: its id and its record. `Recovery` says that its bytes are
-    /// not one record from the first to the last; `Sqlite` that the journal is not at the current version, the
-    /// connection refused or the row did not read.
+    /// not one record from the first to the last; `Sqlite` that the journal's calls do not go to the
+    /// connection, that this refused or the row did not read.
     pub fn select_record(&mut self, row_id: i64) -> Result<Option<(i64, Record)>, PersistenceError>
-        ensures found { IfOk result (IsRecordFrom (told_rows S.Store self.new) row_id) }
-        ensures fits { IfOk result (λ found. IfSome found (λ f. FitsSigned w64 f.0)) }
-        ensures recovery { IsErrOf result (Recovery NoRecord) → IsNoRecordFrom (told_rows S.Store self.new) row_id }
-        ensures shown { IfOk result (ShowsRecord row_id (state S.Store self.old.conn) (state S.Store self.new.conn)) }
-        ensures spoiled { IsErrOf result (Recovery NoRecord) → ShowsNoRecord row_id (state S.Store self.old.conn) (state S.Store self.new.conn) }
-        ensures untouched { KeepsDatabase (state S.Store self.old.conn) (state S.Store self.new.conn) }
-        ensures named { IfErr result IsRecordFault }
-        ensures kept { Keeps (told_rows S.Store self.old) (told_rows S.Store self.new) }
-        ensures falls { doubt (state S.Store self.old.conn).is_clean ≤ doubt (state S.Store self.new.conn).is_clean }
-        ensures left { LeavesTrees (state S.Store self.new.conn) (state S.Store self.old.conn).may_leave }
-        ensures other { self.old.version ≢ pos 1 → (result ≡ Err Sqlite) × (self.new ≡ record self.old { faults = one_more self.old.faults }) }
-        ensures version { self.new.version ≡ self.old.version }
-        ensures later { self.old.faults ≤ self.new.faults }
-        ensures cause { IsErrOf result Sqlite → Rose self.old.faults self.new.faults }
-        ensures uncounted { result ≢ Err Sqlite → self.new.faults ≡ self.old.faults }
+        ensures selected { Selects S.Store self.old self.new row_id result }
     {
         match self.row_from(row_id) {
             Ok(None) => Ok(None),
@@ -91,20 +70,7 @@ impl<S: Alter> Journal<S> {
     /// As `select_record` of the id after this one; none after the greatest id that there can be.
     pub fn try_next(&mut self, after: i64) -> Result<Option<(i64, Record)>, PersistenceError>
         ensures last { after ≡ pos (2 ^ 63 - 1) → (result ≡ Ok None) × (self.new ≡ self.old) }
-        ensures found { after ≢ pos (2 ^ 63 - 1) → IfOk result (IsRecordFrom (told_rows S.Store self.new) (after +ℤ pos 1)) }
-        ensures recovery { IsErrOf result (Recovery NoRecord) → IsNoRecordFrom (told_rows S.Store self.new) (after +ℤ pos 1) }
-        ensures shown { after ≢ pos (2 ^ 63 - 1) → IfOk result (ShowsRecord (after +ℤ pos 1) (state S.Store self.old.conn) (state S.Store self.new.conn)) }
-        ensures spoiled { IsErrOf result (Recovery NoRecord) → ShowsNoRecord (after +ℤ pos 1) (state S.Store self.old.conn) (state S.Store self.new.conn) }
-        ensures untouched { KeepsDatabase (state S.Store self.old.conn) (state S.Store self.new.conn) }
-        ensures named { IfErr result IsRecordFault }
-        ensures kept { Keeps (told_rows S.Store self.old) (told_rows S.Store self.new) }
-        ensures falls { doubt (state S.Store self.old.conn).is_clean ≤ doubt (state S.Store self.new.conn).is_clean }
-        ensures left { LeavesTrees (state S.Store self.new.conn) (state S.Store self.old.conn).may_leave }
-        ensures other { after ≢ pos (2 ^ 63 - 1) → self.old.version ≢ pos 1 → (result ≡ Err Sqlite) × (self.new ≡ record self.old { faults = one_more self.old.faults }) }
-        ensures version { self.new.version ≡ self.old.version }
-        ensures later { self.old.faults ≤ self.new.faults }
-        ensures cause { IsErrOf result Sqlite → Rose self.old.faults self.new.faults }
-        ensures uncounted { result ≢ Err Sqlite → self.new.faults ≡ self.old.faults }
+        ensures next { after ≢ pos (2 ^ 63 - 1) → Selects S.Store self.old self.new (after +ℤ pos 1) result }
     {
         if after == i64::MAX {
             return Ok(None);

@@ -1,17 +1,7 @@
 -- What the words of the command line choose: over which journal a command is done, and from which file the zone text comes.
 use Rattle.std.specs.Prelude.{◌≡◌, ◌⊎◌, List, [], ℕ, Option, Some, None, IsSome, if◌then◌else◌, codes}
-use Rattle.dns_keeper.specs.declared.keeper.KeepFault.{KeepFault}
-use Rattle.dns_keeper.specs.declared.keeper.KeepFault.TheVariants as keep
-use Rattle.dns_journal.specs.declared.error.PersistenceError.{PersistenceError}
-use Rattle.dns_journal.specs.declared.error.PersistenceError.TheVariants.{OutOfMemory}
 use Rattle.dns_command.specs.CommandLine.{path_of}
 use Rattle.dns_command.specs.ListeningWords.{is_command}
-
--- how each call of what stands for a journal that was not opened is refused: with want of memory where the opening found none, and else
--- with a counted fault
-abbrev pub refusal_after : PersistenceError → KeepFault
-refusal_after OutOfMemory = keep.OutOfMemory
-refusal_after _ = keep.Failed
 
 -- the file of the journal: the one that the words of a command name. For words that are no command none is opened
 abbrev pub journal_path : List (List ℕ) → Option (List ℕ)

@@ -1,2 +1,1 @@
-pub mod HostFiles
 pub mod Choices

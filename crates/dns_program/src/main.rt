@@ -2,17 +2,13 @@
 #![tactic(auto)]
 
 mod choices;
-mod closed_journal;
-mod file_journal;
 
 use crate::choices::{journal_path, zone_path};
-use crate::closed_journal::ClosedJournal;
-use crate::file_journal::FileJournal;
 use dns_command::run::run;
 use dns_command::{Ended, HELP, Status, VERSION, after_writing};
 use dns_edges::{FileSource, Reading, SystemClock, Writing};
 use dns_io::OutOfMemory;
-use dns_journal::PersistenceError;
+use dns_journal::{ClosedJournal, FileJournal, PersistenceError};
 use dns_keeper::{Keeper, MemoryKeeper};
 use dns_ports::SocketHub;
 use dns_words::{Action, action_of, put_text, unread_words};

@@ -1,5 +1,5 @@
 -- What a query leaves, whatever its text means.
-use Rattle.std.proofs.Common.{◌≡◌, ◌⊎◌, inl, inr, ℕ, List, Option, Some, None, Result, Ok, Err, IfOk, IfErr, IsTrue, sym, ◌∙◌}
+use Rattle.std.proofs.Common.{◌≡◌, ◌⊎◌, inl, inr, ℕ, List, Option, Some, None, Result, Ok, Err, IfOk, IfErr, OnOk, OnErr, IsTrue, sym, ◌∙◌}
 use Rattle.sqlite.specs.Order.{Row}
 use Rattle.sqlite.specs.declared.error.Error.{Error}
 use Rattle.sqlite_schema.specs.declared.command.Returning.{Returning}
@@ -33,3 +33,21 @@ module _ (old new : State) where
 pub either : {T E X : Type 0} (r : Result T E) (P : T → Type 0) (Q : E → Type 0) → IfOk r P → IfErr r Q → ((x : T) → P x → X) → ((e : E) → Q e → X) → X
 either (Ok x) P Q h k f g = f x h
 either (Err e) P Q h k f g = g e k
+
+-- ---- what holds where something does
+
+pub ok_where : {T E A B : Type 0} (r : Result T E) (P : T → Type 0) (Q : Type 0) → (A → IfOk r P) → (A → B → (x : T) → P x → Q) → OnOk r (A → B → Q)
+ok_where (Ok x) P Q h f = λ a b. f a b x (h a)
+ok_where (Err e) P Q h f = tt
+
+pub err_where : {T E A B : Type 0} (r : Result T E) (P : E → Type 0) (Q : Type 0) → (A → IfErr r P) → (A → B → (e : E) → P e → Q) → OnErr r (A → B → Q)
+err_where (Ok x) P Q h f = tt
+err_where (Err e) P Q h f = λ a b. f a b e (h a)
+
+pub each_ok : {T E A : Type 0} (r : Result T E) (P Q : T → Type 0) → (A → IfOk r P) → ((x : T) → P x → Q x) → IfOk r (λ x. A → Q x)
+each_ok (Ok x) P Q h f = λ a. f x (h a)
+each_ok (Err e) P Q h f = tt
+
+pub each_err : {T E A : Type 0} (r : Result T E) (P : E → Type 0) → (A → IfErr r P) → IfErr r (λ e. A → P e)
+each_err (Ok x) P h = tt
+each_err (Err e) P h = h

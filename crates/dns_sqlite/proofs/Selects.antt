@@ -1,5 +1,5 @@
 -- A query shows what it finds, and returns nothing that is written, whatever the schema.
-use Rattle.std.proofs.Common.{◌≡◌, ◌+◌, ℕ, List, Bool, true, false, Option, Some, None, Ok, Err, IsSome, refl, sym, ap, subst, ◌∙◌, inl, inr}
+use Rattle.std.proofs.Common.{◌≡◌, ◌+◌, ℕ, List, [], Bool, true, false, Option, Some, None, Ok, Err, IsSome, refl, sym, ap, subst, ◌∙◌, inl, inr}
 use Rattle.std.proofs.lemmas.Bool.{cases_Bool}
 use Rattle.sqlite.specs.Order.{Row}
 use Rattle.sqlite.specs.Schema.{Schema}
@@ -16,7 +16,7 @@ use Rattle.sqlite_ast.specs.declared.Statement.TheVariants as written
 use Rattle.sqlite.specs.Clock.{timed as with_time}
 use Rattle.sqlite.specs.Listing.{understood, reads_listing, listing_schema, if_select, is_select}
 use Rattle.sqlite.specs.State.{State, Shown, ShowsRows, IsUnchanged, CommitsShowing}
-use Rattle.dns_sqlite.specs.Versions.{version_text}
+use Rattle.dns_sqlite.specs.Versions.{version_text, ShowsVersions}
 use Rattle.dns_sqlite.proofs.Texts.{from_text}
 
 inv : {A B : Type 0} (x : Checked A) (f : A → Checked B) (b : B) → and_then x f ≡ Ok b → (a : A) × (x ≡ Ok a) × (f a ≡ Ok b)
@@ -95,3 +95,12 @@ module _ (text : List ℕ) (is_bare : bare_of (first text) ≡ true) where
       go : (o : Option Returning) → o ≡ None → ShowsRows old new text h.0 (with_time params h.0.formats h.1.now) rows o → IsUnchanged old new
       go None e shows = shows.3
       go (Some what) e shows = absurd (cc)
+
+-- what is shown of the version is shown of the database
+pub shown_versions : (old new : State) (rows : List Row) → Shown version_text [] old new rows → ShowsVersions old.now rows
+unfolding Shown
+shown_versions old new rows h = go h.0.returning (never_returns version_text version_bare old.now.schema h.0 h.1.is) h.2
+  where
+    go : (o : Option Returning) → o ≡ None → ShowsRows old new version_text h.0 (with_time [] h.0.formats h.1.now) rows o → ShowsVersions old.now rows
+    go None e shows = (h.0, h.1.is, h.1.now, shows.0, shows.1, shows.2)
+    go (Some what) e shows = absurd (cc)

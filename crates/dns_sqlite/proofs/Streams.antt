@@ -92,3 +92,7 @@ err_then (Err e) X Y one more = more one
 pub ok_both : {T E : Type 0} (r : Result T E) (P R : T → Type 0) (Q : Type 0) → IfOk r P → OnOk r Q → ((t : T) → P t → Q → R t) → IfOk r R
 ok_both (Ok t) P R Q one two both = both t one two
 ok_both (Err e) P R Q one two both = tt
+
+pub on_either : {T E : Type 0} (r : Result T E) (P Q X : Type 0) → OnOk r P → OnErr r Q → (P → X) → (Q → X) → X
+on_either (Ok t) P Q X one two f h = f one
+on_either (Err e) P Q X one two f h = h two

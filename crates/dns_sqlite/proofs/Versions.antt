@@ -1,11 +1,11 @@
 -- What the query of the version shows.
-use Rattle.std.proofs.Common.{◌≡◌, inl, inr, ℤ, List, [], ◌∷◌, length, map, flat_map, codes, true, false, is_some, Option, Some, None, refl, sym, ap, subst, ◌∙◌, arith}
+use Rattle.std.proofs.Common.{◌≡◌, ◌⊎◌, to_z, of_z, w64, inl, inr, ℤ, List, [], ◌∷◌, length, map, flat_map, codes, pos, Bool, true, false, if◌then◌else◌, ◌&&◌, is_some, Option, Some, None, refl, sym, ap, subst, ◌∙◌, arith}
 use Rattle.std.specs.List.Sorted.{IsPermutation}
 use Rattle.std.proofs.lemmas.List.Sorted.{length_permutation}
 use Rattle.sqlite.specs.declared.types.Value.TheVariants.{Null, Int, Real, Text, Blob}
 use Rattle.sqlite.specs.declared.types.Value.{Value}
 use Rattle.std.specs.Ordering.{int_eq}
-use Rattle.std.proofs.lemmas.Bool.{and_parts}
+use Rattle.std.proofs.lemmas.Bool.{and_parts, cases_Bool}
 use Rattle.sqlite.specs.Order.{Row, column}
 use Rattle.sqlite.specs.Schema.{Schema}
 use Rattle.sqlite.specs.Term.{Env}
@@ -16,10 +16,10 @@ use Rattle.sqlite.specs.State.{State, Shown, ShowsRows, IsUnchanged}
 use Rattle.sqlite.specs.Listing.{understood, reads_listing}
 use Rattle.sqlite.specs.Clock.{timed}
 use Rattle.sqlite_schema.specs.declared.command.Returning.{Returning}
+use Rattle.sqlite_schema.specs.Names.{same_name}
 use Rattle.sqlite.proofs.Callers.{IsPlain, command_of, reads_as, one_permutation}
 use Rattle.dns_sqlite.specs.Tables.{version_schema, journal_schema}
-use Rattle.dns_sqlite.specs.Versions.{HasVersions, ShowsVersions, IsVersion, number_of, is_number, shows_version}
-use Rattle.dns_sqlite.specs.Versions.{version_text}
+use Rattle.dns_sqlite.specs.Versions.{HasVersions, has_versions, ShowsAll, IsVersion, number_of, known, version_of, version_text}
 use Rattle.dns_sqlite.proofs.Texts.{version_query, half_version_is, half_version_plain, whole_version_is, whole_version_plain}
 
 abbrev each : Row → List Env
@@ -31,7 +31,7 @@ staged_is (r ∷ rows) = ap (λ (xs : List Output). ([], column r 0 ∷ column r
 
 module _ (schema : Schema) (plain : IsPlain (understood schema version_text)) (is : command_of (understood schema version_text) ≡ Select (record { lets = []; body = version_query }) (codes "rowid" ∷ codes "version" ∷ []))
     (unlisted : reads_listing schema version_text ≡ false) (old new : State) (rows : List Row) (has : old.now.schema ≡ schema) where
-  finds_in : Shown version_text [] old new rows → ShowsVersions (old.now.trees 0) rows
+  finds_in : Shown version_text [] old new rows → ShowsAll (old.now.trees 0) rows
   finds_in h =
       let got = reads_as version_text [] old new schema has _ is plain unlisted rows h in
       let a : IsAnswer version_query (overlay old.now.trees []) [] rows = got.answer Null in
@@ -47,10 +47,31 @@ module _ (schema : Schema) (plain : IsPlain (understood schema version_text)) (i
       let it : P None = subst P bare.0 h.2 in
       it.3
 
-pub shows : (old new : State) (rows : List Row) → HasVersions old.now.schema → Shown version_text [] old new rows → ShowsVersions (old.now.trees 0) rows × IsUnchanged old new
+pub shows : (old new : State) (rows : List Row) → HasVersions old.now.schema → Shown version_text [] old new rows → ShowsAll (old.now.trees 0) rows × IsUnchanged old new
 shows old new rows (inl half) h = (finds_in version_schema half_version_plain half_version_is.0 half_version_is.1 old new rows half h, same_in version_schema half_version_plain half_version_is.0 half_version_is.1 old new rows half h)
 shows old new rows (inr whole) h =
     (finds_in journal_schema whole_version_plain whole_version_is.0 whole_version_is.1 old new rows whole h, same_in journal_schema whole_version_plain whole_version_is.0 whole_version_is.1 old new rows whole h)
+
+-- a table of the version is there where the tables are those of a journal
+there : (has_versions version_schema ≡ true) × (has_versions journal_schema ≡ true)
+unfolding same_name
+there = (refl, refl)
+
+pub not_there : (schema : Schema) → has_versions schema ≡ false → ¬ HasVersions schema
+not_there schema none (inl half) = absurd (let it : true ≡ false = sym there.0 ∙ ap has_versions (sym half) ∙ none in cc)
+not_there schema none (inr whole) = absurd (let it : true ≡ false = sym there.1 ∙ ap has_versions (sym whole) ∙ none in cc)
+
+-- ---- one row
+
+abbrev pub is_number : ℤ → Option ℤ → Bool
+is_number n None = false
+is_number n (Some m) = int_eq m n
+
+-- one row was shown, with a number for its rowid and this version
+abbrev pub shows_version : ℤ → List Row → Bool
+shows_version n [] = false
+shows_version n (r ∷ []) = is_some (number_of (column r 0)) && is_number n (number_of (column r 1))
+shows_version n (r ∷ s ∷ more) = false
 
 alone : {X : Type 0} (xs : List X) → length xs ≡ 1 → (x : X) × (xs ≡ x ∷ [])
 alone [] e = absurd (omega arith)
@@ -80,7 +101,7 @@ abbrev shown_of : Row → Output
 shown_of r = ([], column r 0 ∷ column r 1 ∷ [])
 
 -- where one row with one number is shown, the table has it
-pub version_is : (tree rows : List Row) (n : ℤ) → ShowsVersions tree rows → shows_version n rows ≡ true → IsVersion n tree
+pub version_is : (tree rows : List Row) (n : ℤ) → ShowsAll tree rows → shows_version n rows ≡ true → IsVersion n tree
 version_is tree [] n h e = absurd (cc)
 version_is tree (r ∷ s ∷ more) n h e = absurd (cc)
 version_is tree (row ∷ []) n h e =
@@ -99,8 +120,79 @@ int_same : (n : ℤ) → int_eq n n ≡ true
 int_same n = grind arith
 
 -- and where the table has it, it is shown
-pub version_shown : (tree rows : List Row) (n : ℤ) → ShowsVersions tree rows → IsVersion n tree → shows_version n rows ≡ true
+pub version_shown : (tree rows : List Row) (n : ℤ) → ShowsAll tree rows → IsVersion n tree → shows_version n rows ≡ true
 version_shown tree rows n h v =
     let ordered = one_permutation {X = Output} (shown_of v.1) h.0 (subst (λ (t : List Row). IsPermutation (map {B = Output} shown_of t) h.0) v.2 h.1) in
     let rows_is : rows ≡ (column v.1 0 ∷ column v.1 1 ∷ []) ∷ [] = h.2 ∙ ap (map (λ (o : Output). o.1)) ordered in
     rw (rows_is, v.3, v.4) (int_same n)
+
+-- ---- the version that rows show
+
+known_is : (o : Option ℤ) (n : ℤ) → known o ≡ Some n → o ≡ Some n
+known_is None n e = absurd (cc)
+known_is (Some m) n e = elim (cases_Bool (int_eq m (pos 0))) [
+  | inl zero ↦ rw zero at e
+  | inr other ↦ elim (cases_Bool (int_eq m (pos 1))) [
+    | inl one ↦ rw (other, one) at e
+    | inr none ↦ absurd (let it : None ≡ Some n = rw (other, none) at e in cc)
+  ]
+]
+
+pub version_shows : (rows : List Row) (n : ℤ) → version_of rows ≡ Some n → shows_version n rows ≡ true
+version_shows [] n e = absurd (cc)
+version_shows (r ∷ s ∷ more) n e = absurd (cc)
+version_shows (r ∷ []) n e = go (number_of (column r 0)) (number_of (column r 1)) e
+  where
+    go : (id version : Option ℤ) → (if is_some id then known version else None) ≡ Some n → (is_some id && is_number n version) ≡ true
+    go None version e = absurd (cc)
+    go (Some id) version e = subst (λ o. is_number n o ≡ true) (sym (known_is version n e)) (int_same n)
+
+pub version_hides : (rows : List Row) → version_of rows ≡ None → (shows_version (pos 0) rows ≡ false) × (shows_version (pos 1) rows ≡ false)
+version_hides [] e = (refl, refl)
+version_hides (r ∷ s ∷ more) e = (refl, refl)
+version_hides (r ∷ []) e = go (number_of (column r 0)) (number_of (column r 1)) e
+  where
+    go : (id version : Option ℤ) → (if is_some id then known version else None) ≡ None → ((is_some id && is_number (pos 0) version) ≡ false) × ((is_some id && is_number (pos 1) version) ≡ false)
+    go None version e = (refl, refl)
+    go (Some id) None e = (refl, refl)
+    go (Some id) (Some n) e = elim (cases_Bool (int_eq n (pos 0))) [
+      | inl zero ↦ absurd (let it : Some n ≡ None = rw zero at e in cc)
+      | inr other ↦ elim (cases_Bool (int_eq n (pos 1))) [
+        | inl one ↦ absurd (let it : Some n ≡ None = rw (other, one) at e in cc)
+        | inr none ↦ (other, none)
+      ]
+    ]
+
+-- where rows that are shown have no version, the table has none
+pub lacks : (tree rows : List Row) (n : ℤ) → ShowsAll tree rows → shows_version n rows ≡ false → ¬ IsVersion n tree
+lacks tree rows n all hidden v = absurd (let e : true ≡ false = sym (version_shown tree rows n all v) ∙ hidden in cc)
+
+-- ---- a version of a journal is 0 or 1
+
+known_one : (o : Option ℤ) (n : ℤ) → known o ≡ Some n → (n ≡ pos 0) ⊎ (n ≡ pos 1)
+known_one None n e = absurd (cc)
+known_one (Some m) n e = elim (cases_Bool (int_eq m (pos 0))) [
+  | inl zero ↦ let same : Some m ≡ Some n = rw zero at e in let it : m ≡ pos 0 = grind arith in inl (let is : m ≡ n = cc in sym is ∙ it)
+  | inr other ↦ elim (cases_Bool (int_eq m (pos 1))) [
+    | inl one ↦ let same : Some m ≡ Some n = rw (other, one) at e in let it : m ≡ pos 1 = grind arith in inr (let is : m ≡ n = cc in sym is ∙ it)
+    | inr none ↦ absurd (let it : None ≡ Some n = rw (other, none) at e in cc)
+  ]
+]
+
+version_one : (rows : List Row) (n : ℤ) → version_of rows ≡ Some n → (n ≡ pos 0) ⊎ (n ≡ pos 1)
+version_one [] n e = absurd (cc)
+version_one (r ∷ s ∷ more) n e = absurd (cc)
+version_one (r ∷ []) n e = go (number_of (column r 0)) (number_of (column r 1)) e
+  where
+    go : (id version : Option ℤ) → (if is_some id then known version else None) ≡ Some n → (n ≡ pos 0) ⊎ (n ≡ pos 1)
+    go None version e = absurd (cc)
+    go (Some id) version e = known_one version n e
+
+-- so it is the same number in 64 bits
+in_bits : (n : ℤ) → (n ≡ pos 0) ⊎ (n ≡ pos 1) → to_z w64 (of_z w64 n) ≡ n
+in_bits n (inl is) = rw is refl
+in_bits n (inr is) = rw is refl
+
+-- the version that rows show is that of the table, where they are all that it has
+pub fits_table : (tree rows : List Row) (n : ℤ) → ShowsAll tree rows → version_of rows ≡ Some n → IsVersion (to_z w64 (of_z w64 n)) tree
+fits_table tree rows n all e = rw (in_bits n (version_one rows n e)) (version_is tree rows n all (version_shows rows n e))

@@ -1,11 +1,15 @@
 -- What a batch of records adds to the table of rows.
-use Rattle.std.specs.Prelude.{◌≡◌, ◌≢◌, ◌+ℤ◌, ℕ, ℤ, pos, true, false, List, [], ◌∷◌, IsTrue}
+use Rattle.std.specs.Prelude.{◌≡◌, ◌≢◌, ◌+ℤ◌, ℕ, ℤ, pos, true, false, List, [], ◌∷◌, IsTrue, Result}
 use Rattle.sqlite.specs.Order.{Row}
 use Rattle.sqlite.specs.Tree.{Trees, put_row}
 use Rattle.sqlite.specs.Edit.{next_rowid, is_taken}
 use Rattle.sqlite.specs.Effect.{Database, IsDatabase}
 use Rattle.sqlite.specs.State.{State, KeepsCommit}
+use Rattle.sqlite.specs.declared.error.Error.{Error}
+use Rattle.sqlite.specs.Store.{Ghosts}
+use Rattle.sqlite.specs.Held.{Held}
 use Rattle.dns_sqlite.specs.Tables.{journal_schema, stored}
+use Rattle.dns_sqlite.specs.Statements.{HasTables, Transacts}
 
 module _ (client serial : ℕ) (stamp : List ℕ) where
   -- the row that comes next, with the id after that of the last row, 1 where there is none
@@ -54,3 +58,7 @@ module _ (client serial : ℕ) (stamp : List ℕ) where
     pub was_open : IsTrue old.is_open
     pub is_open : IsTrue new.is_open
     pub committed : new.committed ≡ new.now
+
+-- a batch of records is added in a transaction, whole or not at all
+abbrev pub AddsBatch : {S T : Type 0} → Ghosts S → ℕ → ℕ → List ℕ → List (List ℕ) → Held S → Held S → Result T Error → Type 0
+AddsBatch g client serial stamp records = Transacts g HasTables (Grows client serial stamp records) (MayGrow client serial stamp records)

@@ -1,4 +1,5 @@
 pub mod Tables
+pub mod Statements
 pub mod Reads
 pub mod Batch
 pub mod Versions

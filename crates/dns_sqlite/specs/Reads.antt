@@ -1,10 +1,17 @@
--- What the rows that a query shows read as.
-use Rattle.std.specs.Prelude.{◌≡◌, ◌⊎◌, ℕ, ℤ, suc, List, [], ◌∷◌}
+-- What a query leaves, and what the rows that it shows read as.
+use Rattle.std.specs.Prelude.{◌≡◌, ◌⊎◌, ◌≤◌, ℕ, ℤ, suc, false, List, [], ◌∷◌, IsTrue}
+use Rattle.sqlite_trees.specs.View.{doubt}
 use Rattle.sqlite.specs.declared.types.Value.TheVariants.{Int, Text, Blob}
 use Rattle.sqlite.specs.Order.{Row as Shown, column}
-use Rattle.sqlite.specs.State.{State, IsUnchanged, IsRolledBack}
+use Rattle.sqlite.specs.Tree.{Trees}
+use Rattle.sqlite.specs.Given.{HasGiven}
+use Rattle.sqlite.specs.Store.{Ghosts}
+use Rattle.sqlite.specs.Held.{Held, state}
+use Rattle.sqlite.specs.State.{State, HasCleanDisk, IsUnchanged, IsRolledBack}
 use Rattle.dns_keeper.specs.declared.row.Row.{Row}
-use Rattle.dns_sqlite.specs.Tables.{HasRows}
+use Rattle.dns_sqlite.specs.Tables.{HasRows, from_text}
+use Rattle.dns_sqlite.specs.Statements.{HasTables}
+use Rattle.dns_sqlite.specs.Versions.{KeepsDatabase}
 
 pub record ReadsAs (shown : Shown) (row : Row) : Type 0 where
   pub id : column shown 0 ≡ Int row.id
@@ -27,3 +34,29 @@ HasPage id table rows = (count : ℕ) × (shown : List Shown) × HasRows (suc co
 -- a database is as it was, or what a transaction did to it was undone
 abbrev pub IsKept : State → State → Type 0
 IsKept old new = IsUnchanged old new ⊎ IsRolledBack old new
+
+-- ---- of a connection, where its disk is clean
+
+-- it was open, and is as it was
+abbrev pub StaysAs : {S : Type 0} → Ghosts S → Held S → Held S → Type 0
+StaysAs g old new = HasCleanDisk (state g new) → IsTrue (state g old).is_open → IsUnchanged (state g old) (state g new)
+
+-- it was open, and is as it was, or what a transaction did was undone
+abbrev pub StaysOrIsUndone : {S : Type 0} → Ghosts S → Held S → Held S → Type 0
+StaysOrIsUndone g old new = HasCleanDisk (state g new) → IsTrue (state g old).is_open → IsKept (state g old) (state g new)
+
+-- it was only asked: in no transaction it stays in none, and its database is as it was; and a crash leaves what it left before
+pub record WasAsked {S : Type 0} (g : Ghosts S) (old new : Held S) : Type 0 where
+  pub alone : (state g old).in_transaction ≡ false → (state g new).in_transaction ≡ false
+  pub falls : doubt (state g old).is_clean ≤ doubt (state g new).is_clean
+  pub kept : (state g old).in_transaction ≡ false → KeepsDatabase (state g old) (state g new)
+  pub left : HasCleanDisk (state g new) → (db : Trees) → (state g new).may_leave db → (state g old).may_leave db
+
+-- these are a page of the rows that the query goes on to show, if it stands at its start
+abbrev pub FindsPage : {S : Type 0} → Ghosts S → Held S → Held S → List Row → Type 0
+FindsPage g old new rows =
+    HasCleanDisk (state g new) → IsTrue (state g old).is_open → HasTables (state g old).now → (id : ℤ) → HasGiven g from_text (Int id ∷ []) old [] → HasPage id ((state g old).now.trees 1) rows
+
+-- these are a page of the rows from this id on, and the connection is as it was
+abbrev pub ShowsPage : {S : Type 0} → Ghosts S → ℤ → Held S → Held S → List Row → Type 0
+ShowsPage g id old new rows = HasCleanDisk (state g new) → HasTables (state g old).now → HasPage id ((state g old).now.trees 1) rows × IsUnchanged (state g old) (state g new)

@@ -10,5 +10,6 @@ mod writes;
 
 pub use reads::select_rows_from;
 pub use schema::schema_up;
+pub use shape::{has_tables, start_of};
 pub use version::{VersionFault, select_schema_version};
 pub use writes::insert_batch;

@@ -1,13 +1,9 @@
 //! The rows of a journal, read.
 
-ghost use Rattle.std.specs.Prelude.{◌≡◌, ◌≤◌, ◌++◌, ◌∷◌, [], ℤ, false, IsTrue, IfOk, OnOk, OnErr};
-ghost use Rattle.sqlite_trees.specs.View.{doubt};
-ghost use Rattle.sqlite.specs.declared.types.Value.TheVariants.{Int};
-ghost use Rattle.sqlite.specs.Given.{HasGiven};
-ghost use Rattle.sqlite.specs.State.{HasCleanDisk, IsUnchanged, Survives};
+ghost use Rattle.std.specs.Prelude.{◌≡◌, ◌++◌, ◌∷◌, [], false, IsTrue, IfOk, OnOk, OnErr};
+ghost use Rattle.sqlite.specs.State.{HasCleanDisk, Survives};
 ghost use Rattle.sqlite.specs.Held.{state};
-ghost use Rattle.dns_sqlite.specs.Tables.{journal_schema, from_text};
-ghost use Rattle.dns_sqlite.specs.Reads.{HasPage, IsKept};
+ghost use Rattle.dns_sqlite.specs.Reads.{WasAsked, StaysAs, StaysOrIsUndone, FindsPage, ShowsPage};
 
 use crate::row::row_in;
 use dns_keeper::Row;
@@ -29,9 +25,9 @@ fn take_rows<S: Alter>(alloc: Global, shown: &mut Rows<'_, S>) -> Result<Vec<Row
     ensures same_reference { shown.new.conn.ghost_name ≡ shown.old.conn.ghost_name }
     ensures mode { shown.old.conn.now.in_transaction ≡ false → shown.new.conn.now.in_transaction ≡ false }
     ensures survives { Survives (state S.Store shown.old.conn.now) (state S.Store shown.new.conn.now) (λ _. ⊥) }
-    ensures same { HasCleanDisk (state S.Store shown.new.conn.now) → IsTrue (state S.Store shown.old.conn.now).is_open → OnOk result (IsUnchanged (state S.Store shown.old.conn.now) (state S.Store shown.new.conn.now)) }
-    ensures kept { HasCleanDisk (state S.Store shown.new.conn.now) → IsTrue (state S.Store shown.old.conn.now).is_open → OnErr result (IsKept (state S.Store shown.old.conn.now) (state S.Store shown.new.conn.now)) }
-    ensures found { HasCleanDisk (state S.Store shown.new.conn.now) → IsTrue (state S.Store shown.old.conn.now).is_open → (state S.Store shown.old.conn.now).now.schema ≡ journal_schema → (id : ℤ) → HasGiven S.Store from_text (Int id ∷ []) shown.old.conn.now [] → IfOk result (λ rows. HasPage id ((state S.Store shown.old.conn.now).now.trees 1) rows.items) }
+    ensures same { OnOk result (StaysAs S.Store shown.old.conn.now shown.new.conn.now) }
+    ensures kept { OnErr result (StaysOrIsUndone S.Store shown.old.conn.now shown.new.conn.now) }
+    ensures found { IfOk result (λ rows. FindsPage S.Store shown.old.conn.now shown.new.conn.now rows.items) }
 {
     let mut rows = Vec::with_capacity(alloc, 128)?;
     for _ in 0..u64::MAX {
@@ -60,12 +56,9 @@ pub fn select_rows_from<S: Alter>(
     id: i64,
 ) -> Result<Vec<Row>, Error>
     requires alone { (state S.Store conn.old).in_transaction ≡ false }
-    ensures alone { (state S.Store conn.new).in_transaction ≡ false }
-    ensures falls { doubt (state S.Store conn.old).is_clean ≤ doubt (state S.Store conn.new).is_clean }
+    ensures asked { WasAsked S.Store conn.old conn.new }
     ensures opened { HasCleanDisk (state S.Store conn.new) → OnOk result (IsTrue (state S.Store conn.old).is_open) }
-    ensures found { HasCleanDisk (state S.Store conn.new) → (state S.Store conn.old).now.schema ≡ journal_schema → IfOk result (λ rows. HasPage id ((state S.Store conn.old).now.trees 1) rows.items × IsUnchanged (state S.Store conn.old) (state S.Store conn.new)) }
-    ensures kept { HasCleanDisk (state S.Store conn.new) → IsTrue (state S.Store conn.new).is_open → OnErr result (IsTrue (state S.Store conn.old).is_open × ((state S.Store conn.new).now ≡ (state S.Store conn.old).now)) }
-    ensures left { HasCleanDisk (state S.Store conn.new) → (db : _) → (state S.Store conn.new).may_leave db → (state S.Store conn.old).may_leave db }
+    ensures found { IfOk result (λ rows. ShowsPage S.Store id conn.old conn.new rows.items) }
 {
     let _settled = conn.is_autocommit();
     let mut shown = conn.query(

@@ -1,11 +1,14 @@
 //! Which of the schemas of a journal a database has.
 
-ghost use Rattle.std.specs.Prelude.{◌≡◌, ◌≢◌, ◌↔◌, true, false, [], ◌∷◌, Some, codes, IsTrue};
+ghost use Rattle.std.specs.Prelude.{◌≡◌, ◌≢◌, ◌↔◌, pos, true, false, [], ◌∷◌, Some, codes, IsTrue, IfSome};
+ghost use Rattle.sqlite.specs.Held.{state};
 ghost use Rattle.sqlite.specs.declared.types.Value.TheVariants.{Null};
-ghost use Rattle.dns_sqlite.specs.Shapes.{column_of, IsPlainTable, IsShape};
+ghost use Rattle.dns_sqlite.specs.Statements.{HasTables};
+ghost use Rattle.dns_sqlite.specs.Shapes.{column_of, AreNumbers, IsPlainTable, IsShape, IsStart};
 ghost use Rattle.sqlite.specs.Kind.TheVariants.{Integer};
 ghost use Rattle.dns_sqlite.specs.Tables.{versions, records};
 
+use sqlite::{Alter, Connection};
 use sqlite_schema::schema::{Column, Kind, Schema, Table};
 use sqlite_value::keys::Collation;
 use sqlite_value::value::Value;
@@ -123,7 +126,7 @@ fn is_versions(table: &Table) -> bool
 
 /// The first three columns of a row.
 fn are_numbers(id: &Column, client: &Column, serial: &Column) -> bool
-    ensures { IsTrue result ↔ ((id.now ≡ column_of (codes "id") Integer false) × (client.now ≡ column_of (codes "client_id") Integer true) × (serial.now ≡ column_of (codes "soa_serial") Integer true)) }
+    ensures { IsTrue result ↔ AreNumbers id.now client.now serial.now }
 {
     if !is_column(id, b"id".as_slice(), Kind::Integer, false) {
         return false;
@@ -223,4 +226,33 @@ pub fn shape_of(schema: &Schema) -> Shape
         [first, second] => shape_of_two(first, second),
         _ => Shape::Foreign,
     }
+}
+
+/// Whether a connection has the two tables of a journal, and no other table, index or view.
+pub fn has_tables<S: Alter>(conn: &Connection<S>) -> bool
+    ensures { IsTrue result ↔ HasTables (state S.Store conn.now).now }
+{
+    match shape_of(conn.schema()) {
+        Shape::Journal => true,
+        _ => false,
+    }
+}
+
+/// From what the tables are made, where the journal has this version: from an empty database, or else from the table of the version
+/// alone. None where the connection shows neither.
+pub fn start_of<S: Alter>(conn: &Connection<S>, version: i64) -> Option<bool>
+    ensures { IfSome result (λ is_empty. IsStart is_empty version (state S.Store conn.now).now.schema) }
+{
+    match shape_of(conn.schema()) {
+        Shape::Empty => Some(true),
+        Shape::VersionAlone => alone_of(version),
+        _ => None,
+    }
+}
+
+/// The start from the table of the version alone, which has to say 0.
+fn alone_of(version: i64) -> Option<bool>
+    ensures { IfSome result (λ is_empty. (is_empty ≡ false) × (version ≡ pos 0)) }
+{
+    if version == 0 { Some(false) } else { None }
 }

@@ -1,21 +1,23 @@
 //! The version of a journal, as its table tells it.
 
-ghost use Rattle.std.specs.Prelude.{◌≡◌, ◌↔◌, ◌≤◌, ℤ, [], false, IsTrue, IfOk, IfErr, OnErr, IsErrOf};
-ghost use Rattle.sqlite_trees.specs.View.{doubt};
+ghost use Rattle.std.specs.Prelude.{◌≡◌, IfOk, IfErr, IfSome, OnOk, OnErr, IsErrOf, FitsSigned};
+ghost use Rattle.std.specs.Int.{w64};
 ghost use Rattle.sqlite.specs.Held.{state};
 ghost use Rattle.sqlite.specs.State.{HasCleanDisk};
 ghost use Rattle.sqlite.specs.Order.{column};
-ghost use Rattle.dns_sqlite.specs.Versions.{HasVersions, ShowsVersions, IsVersion, IsAtVersion, KeepsNow, RefusesVersions, IsRefusal, no_memory, number_of, shows_version};
+ghost use Rattle.dns_sqlite.specs.Reads.{WasAsked, StaysAs, StaysOrIsUndone};
+ghost use Rattle.dns_sqlite.specs.Versions.{has_versions, no_memory, number_of, known, version_of, IsAtVersion, LacksVersion, FitsTables};
+ghost use Rattle.dns_sqlite.specs.Versions.{KeepsDatabase, TellsVersions, RefusedWith, IsRefusedFor};
 ghost use Rattle.dns_sqlite.specs.declared.version.VersionFault.TheVariants.{NoVersion, Refused};
 
-use crate::shape::{Shape, shape_of};
 use sqlite::types::Value;
 use sqlite::{Alter, Connection, Error, ErrorCode, Row};
+use sqlite_schema::schema::Schema;
 
 /// Why no version was found.
 #[derive(Clone, Copy, Debug, PartialEq, Eq)]
 pub enum VersionFault {
-    /// The tables are not those of a journal, or the number is not theirs.
+    /// The table of the version has not one row, or its number is none of a journal.
     NoVersion,
     /// The connection refused the query. Want of memory is such a refusal.
     Refused(Error),
@@ -29,14 +31,21 @@ impl From<Error> for VersionFault {
     }
 }
 
-/// The rows of the table of the version.
-pub fn select_versions<S: Alter>(conn: &mut Connection<S>) -> Result<Vec<Row>, Error>
-    ensures alone { (state S.Store conn.old).in_transaction ≡ false → (state S.Store conn.new).in_transaction ≡ false }
-    ensures falls { doubt (state S.Store conn.old).is_clean ≤ doubt (state S.Store conn.new).is_clean }
-    ensures rows { HasCleanDisk (state S.Store conn.new) → HasVersions (state S.Store conn.old).now.schema → IfOk result (λ rows. ShowsVersions ((state S.Store conn.old).now.trees 0) rows.items) }
-    ensures kept { HasCleanDisk (state S.Store conn.new) → (state S.Store conn.old).in_transaction ≡ false → IsTrue (state S.Store conn.new).is_open → KeepsNow (state S.Store conn.old) (state S.Store conn.new) }
-    ensures refused { HasCleanDisk (state S.Store conn.new) → IfErr result (RefusesVersions (state S.Store conn.old) (state S.Store conn.new)) }
-    ensures left { HasCleanDisk (state S.Store conn.new) → (db : _) → (state S.Store conn.new).may_leave db → (state S.Store conn.old).may_leave db }
+/// Whether there is a table of the version.
+fn has_versions(schema: &Schema) -> bool
+    ensures { result ≡ has_versions schema.now }
+{
+    schema.table_named(b"tdns_schema".as_slice()).is_some()
+}
+
+/// The rows that the query of the version shows.
+fn select_versions<S: Alter>(conn: &mut Connection<S>) -> Result<Vec<Row>, Error>
+    ensures asked { WasAsked S.Store conn.old conn.new }
+    ensures shown { OnOk result (KeepsDatabase (state S.Store conn.old) (state S.Store conn.new)) }
+    ensures same { OnOk result (StaysAs S.Store conn.old conn.new) }
+    ensures undone { OnErr result (StaysOrIsUndone S.Store conn.old conn.new) }
+    ensures rows { IfOk result (λ rows. TellsVersions S.Store conn.old conn.new rows.items) }
+    ensures refused { IfErr result (RefusedWith S.Store conn.old conn.new) }
 {
     let _settled = conn.is_autocommit();
     conn.query_all("SELECT rowid, version FROM tdns_schema", &[])
@@ -55,59 +64,56 @@ fn number_in(row: &Row, at: usize) -> Result<Option<i64>, Error>
     }
 }
 
-/// Whether the rows that were shown are one row with this version.
-fn is_version(rows: &[Row], wanted: i64) -> Result<bool, Error>
+/// A number that is a version of a journal: 0 or 1.
+fn known(number: Option<i64>) -> Option<i64>
+    ensures { result ≡ known number }
+{
+    let Some(version) = number else {
+        return None;
+    };
+    if version == 0 {
+        return Some(version);
+    }
+    if version == 1 {
+        return Some(version);
+    }
+    None
+}
+
+/// The version that rows show: the number of the one row that there is.
+fn version_in(rows: &[Row]) -> Result<Option<i64>, Error>
     ensures memory { IfErr result (λ e. e ≡ no_memory) }
-    ensures shown { IfOk result (λ is. is ≡ shows_version wanted rows.now) }
+    ensures shown { IfOk result (λ version. version ≡ version_of rows.now) }
 {
     match rows {
         [row] => {
             if number_in(row, 0)?.is_none() {
-                return Ok(false);
+                return Ok(None);
             }
-            match number_in(row, 1)? {
-                Some(number) => Ok(number == wanted),
-                None => Ok(false),
-            }
+            Ok(known(number_in(row, 1)?))
         }
-        _ => Ok(false),
+        _ => Ok(None),
     }
 }
 
-/// Tests that the one version is this.
-fn one_version<S: Alter>(conn: &mut Connection<S>, wanted: i64) -> Result<i64, VersionFault>
-    ensures alone { (state S.Store conn.old).in_transaction ≡ false → (state S.Store conn.new).in_transaction ≡ false }
-    ensures falls { doubt (state S.Store conn.old).is_clean ≤ doubt (state S.Store conn.new).is_clean }
-    ensures version { HasCleanDisk (state S.Store conn.new) → HasVersions (state S.Store conn.old).now.schema → IfOk result (λ n. (n ≡ wanted) × IsVersion n ((state S.Store conn.old).now.trees 0)) }
-    ensures none { HasCleanDisk (state S.Store conn.new) → HasVersions (state S.Store conn.old).now.schema → IsErrOf result NoVersion → ¬ IsVersion wanted ((state S.Store conn.old).now.trees 0) }
-    ensures kept { HasCleanDisk (state S.Store conn.new) → (state S.Store conn.old).in_transaction ≡ false → IsTrue (state S.Store conn.new).is_open → KeepsNow (state S.Store conn.old) (state S.Store conn.new) }
-    ensures refused { HasCleanDisk (state S.Store conn.new) → IfErr result (λ fault. IsRefusal fault (state S.Store conn.old) (state S.Store conn.new)) }
-    ensures left { HasCleanDisk (state S.Store conn.new) → (db : _) → (state S.Store conn.new).may_leave db → (state S.Store conn.old).may_leave db }
-{
-    let rows = select_versions(conn)?;
-    if is_version(rows.as_slice(), wanted)? {
-        Ok(wanted)
-    } else {
-        Err(VersionFault::NoVersion)
-    }
-}
-
-/// The version of a journal: -1 in a database with no table, 0 with the table of the version alone and that number in
-/// its one row, 1 with both tables and that number. A database with another table, index, view, column or number has
-/// no version. It changes nothing, and what a crash may leave stays as it is.
+/// The version of a journal: -1 in a database with no table of the version, whatever else it has; else the number of the one row of
+/// that table, 0 or 1. It changes nothing, and what a crash may leave stays as it is.
 pub fn select_schema_version<S: Alter>(conn: &mut Connection<S>) -> Result<i64, VersionFault>
-    ensures alone { (state S.Store conn.old).in_transaction ≡ false → (state S.Store conn.new).in_transaction ≡ false }
-    ensures falls { doubt (state S.Store conn.old).is_clean ≤ doubt (state S.Store conn.new).is_clean }
+    ensures asked { WasAsked S.Store conn.old conn.new }
+    ensures shown { OnOk result (KeepsDatabase (state S.Store conn.old) (state S.Store conn.new)) }
+    ensures same { OnOk result (StaysAs S.Store conn.old conn.new) }
+    ensures undone { OnErr result (StaysOrIsUndone S.Store conn.old conn.new) }
     ensures version { HasCleanDisk (state S.Store conn.new) → IfOk result (λ n. IsAtVersion n (state S.Store conn.old).now) }
-    ensures none { HasCleanDisk (state S.Store conn.new) → IsErrOf result NoVersion → (n : ℤ) → ¬ IsAtVersion n (state S.Store conn.old).now }
-    ensures kept { HasCleanDisk (state S.Store conn.new) → (state S.Store conn.old).in_transaction ≡ false → IsTrue (state S.Store conn.new).is_open → KeepsNow (state S.Store conn.old) (state S.Store conn.new) }
-    ensures refused { HasCleanDisk (state S.Store conn.new) → IfErr result (λ fault. IsRefusal fault (state S.Store conn.old) (state S.Store conn.new)) }
-    ensures left { HasCleanDisk (state S.Store conn.new) → (db : _) → (state S.Store conn.new).may_leave db → (state S.Store conn.old).may_leave db }
+    ensures fits { HasCleanDisk (state S.Store conn.new) → IfOk result (λ n. FitsTables n (state S.Store conn.old).now) }
+    ensures none { HasCleanDisk (state S.Store conn.new) → IsErrOf result NoVersion → LacksVersion (state S.Store conn.old).now }
+    ensures refused { IfErr result (IsRefusedFor S.Store conn.old conn.new) }
 {
-    match shape_of(conn.schema()) {
-        Shape::Empty => Ok(-1),
-        Shape::VersionAlone => one_version(conn, 0),
-        Shape::Journal => one_version(conn, 1),
-        Shape::Foreign => Err(VersionFault::NoVersion),
+    if !has_versions(conn.schema()) {
+        return Ok(-1);
+    }
+    let rows = select_versions(conn)?;
+    match version_in(rows.as_slice())? {
+        Some(version) => Ok(version),
+        None => Err(VersionFault::NoVersion),
     }
 }

@@ -1,11 +1,9 @@
 //! A batch of rows, added in one transaction.
 
-ghost use Rattle.sqlite_trees.specs.View.{doubt};
-ghost use Rattle.std.specs.Prelude.{◌≡◌, ◌≤◌, ◌<◌, length, true, false, IsTrue, IfOk, OnOk, OnErr};
-ghost use Rattle.sqlite.specs.State.{HasCleanDisk, Survives, KeepsCommit};
+ghost use Rattle.std.specs.Prelude.{◌≡◌, ◌<◌, length, false};
 ghost use Rattle.sqlite.specs.Held.{state};
-ghost use Rattle.dns_sqlite.specs.Tables.{journal_schema};
-ghost use Rattle.dns_sqlite.specs.Batch.{PutsOne, PutsAll, Grows, MayGrow};
+ghost use Rattle.dns_sqlite.specs.Statements.{HasTables, Statement, Statements, IsOpenAfter};
+ghost use Rattle.dns_sqlite.specs.Batch.{PutsOne, PutsAll, AddsBatch};
 
 use dns_io::Octets;
 use sqlite::{Alter, Connection, Error, Transaction, params};
@@ -19,11 +17,7 @@ fn insert_row<S: Alter>(
     bytes: &[u8],
 ) -> Result<usize, Error>
     ensures same_reference { tx.new.conn.ghost_name ≡ tx.old.conn.ghost_name }
-    ensures put { HasCleanDisk (state S.Store tx.new.conn.now) → IsTrue (state S.Store tx.old.conn.now).in_transaction → (state S.Store tx.old.conn.now).now.schema ≡ journal_schema → OnOk result (PutsOne client serial stamp.now bytes.now (state S.Store tx.old.conn.now) (state S.Store tx.new.conn.now)) }
-    ensures inside { HasCleanDisk (state S.Store tx.new.conn.now) → IsTrue (state S.Store tx.old.conn.now).in_transaction → OnOk result ((state S.Store tx.new.conn.now).in_transaction ≡ true) }
-    ensures opened { HasCleanDisk (state S.Store tx.new.conn.now) → IsTrue (state S.Store tx.old.conn.now).in_transaction → OnOk result (IsTrue (state S.Store tx.new.conn.now).is_open) }
-    ensures kept { HasCleanDisk (state S.Store tx.new.conn.now) → IsTrue (state S.Store tx.old.conn.now).in_transaction → KeepsCommit (state S.Store tx.old.conn.now) (state S.Store tx.new.conn.now) }
-    ensures survives { Survives (state S.Store tx.old.conn.now) (state S.Store tx.new.conn.now) (λ _. ⊥) }
+    ensures done { Statement S.Store HasTables (PutsOne client serial stamp.now bytes.now) tx.old.conn.now tx.new.conn.now result }
 {
     tx.execute(
         "INSERT INTO records(client_id, soa_serial, timestamp, record) VALUES (?1, ?2, ?3, ?4)",
@@ -40,11 +34,8 @@ fn insert_rows<S: Alter>(
     records: &[Octets],
 ) -> Result<(), Error>
     ensures same_reference { tx.new.conn.ghost_name ≡ tx.old.conn.ghost_name }
-    ensures put { HasCleanDisk (state S.Store tx.new.conn.now) → IsTrue (state S.Store tx.old.conn.now).in_transaction → (state S.Store tx.old.conn.now).now.schema ≡ journal_schema → OnOk result (PutsAll client serial stamp.now records.now (state S.Store tx.old.conn.now) (state S.Store tx.new.conn.now)) }
-    ensures inside { HasCleanDisk (state S.Store tx.new.conn.now) → IsTrue (state S.Store tx.old.conn.now).in_transaction → OnOk result ((state S.Store tx.new.conn.now).in_transaction ≡ true) }
-    ensures opened { HasCleanDisk (state S.Store tx.new.conn.now) → IsTrue (state S.Store tx.old.conn.now).in_transaction → 0 < length records.now → OnOk result (IsTrue (state S.Store tx.new.conn.now).is_open) }
-    ensures kept { HasCleanDisk (state S.Store tx.new.conn.now) → IsTrue (state S.Store tx.old.conn.now).in_transaction → KeepsCommit (state S.Store tx.old.conn.now) (state S.Store tx.new.conn.now) }
-    ensures survives { Survives (state S.Store tx.old.conn.now) (state S.Store tx.new.conn.now) (λ _. ⊥) }
+    ensures done { Statements S.Store HasTables (PutsAll client serial stamp.now records.now) tx.old.conn.now tx.new.conn.now result }
+    ensures opened { 0 < length records.now → IsOpenAfter S.Store tx.old.conn.now tx.new.conn.now result }
 {
     for bytes in records {
         let _count = insert_row(tx, client, serial, stamp, bytes.as_slice())?;
@@ -64,13 +55,7 @@ pub fn insert_batch<S: Alter>(
 ) -> Result<(), Error>
     requires alone { (state S.Store conn.old).in_transaction ≡ false }
     requires some { 0 < length records.now }
-    ensures alone { (state S.Store conn.new).in_transaction ≡ false }
-    ensures falls { doubt (state S.Store conn.old).is_clean ≤ doubt (state S.Store conn.new).is_clean }
-    ensures opened { HasCleanDisk (state S.Store conn.new) → OnOk result (IsTrue (state S.Store conn.old).is_open) }
-    ensures grows { HasCleanDisk (state S.Store conn.new) → (state S.Store conn.old).now.schema ≡ journal_schema → OnOk result (Grows client serial stamp.now records.now (state S.Store conn.old) (state S.Store conn.new)) }
-    ensures kept { HasCleanDisk (state S.Store conn.new) → IsTrue (state S.Store conn.new).is_open → OnErr result (IsTrue (state S.Store conn.old).is_open × ((state S.Store conn.new).now ≡ (state S.Store conn.old).now) × ((state S.Store conn.new).committed ≡ (state S.Store conn.old).committed)) }
-    ensures crash { HasCleanDisk (state S.Store conn.new) → OnOk result ((db : _) → (state S.Store conn.new).may_leave db → db ≡ (state S.Store conn.new).now.trees) }
-    ensures survives { Survives (state S.Store conn.old) (state S.Store conn.new) (MayGrow client serial stamp.now records.now (state S.Store conn.old)) }
+    ensures done { AddsBatch S.Store client serial stamp.now records.now conn.old conn.new result }
 {
     let _settled = conn.is_autocommit();
     let mut tx = conn.transaction();

@@ -41,9 +41,6 @@ fn empty_journal(alloc: Global) -> Result<Journal<MemStore>, Fail> {
 }
 
 fn journal_over(alloc: Global, conn: Connection<MemStore>) -> Result<Journal<MemStore>, Fail> {
-    if !conn.is_autocommit() {
-        return Err(Fail::from("in a transaction"));
-    }
     Ok(Journal::new(alloc, conn)?)
 }
 

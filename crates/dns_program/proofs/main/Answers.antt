@@ -1,5 +1,5 @@
 use denote.Param.Send.{sendable}
-use Rattle.dns_program.proofs.SentJournal.{file_journal_send}
+use Rattle.dns_journal.proofs.SentJournal.{file_journal_send}
 use Rattle.dns_program.proofs.main.Goals as goal
 
 pub command_over-status-requires-in-InFile-send-K : goal.command_over-status-requires-in-InFile-send-K

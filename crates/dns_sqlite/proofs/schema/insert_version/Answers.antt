@@ -7,17 +7,16 @@ use Rattle.dns_sqlite.proofs.Texts.{fill_text}
 use Rattle.dns_sqlite.proofs.Makes.{fills, if_ok}
 use Rattle.dns_sqlite.proofs.schema.insert_version.Goals as goal
 
-pub returns-clause-made : goal.returns-clause-made
-returns-clause-made g c clean inside was =
+pub returns-clause-done : goal.returns-clause-done
+returns-clause-done g c =
     let old = state g.S.Store c.args.tx.now.conn.now in
     let new = state g.S.Store c.execute.new.self.conn.now in
-    if_ok c.execute.result _ (λ count is. fills old new count was (subst (ExecutesInside 0 fill_text [] old new) is (c.execute.ensures.runs clean inside)))
-
-pub returns-clause-kept : goal.returns-clause-kept
-returns-clause-kept g c clean inside = inside_keeps _ _ 0 false _ _ c.execute.result (c.execute.ensures.runs clean inside)
-
-pub returns-clause-inside : goal.returns-clause-inside
-returns-clause-inside g c clean inside = stays_inside _ _ _ _ c.execute.result (c.execute.ensures.runs clean inside)
-
-pub returns-clause-opened : goal.returns-clause-opened
-returns-clause-opened g c clean inside = stays_open _ _ _ _ c.execute.result (c.execute.ensures.runs clean inside)
+    record {
+      done = record {
+        made = λ clean inside was. if_ok c.execute.result _ (λ count is. fills old new count was (subst (ExecutesInside 0 fill_text [] old new) is (c.execute.ensures.runs clean inside)));
+        inside = λ clean inside. stays_inside _ _ _ _ c.execute.result (c.execute.ensures.runs clean inside);
+        kept = λ clean inside. inside_keeps _ _ 0 false _ _ c.execute.result (c.execute.ensures.runs clean inside);
+        survives = c.execute.ensures.survives;
+      };
+      opened = λ clean inside. stays_open _ _ _ _ c.execute.result (c.execute.ensures.runs clean inside);
+    }

@@ -12,7 +12,7 @@ use Rattle.dns_journal.specs.contracts.journal.Journal as Journal
 use Rattle.dns_journal.proofs.journal.Journal.TheSendSync as journal
 use Rattle.sqlite.proofs.FileStore.TheSendSync as store
 use Rattle.sqlite_disk.proofs.modelled.Modelled.TheSendSync as modelled
-use Rattle.dns_program.specs.contracts.file_journal.FileJournal.{the_row, the_type}
+use Rattle.dns_journal.specs.contracts.file_journal.FileJournal.{the_row, the_type}
 
 -- a journal over a store of files, as a field
 kept : (D : RattleType) (d : Disk.Ghosts D.Denot) (g : Store.Ghosts (FileStore.the_row D d).Denot) → IsSend D → IsSend (as_row (Journal.the_field (FileStore.the_row D d) g))

@@ -1,6 +1,6 @@
 -- What a journal in a file of the host tells of its rows.
 use denote.RattleType.{RattleType}
-use Rattle.std.specs.Prelude.{List, Option}
+use Rattle.std.specs.Prelude.{List}
 use Rattle.sqlite_disk.specs.contracts.modelled.Modelled as Modelled
 use Rattle.sqlite_disk.specs.contracts.modelled.ModelledDisk.TheImpl as ModelledDisk
 use Rattle.sqlite_disk.specs.contracts.start.Unknown as Unknown
@@ -12,9 +12,10 @@ use Rattle.sqlite.below.sqlite_store.specs.contracts.store.FileStoreStore.TheImp
 use Rattle.sqlite.specs.contracts.FileStore as FileStore
 use Rattle.sqlite.specs.Store as Store
 use Rattle.dns_keeper.specs.declared.row.Row.{Row}
-use Rattle.sqlite.specs.Held.{state}
-use Rattle.dns_journal.specs.Told.{View, told_rows}
-use Rattle.dns_journal.specs.Crash.{MayLeaveClean}
+use Rattle.dns_keeper.specs.Keeping.{KeeperTold, KeeperOf}
+use Rattle.dns_journal.specs.declared.file_journal.FileJournal.{FileJournal}
+use Rattle.dns_journal.specs.Told.{View}
+use Rattle.dns_journal.specs.Keepers.{journal_keeper}
 
 -- the files of the host, of which nothing is known before they are opened
 abbrev files : RattleType
@@ -30,10 +31,14 @@ stores = FileStore.the_row files disk
 abbrev store : Store.Ghosts stores.Denot
 store = FileStoreStore.ghosts files disk FileStoreStore.no_dict
 
--- the rows that a journal over it tells: those of its connection, while the files give what was written to them
-unfoldable pub file_rows : View stores.Denot → Option (List Row)
-file_rows = told_rows store
+-- what is known of a journal over it: it tells the rows of its connection, and which rows a crash may leave of them, while the files give
+-- what was written to them
+unfoldable pub host_told : View stores.Denot → KeeperTold
+host_told = (journal_keeper store).told
 
--- which rows a crash now may leave in it, where its files promise to be clean
-unfoldable pub file_may_leave : View stores.Denot → List Row → Type 0
-file_may_leave journal = MayLeaveClean (state store journal.conn)
+unfoldable pub host_may_leave : View stores.Denot → List Row → Type 0
+host_may_leave = (journal_keeper store).may_leave
+
+-- of the journal in a file
+abbrev pub file_keeper : KeeperOf FileJournal
+file_keeper = record { told = λ k. host_told k.journal; may_leave = λ k. host_may_leave k.journal }

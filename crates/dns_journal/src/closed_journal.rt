@@ -1,11 +1,11 @@
 //! What stands for a journal that could not be opened.
 
-ghost use Rattle.std.specs.Prelude.{◌≡◌, None, IsErrOf};
-ghost use Rattle.dns_keeper.specs.declared.keeper.KeepFault.TheVariants.{OutOfMemory as NoMemory};
+ghost use Rattle.std.specs.Prelude.{◌≡◌, IsErrOf};
 ghost use Rattle.dns_keeper.specs.Keeping.{HasCause};
-ghost use Rattle.dns_program.specs.Choices.{refusal_after};
+ghost use Rattle.dns_keeper.specs.Calls.{Appends, ReadsRow};
+ghost use Rattle.dns_journal.specs.Closed.{refusal_after, closed_keeper};
 
-use dns_journal::PersistenceError;
+use crate::error::PersistenceError;
 use dns_keeper::{KeepFault, Keeper, Row};
 use dns_wire::Records;
 
@@ -32,8 +32,8 @@ impl ClosedJournal {
     /// Refuses a call.
     fn refuse<T>(&mut self) -> Result<T, KeepFault>
         ensures cause { HasCause self.old.faults self.new.faults result }
-        ensures uncounted { IsErrOf result NoMemory → self.new.faults ≡ self.old.faults }
         ensures refused { IsErrOf result self.old.refusal }
+        ensures kept { self.new.refusal ≡ self.old.refusal }
     {
         match self.refusal {
             KeepFault::Failed => {
@@ -46,28 +46,26 @@ impl ClosedJournal {
 }
 
 impl Keeper for ClosedJournal {
-    ghost rows = { λ k. None };
-
-    ghost faults = { λ k. k.faults };
+    ghost keeper = { closed_keeper };
 
     fn append(
         &mut self,
-        _client: u32,
-        _serial: u32,
-        _moment: u64,
-        _records: &Records,
+        client: u32,
+        serial: u32,
+        moment: u64,
+        records: &Records,
     ) -> Result<(), KeepFault>
         ensures refused { IsErrOf result self.old.refusal }
-        ensures cause { HasCause self.old.faults self.new.faults result }
-        ensures uncounted { IsErrOf result NoMemory → self.new.faults ≡ self.old.faults }
+        ensures kept { self.new.refusal ≡ self.old.refusal }
+        ensures appended { Appends closed_keeper self.old self.new client serial moment records.now result }
     {
         self.refuse()
     }
 
-    fn row_from(&mut self, _id: i64) -> Result<Option<Row>, KeepFault>
+    fn row_from(&mut self, id: i64) -> Result<Option<Row>, KeepFault>
         ensures refused { IsErrOf result self.old.refusal }
-        ensures cause { HasCause self.old.faults self.new.faults result }
-        ensures uncounted { IsErrOf result NoMemory → self.new.faults ≡ self.old.faults }
+        ensures kept { self.new.refusal ≡ self.old.refusal }
+        ensures read { ReadsRow closed_keeper self.old self.new id result }
     {
         self.refuse()
     }

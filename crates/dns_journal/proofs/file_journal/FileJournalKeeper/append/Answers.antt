@@ -1,0 +1,8 @@
+use Rattle.dns_journal.specs.HostFiles.{host_told, host_may_leave}
+use Rattle.dns_journal.proofs.file_journal.FileJournalKeeper.append.Goals as goal
+
+pub returns-clause-appended : goal.returns-clause-appended
+unfolding host_told host_may_leave
+returns-clause-appended c =
+    let all = c.append.ensures.appended in
+    record { ok = all.ok; err = all.err; ascending = all.ascending; alone = all.alone; left = all.left; cause = all.cause }

@@ -1,2 +1,0 @@
-mod SentJournal
-pub mod Leaving
