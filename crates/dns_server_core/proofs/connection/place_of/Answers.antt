@@ -1,7 +1,7 @@
 -- The half where the number can be.
 use Rattle.std.proofs.Common.{◌≡◌, ◌<◌, ◌+◌, ◌-◌, ◌/◌, ℕ, drop, subst, arith}
 use Rattle.std.specs.List.{AllByRecursion}
-use Rattle.dns_server_core.specs.declared.connection.Connection.{Connection}
+use Rattle.dns_server_core.specs.Connections.{Connection}
 use Rattle.dns_server_core.proofs.NumberPlaces.{all_before, all_behind, all_other}
 use Rattle.dns_server_core.proofs.connection.place_of.Goals as goal
 

@@ -1,6 +1,5 @@
--- Nothing was handed over.
-use Rattle.dns_server_core.proofs.Running.{breaks_none}
+-- Nothing was handed over, or all that was whole.
+use Rattle.std.proofs.Common.{sym}
+use Rattle.dns_server_core.proofs.Running.{Hands-none, Hands-same, Breaks-same, breaks_none}
+use Rattle.dns_server_core.proofs.OnePiece.{on_err, heard_in_time, heard_late, moved_in_time, moved_late}
 use Rattle.dns_server_core.proofs.responder.Responder.receive_piece.Goals as goal
-
-pub returns-in_err-feed-clause-err : goal.returns-in_err-feed-clause-err
-returns-in_err-feed-clause-err g c = breaks_none g.H.RequestHandler.serves c.from_residual.result g.H.RequestHandler.skips c.args.self.now _
