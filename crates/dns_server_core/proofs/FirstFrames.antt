@@ -38,7 +38,7 @@ frames-size_by zero (a ∷ b ∷ bytes) p = absurd (omega arith)
 frames-size_by (suc k) (a ∷ b ∷ bytes) p =
     let n : ℕ = a * 256 + b in
     elim (cases_lt (length bytes) (a * 256 + b)) [
-      | inl l ↦ rw (frames-partial a b bytes l) refl
+      | inl l ↦ rw (frames-partial a b bytes l) (omega arith)
       | inr g ↦
           let more = frames-size_by k (drop (a * 256 + b) bytes) (omega (arith, length-drop (a * 256 + b) bytes)) in
           rw (frames-whole a b bytes g) (omega (arith, more, length-take-le (a * 256 + b) bytes g, length-drop (a * 256 + b) bytes))

@@ -1,6 +1,6 @@
 //! The rule of a connection, as a machine that whoever drives it tells what came and what was done (RFC 1035 4.2.2, RFC 7766 6.2.3, 8).
 
-ghost use Rattle.std.specs.Prelude.{◌≡◌, ◌≤◌, ◌-◌, [], length, drop, IfOk, OnErr};
+ghost use Rattle.std.specs.Prelude.{◌≡◌, ◌≤◌, ◌-◌, true, [], length, drop, IfOk, OnErr};
 ghost use Rattle.dns_frames.specs.Frames.{frames};
 ghost use Rattle.dns_server_core.specs.Connections.{is_within};
 ghost use Rattle.dns_server_core.specs.Steps.{fed_by, HearsPiece};
