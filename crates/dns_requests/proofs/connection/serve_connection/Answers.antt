@@ -74,7 +74,7 @@ returns-in-Late-clause-ends g c =
     let piece = take c.in_ok-count.count c.receive.new.room in
     let size : length piece ≡ c.in_ok-count.count = length-take-le c.in_ok-count.count c.receive.new.room c.in_ok-count.ensures.count in
     let some : length piece ≢ 0 = subst (λ (n : ℕ). n ≢ 0) (sym size) c.if-count-eq0.false in
-    ends_late _ _ _ _ _ _ _ now c.loop-turn._turn c.loop-turn.session c.hear-heard.new.self c.loop-turn.taken c.receive.new.source c.now-at.new.self at c.in-Late.since piece
+    ends_late _ _ _ _ _ _ _ now c.loop-turn._turn c.loop-turn.session c.hear.new.self c.loop-turn.taken c.receive.new.source c.now-at.new.self at c.in-Late.since piece
     c.loop-turn.invariant.going c.loop-turn-test.true c.in_ok-count.ensures.ok some c.now-at.ensures.next (rw c.in-Late.is at c.in_ok-heard.ensures.ok)
 
 pub returns-in_err-messages-clause-ends : goal.returns-in_err-messages-clause-ends
@@ -87,14 +87,14 @@ returns-in_err-messages-clause-ends g c =
     let piece = take c.in_ok-count.count c.receive.new.room in
     let size : length piece ≡ c.in_ok-count.count = length-take-le c.in_ok-count.count c.receive.new.room c.in_ok-count.ensures.count in
     let some : length piece ≢ 0 = subst (λ (n : ℕ). n ≢ 0) (sym size) c.if-count-eq0.false in
-    let new = c.hear-heard.new.self in
+    let new = c.hear.new.self in
     let p = err_from_is_err_and c.from_residual-in_err-messages.result c.from_residual-in_err-messages.ensures.1 in
-    let heard = Heard-more serves g.T.RequestHandler.skips g.R.Source.source g.W.Sink.sink g.C.Clock.clock terms before now c.loop-turn._turn c.loop-turn.session c.loop-turn.taken c.receive.new.source c.now-at.new.self at piece c.hear-heard.new.self
+    let heard = Heard-more serves g.T.RequestHandler.skips g.R.Source.source g.W.Sink.sink g.C.Clock.clock terms before now c.loop-turn._turn c.loop-turn.session c.loop-turn.taken c.receive.new.source c.now-at.new.self at piece c.hear.new.self
     c.loop-turn.invariant.going c.in_ok-count.ensures.ok some c.now-at.ensures.next (rw c.in-InTime.is at c.in_ok-heard.ensures.ok) in
-    let halts = subst (λ (x : Ask). Halts serves g.T.RequestHandler.skips c.loop-turn.handler (map (λ (m : List ℕ). record x { at = at; bytes = m }) (frames new.rest).messages) c.answer-messages.new.handler) c.loop-turn.invariant.ask c.in_err-messages.ensures.err in
+    let halts = subst (λ (x : Ask). Halts serves g.T.RequestHandler.skips c.loop-turn.handler (map (λ (m : List ℕ). record x { at = at; bytes = m }) (frames new.rest).messages) c.answer.new.handler) c.loop-turn.invariant.ask c.in_err-messages.ensures.err in
     rw (p.1, p.2)
     (ends_answering serves g.T.RequestHandler.skips g.R.Source.source g.W.Sink.sink g.C.Clock.clock terms before now c.loop-turn._turn c.loop-turn.session c.loop-turn.taken
-    c.receive.new.source c.now-at.new.self at new c.answer-messages.new.handler heard c.loop-turn-test.true halts)
+    c.receive.new.source c.now-at.new.self at new c.answer.new.handler heard c.loop-turn-test.true halts)
 
 pub returns-in_err-send-clause-ends : goal.returns-in_err-send-clause-ends
 returns-in_err-send-clause-ends g c =
@@ -106,16 +106,16 @@ returns-in_err-send-clause-ends g c =
     let piece = take c.in_ok-count.count c.receive.new.room in
     let size : length piece ≡ c.in_ok-count.count = length-take-le c.in_ok-count.count c.receive.new.room c.in_ok-count.ensures.count in
     let some : length piece ≢ 0 = subst (λ (n : ℕ). n ≢ 0) (sym size) c.if-count-eq0.false in
-    let heard = Heard-more serves g.T.RequestHandler.skips g.R.Source.source g.W.Sink.sink g.C.Clock.clock terms before now c.loop-turn._turn c.loop-turn.session c.loop-turn.taken c.receive.new.source c.now-at.new.self at piece c.hear-heard.new.self
+    let heard = Heard-more serves g.T.RequestHandler.skips g.R.Source.source g.W.Sink.sink g.C.Clock.clock terms before now c.loop-turn._turn c.loop-turn.session c.loop-turn.taken c.receive.new.source c.now-at.new.self at piece c.hear.new.self
     c.loop-turn.invariant.going c.in_ok-count.ensures.ok some c.now-at.ensures.next (rw c.in-InTime.is at c.in_ok-heard.ensures.ok) in
-    let new = c.hear-heard.new.self in
-    let replies = c.answer-messages.new.replies.items in
-    let adds = subst (λ (x : Ask). Adds serves c.loop-turn.handler (map (λ (m : List ℕ). record x { at = at; bytes = m }) (frames new.rest).messages) c.answer-messages.new.handler c.loop-turn.replies.items replies) c.loop-turn.invariant.ask c.in_ok-messages.ensures.ok in
-    let added = subst (λ (l : List ℕ). Adds serves c.loop-turn.handler (map (ask_at c.args.peer at) (frames new.rest).messages) c.answer-messages.new.handler l replies) c.loop-turn.invariant.written adds in
+    let new = c.hear.new.self in
+    let replies = c.answer.new.replies.items in
+    let adds = subst (λ (x : Ask). Adds serves c.loop-turn.handler (map (λ (m : List ℕ). record x { at = at; bytes = m }) (frames new.rest).messages) c.answer.new.handler c.loop-turn.replies.items replies) c.loop-turn.invariant.ask c.in_ok-messages.ensures.ok in
+    let added = subst (λ (l : List ℕ). Adds serves c.loop-turn.handler (map (ask_at c.args.peer at) (frames new.rest).messages) c.answer.new.handler l replies) c.loop-turn.invariant.written adds in
     let p = err_from_is_err_and c.from_residual-in_err-send.result c.from_residual-in_err-send.ensures.1 in
     rw (p.1, p.2)
     (ends_writing serves g.T.RequestHandler.skips g.R.Source.source g.W.Sink.sink g.C.Clock.clock terms before now c.loop-turn._turn c.loop-turn.session c.loop-turn.taken
-    c.receive.new.source c.now-at.new.self at new c.answer-messages.new.handler c.send.new.sink replies c.in_err-send.field-0.0 heard c.loop-turn-test.true added c.in_err-send.ensures.err c.in_err-send.ensures.counts)
+    c.receive.new.source c.now-at.new.self at new c.answer.new.handler c.send.new.sink replies c.in_err-send.field-0.0 heard c.loop-turn-test.true added c.in_err-send.ensures.err c.in_err-send.ensures.counts)
 
 pub returns-clause-ends : goal.returns-clause-ends
 returns-clause-ends g c =
@@ -138,17 +138,17 @@ loop-turn-preserved g c =
     let piece = take c.in_ok-count.count c.receive.new.room in
     let size : length piece ≡ c.in_ok-count.count = length-take-le c.in_ok-count.count c.receive.new.room c.in_ok-count.ensures.count in
     let some : length piece ≢ 0 = subst (λ (n : ℕ). n ≢ 0) (sym size) c.if-count-eq0.false in
-    let heard = Heard-more serves g.T.RequestHandler.skips g.R.Source.source g.W.Sink.sink g.C.Clock.clock terms before now c.loop-turn._turn c.loop-turn.session c.loop-turn.taken c.receive.new.source c.now-at.new.self at piece c.hear-heard.new.self
+    let heard = Heard-more serves g.T.RequestHandler.skips g.R.Source.source g.W.Sink.sink g.C.Clock.clock terms before now c.loop-turn._turn c.loop-turn.session c.loop-turn.taken c.receive.new.source c.now-at.new.self at piece c.hear.new.self
     c.loop-turn.invariant.going c.in_ok-count.ensures.ok some c.now-at.ensures.next (rw c.in-InTime.is at c.in_ok-heard.ensures.ok) in
-    let new = c.hear-heard.new.self in
-    let replies = c.answer-messages.new.replies.items in
-    let adds = subst (λ (x : Ask). Adds serves c.loop-turn.handler (map (λ (m : List ℕ). record x { at = at; bytes = m }) (frames new.rest).messages) c.answer-messages.new.handler c.loop-turn.replies.items replies) c.loop-turn.invariant.ask c.in_ok-messages.ensures.ok in
-    let added = subst (λ (l : List ℕ). Adds serves c.loop-turn.handler (map (ask_at c.args.peer at) (frames new.rest).messages) c.answer-messages.new.handler l replies) c.loop-turn.invariant.written adds in
+    let new = c.hear.new.self in
+    let replies = c.answer.new.replies.items in
+    let adds = subst (λ (x : Ask). Adds serves c.loop-turn.handler (map (λ (m : List ℕ). record x { at = at; bytes = m }) (frames new.rest).messages) c.answer.new.handler c.loop-turn.replies.items replies) c.loop-turn.invariant.ask c.in_ok-messages.ensures.ok in
+    let added = subst (λ (l : List ℕ). Adds serves c.loop-turn.handler (map (ask_at c.args.peer at) (frames new.rest).messages) c.answer.new.handler l replies) c.loop-turn.invariant.written adds in
     record {
       going = Heard-answered serves g.T.RequestHandler.skips g.R.Source.source g.W.Sink.sink g.C.Clock.clock terms before now c.loop-turn._turn c.loop-turn.session c.loop-turn.taken
-          c.receive.new.source c.now-at.new.self at new c.answer-messages.new.session c.answer-messages.new.handler c.send.new.sink replies c.in_ok-messages.messages heard added c.in_ok-send.ensures.ok c.in_ok-send.ensures.counts
+          c.receive.new.source c.now-at.new.self at new c.answer.new.session c.answer.new.handler c.send.new.sink replies c.in_ok-messages.messages heard added c.in_ok-send.ensures.ok c.in_ok-send.ensures.counts
           c.in_ok-messages.ensures.count c.in_ok-messages.ensures.fed c.in_ok-messages.ensures.shorter;
-      ask = ask_stays c.answer-messages.new.ask c.loop-turn.ask c.args.peer at c.loop-turn.invariant.ask c.answer-messages.ensures.ask;
+      ask = ask_stays c.answer.new.ask c.loop-turn.ask c.args.peer at c.loop-turn.invariant.ask c.answer.ensures.ask;
       written = c.in_ok-send.ensures.sent;
       unflushed = Keeps-more _ _ _ c.loop-turn.invariant.unflushed c.send.ensures.unflushed;
     }

@@ -12,7 +12,7 @@ loop-low-preserved-then-here-number-2 c =
       order = omega (arith, inside);
       inside = c.loop-low.invariant.inside;
       before = all_before c.args.connections.now (c.loop-low.low + (c.loop-low.high - c.loop-low.low) / 2) c.index-connections-middle.result c.args.number c.requires
-          (omega (arith, inside, c.loop-low.invariant.inside)) c.if-here-number-2.true;
+          (omega (arith, inside, c.loop-low.invariant.inside)) (rw c.number-here.ensures at c.if-here-number-2.true);
       behind = c.loop-low.invariant.behind;
     }
 
@@ -24,7 +24,7 @@ loop-low-preserved c =
       inside = omega (arith, inside, c.loop-low.invariant.inside);
       before = c.loop-low.invariant.before;
       behind = all_behind c.args.connections.now (c.loop-low.low + (c.loop-low.high - c.loop-low.low) / 2) c.index-connections-middle.result c.args.number c.requires
-          (omega (arith, inside, c.loop-low.invariant.inside)) (omega (arith, c.if-here-number.false, c.if-here-number-2.false));
+          (omega (arith, inside, c.loop-low.invariant.inside)) (omega (arith, c.if-here-number.false, c.if-here-number-2.false, c.number-here.ensures));
     }
 
 pub returns-clause-none : goal.returns-clause-none

@@ -8,24 +8,24 @@ pub returns-in_err-heard-clause-err : goal.returns-in_err-heard-clause-err
 returns-in_err-heard-clause-err g c = breaks_none g.H.RequestHandler.serves c.from_residual.result g.H.RequestHandler.skips c.args.self.now _
 
 pub returns-in-Late-clause-ok : goal.returns-in-Late-clause-ok
-returns-in-Late-clause-ok g c = moved_late c.args.connection.now c.hear-heard.new.self c.args.at c.args.piece.now c.in-Late._since (rw c.in-Late.is at c.in_ok-heard.ensures.ok)
+returns-in-Late-clause-ok g c = moved_late c.args.connection.now c.hear.new.self c.args.at c.args.piece.now c.in-Late._since (rw c.in-Late.is at c.in_ok-heard.ensures.ok)
 
 pub returns-in-Late-clause-ran : goal.returns-in-Late-clause-ran
 returns-in-Late-clause-ran g c =
     Hands-same g.H.RequestHandler.serves c.args.self.now c.args.self.now _ _
-    (heard_late c.args.connection.now c.hear-heard.new.self c.args.at c.args.piece.now c.in-Late._since (rw c.in-Late.is at c.in_ok-heard.ensures.ok)) (Hands-none g.H.RequestHandler.serves c.args.self.now)
+    (heard_late c.args.connection.now c.hear.new.self c.args.at c.args.piece.now c.in-Late._since (rw c.in-Late.is at c.in_ok-heard.ensures.ok)) (Hands-none g.H.RequestHandler.serves c.args.self.now)
 
 pub returns-in_err-answered-clause-err : goal.returns-in_err-answered-clause-err
 returns-in_err-answered-clause-err g c =
     on_err c.from_residual-in_err-answered.result
-    (Breaks-same g.H.RequestHandler.serves g.H.RequestHandler.skips c.args.self.now c.settle_unread-answered.new.self _ _
-    (heard_in_time c.args.connection.now c.hear-heard.new.self c.args.at c.args.piece.now (rw c.in-InTime.is at c.in_ok-heard.ensures.ok)) c.in_err-answered.ensures.err)
+    (Breaks-same g.H.RequestHandler.serves g.H.RequestHandler.skips c.args.self.now c.settle_unread.new.self _ _
+    (heard_in_time c.args.connection.now c.hear.new.self c.args.at c.args.piece.now (rw c.in-InTime.is at c.in_ok-heard.ensures.ok)) c.in_err-answered.ensures.err)
 
 pub returns-in-InTime-clause-ok : goal.returns-in-InTime-clause-ok
 returns-in-InTime-clause-ok g c =
-    moved_in_time c.args.connection.now c.hear-heard.new.self c.settled.new.self c.args.at c.args.piece.now (rw c.in-InTime.is at c.in_ok-heard.ensures.ok) c.settled.ensures
+    moved_in_time c.args.connection.now c.hear.new.self c.settled.new.self c.args.at c.args.piece.now (rw c.in-InTime.is at c.in_ok-heard.ensures.ok) c.settled.ensures
 
 pub returns-in-InTime-clause-ran : goal.returns-in-InTime-clause-ran
 returns-in-InTime-clause-ran g c =
-    Hands-same g.H.RequestHandler.serves c.args.self.now c.settle_unread-answered.new.self _ _
-    (heard_in_time c.args.connection.now c.hear-heard.new.self c.args.at c.args.piece.now (rw c.in-InTime.is at c.in_ok-heard.ensures.ok)) c.in_ok-answered.ensures.ok
+    Hands-same g.H.RequestHandler.serves c.args.self.now c.settle_unread.new.self _ _
+    (heard_in_time c.args.connection.now c.hear.new.self c.args.at c.args.piece.now (rw c.in-InTime.is at c.in_ok-heard.ensures.ok)) c.in_ok-answered.ensures.ok
