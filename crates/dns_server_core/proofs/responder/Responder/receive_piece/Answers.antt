@@ -15,17 +15,17 @@ returns-in-Late-clause-ran g c =
     Hands-same g.H.RequestHandler.serves c.args.self.now c.args.self.now _ _
     (heard_late c.args.connection.now c.hear.new.self c.args.at c.args.piece.now c.in-Late._since (rw c.in-Late.is at c.in_ok-heard.ensures.ok)) (Hands-none g.H.RequestHandler.serves c.args.self.now)
 
-pub returns-in_err-answered-clause-err : goal.returns-in_err-answered-clause-err
-returns-in_err-answered-clause-err g c =
-    on_err c.from_residual-in_err-answered.result
+pub returns-in_err-answered-in-InTime-clause-err : goal.returns-in_err-answered-in-InTime-clause-err
+returns-in_err-answered-in-InTime-clause-err g c =
+    on_err c.from_residual-in_err-answered-in-InTime.result
     (Breaks-same g.H.RequestHandler.serves g.H.RequestHandler.skips c.args.self.now c.settle_unread.new.self _ _
-    (heard_in_time c.args.connection.now c.hear.new.self c.args.at c.args.piece.now (rw c.in-InTime.is at c.in_ok-heard.ensures.ok)) c.in_err-answered.ensures.err)
+    (heard_in_time c.args.connection.now c.hear.new.self c.args.at c.args.piece.now (rw c.in-InTime.is at c.in_ok-heard.ensures.ok)) c.in_err-answered-in-InTime.ensures.err)
 
-pub returns-in-InTime-clause-ok : goal.returns-in-InTime-clause-ok
-returns-in-InTime-clause-ok g c =
+pub returns-in_ok-answered-in-InTime-clause-ok : goal.returns-in_ok-answered-in-InTime-clause-ok
+returns-in_ok-answered-in-InTime-clause-ok g c =
     moved_in_time c.args.connection.now c.hear.new.self c.settled.new.self c.args.at c.args.piece.now (rw c.in-InTime.is at c.in_ok-heard.ensures.ok) c.settled.ensures
 
-pub returns-in-InTime-clause-ran : goal.returns-in-InTime-clause-ran
-returns-in-InTime-clause-ran g c =
+pub returns-in_ok-answered-in-InTime-clause-ran : goal.returns-in_ok-answered-in-InTime-clause-ran
+returns-in_ok-answered-in-InTime-clause-ran g c =
     Hands-same g.H.RequestHandler.serves c.args.self.now c.settle_unread.new.self _ _
-    (heard_in_time c.args.connection.now c.hear.new.self c.args.at c.args.piece.now (rw c.in-InTime.is at c.in_ok-heard.ensures.ok)) c.in_ok-answered.ensures.ok
+    (heard_in_time c.args.connection.now c.hear.new.self c.args.at c.args.piece.now (rw c.in-InTime.is at c.in_ok-heard.ensures.ok)) c.in_ok-answered-in-InTime.ensures.ok
