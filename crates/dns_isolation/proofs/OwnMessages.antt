@@ -2,7 +2,7 @@
 use Rattle.std.proofs.Common.{◌≡◌, ℕ, List, [], ◌∷◌, ◌++◌, map, refl, sym, ap, ◌∙◌, cond, Bool, true, false, not, Option, Some, None, append-nil}
 use Rattle.std.proofs.lemmas.List.Elements.{filter-append}
 use Rattle.std.specs.List.{filter, filter_map, flat_map, cons_option}
-use Rattle.dns_server_core.specs.declared.connection.Connection.{Connection}
+use Rattle.dns_server_core.specs.Connections.{Connection}
 use Rattle.dns_server_core.specs.declared.event.Event.{Event}
 use Rattle.dns_server_core.specs.declared.event.Event.TheVariants.{Accepted, Bytes, Ended, Datagram, Tick, Stop}
 use Rattle.dns_server_core.specs.declared.event.Receiver.{Receiver}

@@ -7,9 +7,9 @@ use Rattle.dns_edges.specs.Edges.{SourceOf, SinkOf, ClockOf}
 use Rattle.dns_book.specs.declared.ask.Ask.{Ask}
 use Rattle.dns_book.specs.declared.ask.Settled.{Settled}
 use Rattle.dns_frames.specs.Frames.{frames}
-use Rattle.dns_server_core.specs.declared.connection.Connection.{Connection}
-use Rattle.dns_server_core.specs.Connections.{is_within, left_by}
-use Rattle.dns_server_core.specs.Steps.{base_by, fed_by}
+use Rattle.dns_server_core.specs.declared.session.Heard.TheVariants.{InTime, Late}
+use Rattle.dns_server_core.specs.Connections.{Connection, is_within, left_by}
+use Rattle.dns_server_core.specs.Steps.{HearsPiece, fed_by, with_piece}
 use Rattle.dns_requests.specs.declared.serve_fault.ServeFault.{ServeFault}
 use Rattle.dns_requests.specs.declared.serve_fault.ServeFault.TheVariants.{Read, Write, Turns, TimedOut, OutOfMemory}
 use Rattle.dns_server_core.specs.FrameRuns.{Adds, Halts, Run}
@@ -17,7 +17,7 @@ use Rattle.dns_requests.specs.Runs.{Answers, AnswersPartly, BreaksOff}
 use Rattle.dns_requests.specs.Arrivals.{Hears, IsPiece, Receives, ReceivesNot, ask_at, heard, opened, room}
 use Rattle.dns_requests.specs.Ends.{CountsWriting, Ends, IsAtEnd, Parts, Terms}
 use Rattle.dns_server_core.proofs.LongerRuns.{Run-append}
-use Rattle.dns_requests.proofs.MoreArrivals.{Hears-more, Hears-none, asks_of-none, asks_of-push, base_none, left_by-push, unread_none, one_longer}
+use Rattle.dns_requests.proofs.MoreArrivals.{Hears-more, Hears-none, asks_of-none, asks_of-push, left_by-push, left_by_none, one_longer}
 
 -- a source that gave nothing is at its end
 at_end : (a b : Option (List ℕ)) (piece : List ℕ) → length piece ≡ 0 → Takes a b piece → EndsAt a b 0 → IsAtEnd b
@@ -30,8 +30,8 @@ none_of : (piece : List ℕ) → length piece ≡ 0 → piece ≡ []
 none_of [] size = refl
 none_of (b ∷ piece) size = absurd (omega (arith, size))
 
-is_some_piece : (piece : List ℕ) (count : ℕ) → length piece ≡ count → count ≤ 4096 → count ≢ 0 → IsPiece piece
-is_some_piece piece count size most some = (omega (arith, size, some), omega (arith, size, most))
+is_some_piece : (piece : List ℕ) → length piece ≤ 4096 → length piece ≢ 0 → IsPiece piece
+is_some_piece piece most some = (omega (arith, some), most)
 
 rose_on : (a b c : ℕ) → b ≡ a → Rose b c → Rose a c
 rose_on a b c e r = subst (λ (n : ℕ). Rose n c) e r
@@ -46,10 +46,6 @@ Keeps-taken (Some x) (Some y) k = sym k
 late_by : (limit base at : ℕ) → is_within limit base at ≡ false → (0 < limit) × (base + limit < at)
 late_by limit base at h = grind (arith, h)
 
-pub base_when : (base at next : ℕ) (ms : List (List ℕ)) (n : ℕ) → n ≡ length ms → (n ≡ 0 → next ≡ base) → (0 < n → next ≡ at) → next ≡ base_by base at ms
-base_when base at next [] n e none some = none e
-base_when base at next (m ∷ ms) n e none some = some (omega (arith, e))
-
 module _ {H S W C : Type 0} (serves : H → Ask → Settled → H → Type 0) (skips : H → H → Type 0) (source : SourceOf S) (sink : SinkOf W) (clock : ClockOf C)
     (terms : Terms) (before : Parts H S W C) where
   -- the connection as it stands then
@@ -57,87 +53,86 @@ module _ {H S W C : Type 0} (serves : H → Ask → Settled → H → Type 0) (s
   standing h = left_by (opened terms.peer terms.limit h.began) h.arrivals
 
   -- between two reads: all messages so far were settled, and their replies written
-  pub record Going (now : Parts H S W C) (turn last : ℕ) (bytes : List ℕ) (n : ℕ) : Type 0 where
+  pub record Going (now : Parts H S W C) (turn : ℕ) (session : Connection) (n : ℕ) : Type 0 where
     pub hears : Hears source clock terms.peer terms.limit before.source before.clock now.source now.clock
     pub turns : length hears.arrivals ≡ turn
     pub answers : Answers serves before.handler (heard hears) now.handler (sink.told before.sink).taken (sink.told now.sink).taken
-    pub base : last ≡ (standing hears).base
-    pub unread : bytes ≡ (standing hears).rest
+    pub stands : session ≡ standing hears
     pub count : n ≡ length (heard hears)
-    pub fits : 2 * n + length bytes ≤ 4096 * turn
+    pub fits : 2 * n + length session.rest ≤ 4096 * turn
     pub calm : (sink.told now.sink).faults ≡ (sink.told before.sink).faults
 
-  pub Going-begun : (c : C) (began : ℕ) → clock.ticks before.clock began c → Going (record before { clock = c }) 0 began [] 0
+  pub Going-begun : (c : C) (began : ℕ) → clock.ticks before.clock began c → Going (record before { clock = c }) 0 (opened terms.peer terms.limit began) 0
   Going-begun c began t = record {
     hears = Hears-none source clock terms.peer terms.limit before.source before.clock c began t;
     turns = refl;
     answers = record { bytes = []; run = subst (λ (l : List Ask). Run serves before.handler l [] before.handler) (sym (asks_of-none (opened terms.peer terms.limit began))) (refl, refl); sent = Grows-nothing _ };
-    base = sym (base_none terms.peer terms.limit began);
-    unread = sym (unread_none terms.peer terms.limit began);
+    stands = sym (left_by_none terms.peer terms.limit began);
     count = sym (ap length (asks_of-none (opened terms.peer terms.limit began)));
     fits = omega arith;
     calm = refl;
   }
 
   -- a read in time, whose messages are not settled yet
-  pub record Heard (now : Parts H S W C) (turn last : ℕ) (bytes : List ℕ) (n : ℕ) (s : S) (c : C) (at : ℕ) (new : List ℕ) : Type 0 where
-    pub going : Going now turn last bytes n
+  pub record Heard (now : Parts H S W C) (turn : ℕ) (session : Connection) (n : ℕ) (s : S) (c : C) (at : ℕ) (new : Connection) : Type 0 where
+    pub going : Going now turn session n
     pub hears : Hears source clock terms.peer terms.limit before.source before.clock s c
     pub turns : length hears.arrivals ≡ turn + 1
-    pub asks : heard hears ≡ heard going.hears ++ map (ask_at terms.peer at) (frames new).messages
-    pub stands : standing hears ≡ fed_by (standing going.hears) at (frames new)
-    pub fits : length new ≤ length bytes + 4096
+    pub asks : heard hears ≡ heard going.hears ++ map (ask_at terms.peer at) (frames new.rest).messages
+    pub stands : standing hears ≡ fed_by new at (frames new.rest)
+    pub fits : length new.rest ≤ length session.rest + 4096
 
-  pub Heard-more : (now : Parts H S W C) (turns base : ℕ) (unread : List ℕ) (count : ℕ) (s : S) (c : C) (at : ℕ) (new : List ℕ) (size : ℕ) → Going now turns base unread count
-      → Receives source now.source s unread new size → size ≢ 0 → clock.ticks now.clock at c → is_within terms.limit base at ≡ true → Heard now turns base unread count s c at new
-  Heard-more now turns base unread count s c at new size g r some t w =
+  pub Heard-more : (now : Parts H S W C) (turn : ℕ) (session : Connection) (n : ℕ) (s : S) (c : C) (at : ℕ) (piece : List ℕ) (new : Connection) → Going now turn session n
+      → Receives source now.source s piece → length piece ≢ 0 → clock.ticks now.clock at c → HearsPiece session at piece InTime new → Heard now turn session n s c at new
+  Heard-more now turn session n s c at piece new g r some t w =
       let conn : Connection = opened terms.peer terms.limit g.hears.began in
-      let new_is : new ≡ (left_by conn g.hears.arrivals).rest ++ r.piece = r.is ∙ ap (λ (l : List ℕ). l ++ r.piece) g.unread in
-      let within : is_within conn.limit (left_by conn g.hears.arrivals).base at ≡ true = subst (λ (b : ℕ). is_within terms.limit b at ≡ true) g.base w in
+      let ps = g.hears.arrivals in
+      let within : is_within conn.limit (left_by conn ps).base at ≡ true = subst (λ (k : Connection). is_within k.limit k.base at ≡ true) g.stands w.0 in
+      let rest : new.rest ≡ (left_by conn ps).rest ++ piece = ap (λ (k : Connection). k.rest) w.1 ∙ ap (λ (k : Connection). k.rest ++ piece) g.stands in
+      let stood : new ≡ with_piece (left_by conn ps) piece = w.1 ∙ ap (λ (k : Connection). with_piece k piece) g.stands in
       record {
         going = g;
-        hears = Hears-more source clock terms.peer terms.limit before.source now.source s before.clock now.clock c at r.piece g.hears (is_some_piece r.piece size r.size r.most some) within r.made r.taken r.calm t;
-        turns = one_longer g.hears.arrivals (record { at = at; piece = r.piece }) ∙ omega (arith, g.turns);
-        asks = asks_of-push conn g.hears.arrivals (record { at = at; piece = r.piece }) g.hears.in_time within ∙ rw new_is refl;
-        stands = left_by-push conn g.hears.arrivals (record { at = at; piece = r.piece }) ∙ rw new_is refl;
-        fits = omega (arith, ap length r.is, length-append unread r.piece, r.size, r.most);
+        hears = Hears-more source clock terms.peer terms.limit before.source now.source s before.clock now.clock c at piece g.hears (is_some_piece piece r.most some) within r.made r.taken r.calm t;
+        turns = one_longer ps (record { at = at; piece = piece }) ∙ omega (arith, g.turns);
+        asks = asks_of-push conn ps (record { at = at; piece = piece }) g.hears.in_time within ∙ rw rest refl;
+        stands = left_by-push conn ps (record { at = at; piece = piece }) ∙ ap (λ (k : Connection). fed_by k at (frames k.rest)) (sym stood);
+        fits = omega (arith, ap length (ap (λ (k : Connection). k.rest) w.1), length-append session.rest piece, r.most);
       }
 
   -- all its messages were settled, and their replies written
-  pub Heard-answered : (now : Parts H S W C) (turns base : ℕ) (unread : List ℕ) (count : ℕ) (s : S) (c : C) (at : ℕ) (new : List ℕ) (handler : H) (out : W) (replies rest : List ℕ) (messages next : ℕ)
-      → Heard now turns base unread count s c at new → Adds serves now.handler (map (ask_at terms.peer at) (frames new).messages) handler [] replies → Grows (sink.told now.sink).taken (sink.told out).taken replies
+  pub Heard-answered : (now : Parts H S W C) (turn : ℕ) (session : Connection) (n : ℕ) (s : S) (c : C) (at : ℕ) (new fed : Connection) (handler : H) (out : W) (replies : List ℕ) (messages : ℕ)
+      → Heard now turn session n s c at new → Adds serves now.handler (map (ask_at terms.peer at) (frames new.rest).messages) handler [] replies → Grows (sink.told now.sink).taken (sink.told out).taken replies
       → (sink.told out).faults ≡ (sink.told now.sink).faults
-      → messages ≡ length (frames new).messages → rest ≡ (frames new).rest → next ≡ base_by base at (frames new).messages → 2 * messages + length rest ≤ length new
-      → Going (record { handler = handler; source = s; sink = out; clock = c }) (turns + 1) next rest (count + messages)
-  Heard-answered now turns base unread count s c at new handler out replies rest messages next h a w quiet m r b f = record {
+      → messages ≡ length (frames new.rest).messages → fed ≡ fed_by new at (frames new.rest) → 2 * messages + length fed.rest ≤ length new.rest
+      → Going (record { handler = handler; source = s; sink = out; clock = c }) (turn + 1) fed (n + messages)
+  Heard-answered now turn session n s c at new fed handler out replies messages h a w quiet m is f = record {
     hears = h.hears;
     turns = h.turns;
     answers = record {
       bytes = h.going.answers.bytes ++ a.bytes;
       run = subst (λ (l : List Ask). Run serves before.handler l (h.going.answers.bytes ++ a.bytes) handler) (sym h.asks)
-          (Run-append serves before.handler now.handler handler (heard h.going.hears) (map (ask_at terms.peer at) (frames new).messages) h.going.answers.bytes a.bytes h.going.answers.run a.run);
+          (Run-append serves before.handler now.handler handler (heard h.going.hears) (map (ask_at terms.peer at) (frames new.rest).messages) h.going.answers.bytes a.bytes h.going.answers.run a.run);
       sent = Grows-more _ _ _ _ _ h.going.answers.sent (subst (Grows (sink.told now.sink).taken (sink.told out).taken) a.added w);
     };
-    base = b ∙ ap (λ (n : ℕ). base_by n at (frames new).messages) h.going.base ∙ sym (ap (λ (k : Connection). k.base) h.stands);
-    unread = r ∙ sym (ap (λ (k : Connection). k.rest) h.stands);
-    count = omega (arith, h.going.count, m, ap length h.asks, length-append (heard h.going.hears) (map (ask_at terms.peer at) (frames new).messages), length-map (frames new).messages (ask_at terms.peer at));
+    stands = is ∙ sym h.stands;
+    count = omega (arith, h.going.count, m, ap length h.asks, length-append (heard h.going.hears) (map (ask_at terms.peer at) (frames new.rest).messages), length-map (frames new.rest).messages (ask_at terms.peer at));
     fits = omega (arith, h.going.fits, h.fits, f);
     calm = quiet ∙ h.going.calm;
   }
 
   -- the end of the source
-  pub ends_served : (now : Parts H S W C) (turns base : ℕ) (unread new : List ℕ) (count size : ℕ) (s : S) → Going now turns base unread count → turns < terms.reads
-      → Receives source now.source s unread new size → size ≡ 0
-      → Ends serves skips source sink clock terms before (record now { source = s }) (Ok count)
-  ends_served now turns base unread new count size s g l r none =
-      let no_piece : r.piece ≡ [] = none_of r.piece (r.size ∙ none) in
+  pub ends_served : (now : Parts H S W C) (turn : ℕ) (session : Connection) (n : ℕ) (s : S) (piece : List ℕ) → Going now turn session n → turn < terms.reads
+      → Receives source now.source s piece → length piece ≡ 0
+      → Ends serves skips source sink clock terms before (record now { source = s }) (Ok n)
+  ends_served now turn session n s piece g l r none =
+      let no_piece : piece ≡ [] = none_of piece none in
       record {
         source_heard = now.source;
         hears = g.hears;
         within = omega (arith, g.turns, l);
         ended = subst (λ (p : List ℕ). source.reads now.source room (Ok p) s) no_piece r.made;
         kept = Keeps-taken _ _ (subst (Takes (source.told now.source).left (source.told s).left) no_piece r.taken);
-        end = at_end (source.told now.source).left (source.told s).left r.piece (r.size ∙ none) r.taken (subst (EndsAt (source.told now.source).left (source.told s).left) none r.end);
+        end = at_end (source.told now.source).left (source.told s).left piece none r.taken (subst (EndsAt (source.told now.source).left (source.told s).left) none r.end);
         answers = g.answers;
         count = g.count;
         source_calm = r.calm ∙ g.hears.calm;
@@ -157,10 +152,10 @@ module _ {H S W C : Type 0} (serves : H → Ask → Settled → H → Type 0) (s
   }
 
   -- a read that gave nothing
-  pub ends_reading : (now : Parts H S W C) (turns base : ℕ) (unread : List ℕ) (count : ℕ) (s : S) (fault : ServeFault) → Going now turns base unread count → turns < terms.reads
+  pub ends_reading : (now : Parts H S W C) (turn : ℕ) (session : Connection) (n : ℕ) (s : S) (fault : ServeFault) → Going now turn session n → turn < terms.reads
       → Keeps (source.told now.source).left (source.told s).left → ReceivesNot source now.source s fault
       → Ends serves skips source sink clock terms before (record now { source = s }) (Err fault)
-  ends_reading now turns base unread count s Read g l k r = record {
+  ends_reading now turn session n s Read g l k r = record {
     source_heard = now.source;
     hears = g.hears;
     within = omega (arith, g.turns, l);
@@ -170,7 +165,7 @@ module _ {H S W C : Type 0} (serves : H → Ask → Settled → H → Type 0) (s
     rose = rose_on _ _ _ g.hears.calm r.1;
     sink_calm = g.calm;
   }
-  ends_reading now turns base unread count s OutOfMemory g l k r = record {
+  ends_reading now turn session n s OutOfMemory g l k r = record {
     source_heard = now.source;
     hears = g.hears;
     within = omega (arith, g.turns, l);
@@ -180,38 +175,42 @@ module _ {H S W C : Type 0} (serves : H → Ask → Settled → H → Type 0) (s
     source_calm = r.1 ∙ g.hears.calm;
     sink_calm = g.calm;
   }
-  ends_reading now turns base unread count s Write g l k r = absurd r
-  ends_reading now turns base unread count s (Turns n) g l k r = absurd r
-  ends_reading now turns base unread count s (TimedOut since limit at) g l k r = absurd r
+  ends_reading now turn session n s Write g l k r = absurd r
+  ends_reading now turn session n s (Turns reads) g l k r = absurd r
+  ends_reading now turn session n s (TimedOut since limit at) g l k r = absurd r
 
   -- a read that came late
-  pub ends_late : (now : Parts H S W C) (turns base : ℕ) (unread new : List ℕ) (count size : ℕ) (s : S) (c : C) (at : ℕ) → Going now turns base unread count → turns < terms.reads
-      → Receives source now.source s unread new size → size ≢ 0 → clock.ticks now.clock at c → is_within terms.limit base at ≡ false
-      → Ends serves skips source sink clock terms before (record now { source = s; clock = c }) (Err (TimedOut base terms.limit at))
-  ends_late now turns base unread new count size s c at g l r some t late = record {
-    source_heard = now.source;
-    clock_ticked = now.clock;
-    hears = g.hears;
-    within = omega (arith, g.turns, l);
-    piece = r.piece;
-    is_piece = is_some_piece r.piece size r.size r.most some;
-    made = r.made;
-    dropped = r.taken;
-    reading = t;
-    since_is = g.base;
-    limit_is = refl;
-    limited = (late_by terms.limit base at late).0;
-    late = (late_by terms.limit base at late).1;
-    answers = g.answers;
-    source_calm = r.calm ∙ g.hears.calm;
-    sink_calm = g.calm;
-  }
+  pub ends_late : (now : Parts H S W C) (turn : ℕ) (session new : Connection) (n : ℕ) (s : S) (c : C) (at since : ℕ) (piece : List ℕ) → Going now turn session n → turn < terms.reads
+      → Receives source now.source s piece → length piece ≢ 0 → clock.ticks now.clock at c → HearsPiece session at piece (Late since) new
+      → Ends serves skips source sink clock terms before (record now { source = s; clock = c }) (Err (TimedOut since terms.limit at))
+  ends_late now turn session new n s c at since piece g l r some t late =
+      let by : is_within terms.limit (standing g.hears).base at ≡ false = subst (λ (k : Connection). is_within k.limit k.base at ≡ false) g.stands late.0 in
+      let base : since ≡ (standing g.hears).base = late.1 ∙ ap (λ (k : Connection). k.base) g.stands in
+      let past = late_by terms.limit (standing g.hears).base at by in
+      record {
+        source_heard = now.source;
+        clock_ticked = now.clock;
+        hears = g.hears;
+        within = omega (arith, g.turns, l);
+        piece = piece;
+        is_piece = is_some_piece piece r.most some;
+        made = r.made;
+        dropped = r.taken;
+        reading = t;
+        since_is = base;
+        limit_is = refl;
+        limited = past.0;
+        late = subst (λ (b : ℕ). b + terms.limit < at) (sym base) past.1;
+        answers = g.answers;
+        source_calm = r.calm ∙ g.hears.calm;
+        sink_calm = g.calm;
+      }
 
   -- memory ran out among the messages of a read
-  pub ends_answering : (now : Parts H S W C) (turns base : ℕ) (unread : List ℕ) (count : ℕ) (s : S) (c : C) (at : ℕ) (new : List ℕ) (handler : H)
-      → Heard now turns base unread count s c at new → turns < terms.reads → Halts serves skips now.handler (map (ask_at terms.peer at) (frames new).messages) handler
+  pub ends_answering : (now : Parts H S W C) (turn : ℕ) (session : Connection) (n : ℕ) (s : S) (c : C) (at : ℕ) (new : Connection) (handler : H)
+      → Heard now turn session n s c at new → turn < terms.reads → Halts serves skips now.handler (map (ask_at terms.peer at) (frames new.rest).messages) handler
       → Ends serves skips source sink clock terms before (record { handler = handler; source = s; sink = now.sink; clock = c }) (Err OutOfMemory)
-  ends_answering now turns base unread count s c at new handler h l a = record {
+  ends_answering now turn session n s c at new handler h l a = record {
     source_heard = s;
     hears = h.hears;
     within = omega (arith, h.turns, l);
@@ -235,32 +234,32 @@ module _ {H S W C : Type 0} (serves : H → Ask → Settled → H → Type 0) (s
   }
 
   -- a write that failed
-  partly : (now : Parts H S W C) (turns base : ℕ) (unread : List ℕ) (count : ℕ) (s : S) (c : C) (at : ℕ) (new : List ℕ) (handler : H) (out : W) (replies : List ℕ)
-      → (h : Heard now turns base unread count s c at new) → Adds serves now.handler (map (ask_at terms.peer at) (frames new).messages) handler [] replies
+  partly : (now : Parts H S W C) (turn : ℕ) (session : Connection) (n : ℕ) (s : S) (c : C) (at : ℕ) (new : Connection) (handler : H) (out : W) (replies : List ℕ)
+      → (h : Heard now turn session n s c at new) → Adds serves now.handler (map (ask_at terms.peer at) (frames new.rest).messages) handler [] replies
       → (rest : List ℕ) → GrowsByPrefix (sink.told now.sink).taken (sink.told out).taken replies rest
       → AnswersPartly serves before.handler (heard h.hears) handler (sink.told before.sink).taken (sink.told out).taken
-  partly now turns base unread count s c at new handler out replies h a rest w = record {
+  partly now turn session n s c at new handler out replies h a rest w = record {
     bytes = h.going.answers.bytes ++ replies;
     run = subst (λ (l : List Ask). Run serves before.handler l (h.going.answers.bytes ++ replies) handler) (sym h.asks)
-        (Run-append serves before.handler now.handler handler (heard h.going.hears) (map (ask_at terms.peer at) (frames new).messages) h.going.answers.bytes replies h.going.answers.run
-        (subst (λ (l : List ℕ). Run serves now.handler (map (ask_at terms.peer at) (frames new).messages) l handler) (sym a.added) a.run));
+        (Run-append serves before.handler now.handler handler (heard h.going.hears) (map (ask_at terms.peer at) (frames new.rest).messages) h.going.answers.bytes replies h.going.answers.run
+        (subst (λ (l : List ℕ). Run serves now.handler (map (ask_at terms.peer at) (frames new.rest).messages) l handler) (sym a.added) a.run));
     unsent = rest;
     sent = Grows-GrowsByPrefix _ _ _ _ _ _ h.going.answers.sent w;
   }
 
-  pub ends_writing : (now : Parts H S W C) (turns base : ℕ) (unread : List ℕ) (count : ℕ) (s : S) (c : C) (at : ℕ) (new : List ℕ) (handler : H) (out : W) (replies : List ℕ) (fault : ServeFault)
-      → Heard now turns base unread count s c at new → turns < terms.reads → Adds serves now.handler (map (ask_at terms.peer at) (frames new).messages) handler [] replies
+  pub ends_writing : (now : Parts H S W C) (turn : ℕ) (session : Connection) (n : ℕ) (s : S) (c : C) (at : ℕ) (new : Connection) (handler : H) (out : W) (replies : List ℕ) (fault : ServeFault)
+      → Heard now turn session n s c at new → turn < terms.reads → Adds serves now.handler (map (ask_at terms.peer at) (frames new.rest).messages) handler [] replies
       → ((rest : List ℕ) × GrowsByPrefix (sink.told now.sink).taken (sink.told out).taken replies rest)
       → CountsWriting (sink.told now.sink).faults (sink.told out).faults (Err fault)
       → Ends serves skips source sink clock terms before (record { handler = handler; source = s; sink = out; clock = c }) (Err fault)
-  ends_writing now turns base unread count s c at new handler out replies Write h l a w r = record {
+  ends_writing now turn session n s c at new handler out replies Write h l a w r = record {
     hears = h.hears;
     within = omega (arith, h.turns, l);
-    answers = partly now turns base unread count s c at new handler out replies h a w.0 w.1;
+    answers = partly now turn session n s c at new handler out replies h a w.0 w.1;
     rose = rose_on _ _ _ h.going.calm r;
     source_calm = h.hears.calm;
   }
-  ends_writing now turns base unread count s c at new handler out replies OutOfMemory h l a w r = record {
+  ends_writing now turn session n s c at new handler out replies OutOfMemory h l a w r = record {
     source_heard = s;
     hears = h.hears;
     within = omega (arith, h.turns, l);
@@ -271,17 +270,17 @@ module _ {H S W C : Type 0} (serves : H → Ask → Settled → H → Type 0) (s
       others = [];
       parts = sym (append-nil (heard h.hears));
       last = handler;
-      answered = partly now turns base unread count s c at new handler out replies h a w.0 w.1;
+      answered = partly now turn session n s c at new handler out replies h a w.0 w.1;
       end = inl refl;
     };
     source_calm = h.hears.calm;
     sink_calm = r ∙ h.going.calm;
   }
-  ends_writing now turns base unread count s c at new handler out replies Read h l a w r = absurd r
-  ends_writing now turns base unread count s c at new handler out replies (Turns n) h l a w r = absurd r
-  ends_writing now turns base unread count s c at new handler out replies (TimedOut since limit at2) h l a w r = absurd r
+  ends_writing now turn session n s c at new handler out replies Read h l a w r = absurd r
+  ends_writing now turn session n s c at new handler out replies (Turns reads) h l a w r = absurd r
+  ends_writing now turn session n s c at new handler out replies (TimedOut since limit at2) h l a w r = absurd r
 
   -- as many reads as there may be
-  pub ends_cut_off : (now : Parts H S W C) (turns base : ℕ) (unread : List ℕ) (count : ℕ) → Going now turns base unread count → turns ≡ terms.reads
+  pub ends_cut_off : (now : Parts H S W C) (turn : ℕ) (session : Connection) (n : ℕ) → Going now turn session n → turn ≡ terms.reads
       → Ends serves skips source sink clock terms before now (Err (Turns terms.reads))
-  ends_cut_off now turns base unread count g all = record { hears = g.hears; all = g.turns ∙ all; answers = g.answers; count = refl; source_calm = g.hears.calm; sink_calm = g.calm }
+  ends_cut_off now turn session n g all = record { hears = g.hears; all = g.turns ∙ all; answers = g.answers; count = refl; source_calm = g.hears.calm; sink_calm = g.calm }

@@ -13,8 +13,7 @@ use Rattle.dns_io.proofs.ToldContents.{Told-same, Takes-more}
 use Rattle.dns_frames.specs.Frames.{Cut, frames, frames_by}
 use Rattle.dns_frames.proofs.Cutting.{frames-more, frames-nil}
 use Rattle.std.proofs.Math.Seq.{take-length}
-use Rattle.dns_server_core.specs.declared.connection.Connection.{Connection}
-use Rattle.dns_server_core.specs.Connections.{Arrival, Piece, base, completed, in_time, is_within, left_by, moment_at, total}
+use Rattle.dns_server_core.specs.Connections.{Arrival, Connection, Piece, base, completed, in_time, is_within, left_by, moment_at, total}
 use Rattle.dns_server_core.specs.Steps.{fed_by}
 use Rattle.dns_server_core.proofs.Pieces.{base-last, completed-push, frames-last, heard_by, in_time-last, in_time-push, moment_at-last, moment_at-push, total-push, whole-push}
 use Rattle.dns_requests.specs.Arrivals.{Hears, IsPiece, Listens, ask_at, asks_of, asks_through, bytes_of, opened, room}
@@ -42,13 +41,9 @@ unfolding asks_through
 asks_next c ps i = refl
 
 -- at the beginning
-pub base_none : (peer : Peer) (limit began : ℕ) → (left_by (opened peer limit began) []).base ≡ began
-unfolding base
-base_none peer limit began = refl
-
-pub unread_none : (peer : Peer) (limit began : ℕ) → (left_by (opened peer limit began) []).rest ≡ []
-unfolding total frames frames_by
-unread_none peer limit began = refl
+pub left_by_none : (peer : Peer) (limit began : ℕ) → left_by (opened peer limit began) [] ≡ opened peer limit began
+unfolding base total frames frames_by
+left_by_none peer limit began = refl
 
 pub asks_of-none : (c : Connection) → asks_of c [] ≡ []
 unfolding asks_through

@@ -8,10 +8,9 @@ use Rattle.dns_io.specs.Told.{Takes, EndsAt, Rose}
 use Rattle.dns_edges.specs.Edges.{SourceOf, ClockOf}
 use Rattle.dns_book.specs.declared.ask.Ask.{Ask}
 use Rattle.dns_frames.specs.Frames.{frames}
-use Rattle.dns_server_core.specs.declared.connection.Connection.{Connection}
 use Rattle.dns_requests.specs.declared.serve_fault.ServeFault.{ServeFault}
 use Rattle.dns_requests.specs.declared.serve_fault.ServeFault.TheVariants.{Read, OutOfMemory}
-use Rattle.dns_server_core.specs.Connections.{Arrival, completed, in_time, moment_at}
+use Rattle.dns_server_core.specs.Connections.{Arrival, Connection, completed, in_time, moment_at}
 
 -- a connection at its first reading, from which its time runs: nothing of it is unread
 abbrev pub opened : Peer → ℕ → ℕ → Connection
@@ -68,16 +67,13 @@ abbrev pub heard : {S C : Type 0} → {source : SourceOf S} → {clock : ClockOf
     → Hears source clock peer limit s c source_now clock_now → List Ask
 heard {peer = peer} {limit = limit} h = asks_of (opened peer limit h.began) h.arrivals
 
--- one read that was made: these bytes were taken, none only at the end, and stand behind what was unread
-pub record Receives {S : Type 0} (source : SourceOf S) (before after : S) (unread new : List ℕ) (count : ℕ) : Type 0 where
-  pub piece : List ℕ
-  pub size : length piece ≡ count
-  pub most : count ≤ room
+-- one read that was made: these bytes were taken, none only at the end
+pub record Receives {S : Type 0} (source : SourceOf S) (before after : S) (piece : List ℕ) : Type 0 where
+  pub most : length piece ≤ room
   pub made : source.reads before room (Ok piece) after
   pub taken : Takes (source.told before).left (source.told after).left piece
-  pub end : EndsAt (source.told before).left (source.told after).left count
+  pub end : EndsAt (source.told before).left (source.told after).left (length piece)
   pub calm : (source.told after).faults ≡ (source.told before).faults
-  pub is : new ≡ unread ++ piece
 
 -- no bytes came: the read that was made failed, or found no memory, if one was made at all
 abbrev pub ReceivesNot : {S : Type 0} → SourceOf S → S → S → ServeFault → Type 0

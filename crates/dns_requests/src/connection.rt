@@ -1,11 +1,9 @@
 //! One connection, served until its source ends (RFC 7766 6.2, 8).
 
-ghost use Rattle.std.specs.Prelude.{◌≡◌, ◌≤◌, ◌<◌, ◌^◌, ◌+◌, ℕ, List, true, [], length, take, drop, IfOk, IfErr, OnOk, OnErr};
-ghost use Rattle.dns_io.specs.Told.{EndsAt, Grows, GrowsByPrefix, Keeps, Takes};
-ghost use Rattle.dns_edges.specs.Edges.{HasCause, given_by};
-ghost use Rattle.dns_server_core.specs.Connections.{is_safe, is_within};
+ghost use Rattle.std.specs.Prelude.{◌≡◌, ◌≤◌, ◌<◌, ◌^◌, ℕ, List, true, [], length, take, IfOk, IfErr, OnOk, OnErr};
+ghost use Rattle.dns_io.specs.Told.{Grows, GrowsByPrefix, Keeps};
+ghost use Rattle.dns_server_core.specs.Connections.{is_safe};
 ghost use Rattle.dns_requests.specs.Arrivals.{Receives, ReceivesNot};
-ghost use Rattle.dns_requests.specs.declared.serve_fault.ServeFault.TheVariants.{OutOfMemory as NoMemory};
 ghost use Rattle.dns_requests.specs.Ends.{Ends, CountsWriting};
 
 use crate::answering::answer;
@@ -13,7 +11,7 @@ use crate::serve_fault::ServeFault;
 use dns_book::{AccessControl, Ask};
 use dns_edges::{Clock, Sink, Source, write_all};
 use dns_io::{IoFault, Octets, Peer, Protocol};
-use dns_server_core::RequestHandler;
+use dns_server_core::{Heard, RequestHandler, Session};
 use std::alloc::Global;
 
 /// How many bytes a read has room for.
@@ -46,98 +44,52 @@ pub fn serve_connection<T: RequestHandler, R: Source, W: Sink, C: Clock>(
     ensures read_faults { (R.source.told source.old).faults ≤ (R.source.told source.new).faults }
     ensures write_faults { (W.sink.told sink.old).faults ≤ (W.sink.told sink.new).faults }
 {
-    let mut base = clock.now();
-    let mut unread = Vec::new(alloc);
+    let began = clock.now();
+    let mut session = Session::open(alloc, 0, peer, limit, began);
+    let mut room = [0; ROOM];
     let mut replies = Vec::new(alloc);
     let mut taken = 0;
     let mut ask = Ask {
         bytes: Octets::new(alloc),
         source: peer,
         protocol: Protocol::Tcp,
-        at: base,
+        at: began,
         client: 0,
     };
     for _turn in 0..reads {
-        let count = receive(source, &mut unread)?;
+        let count = receive(source, &mut room)?;
         if count == 0 {
             return Ok(taken);
         }
         let at = clock.now();
-        if !is_within(limit, base, at) {
-            return Err(ServeFault::TimedOut {
-                since: base,
-                limit,
-                at,
-            });
+        let (piece, _) = room.split_at(count);
+        let heard = session.hear(at, piece)?;
+        match heard {
+            Heard::Late { since } => return Err(ServeFault::TimedOut { since, limit, at }),
+            Heard::InTime => {}
         }
         ask.at = at;
-        let messages = answer(alloc, handler, access, &mut ask, &mut unread, &mut replies)?;
-        base = base_behind(base, at, messages);
+        let messages = answer(alloc, handler, access, &mut ask, &mut session, &mut replies)?;
         taken += messages;
         send(sink, &mut replies)?;
     }
     Err(ServeFault::Turns { reads })
 }
 
-/// Reads once, into the room behind what is unread.
-fn receive<R: Source>(source: &mut R, unread: &mut Vec<u8>) -> Result<usize, ServeFault>
-    ensures ok { IfOk result (Receives R.source source.old source.new unread.old.items unread.new.items) }
+/// Reads once, into the front of a room for 4,096 bytes.
+fn receive<R: Source>(source: &mut R, room: &mut [u8]) -> Result<usize, ServeFault>
+    requires { length room.old ≡ 4096 }
+    ensures ok { IfOk result (λ count. Receives R.source source.old source.new (take count room.new)) }
+    ensures count { IfOk result (λ count. count ≤ length room.new) }
     ensures err { IfErr result (ReceivesNot R.source source.old source.new) }
     ensures kept { OnErr result (Keeps (R.source.told source.old).left (R.source.told source.new).left) }
     ensures later { (R.source.told source.old).faults ≤ (R.source.told source.new).faults }
 {
-    let start = unread.len();
-    make_room(unread)?;
-    match read_behind(source, unread.as_mut_slice(), start) {
-        Ok(count) => {
-            unread.truncate(start + count);
-            Ok(count)
-        }
+    match source.read(room) {
+        Ok(count) => Ok(count),
         Err(IoFault::Failed) => Err(ServeFault::Read),
         Err(IoFault::OutOfMemory) => Err(ServeFault::OutOfMemory),
     }
-}
-
-/// Makes room for a read behind what is unread.
-fn make_room(unread: &mut Vec<u8>) -> Result<(), ServeFault>
-    ensures kept { OnOk result (take (length unread.old.items) unread.new.items ≡ unread.old.items) }
-    ensures size { OnOk result (length unread.new.items ≡ length unread.old.items + 4096) }
-    ensures kind { IfErr result (λ fault. fault ≡ NoMemory) }
-{
-    let size = unread.len() + ROOM;
-    match unread.resize(size, 0) {
-        Ok(()) => Ok(()),
-        Err(_) => Err(ServeFault::OutOfMemory),
-    }
-}
-
-/// Reads into the room behind the first `start` bytes.
-fn read_behind<R: Source>(source: &mut R, room: &mut [u8], start: usize) -> Result<usize, IoFault>
-    requires { start < length room.old }
-    ensures before { take start room.new ≡ take start room.old }
-    ensures count { IfOk result (λ count. start + count ≤ length room.new) }
-    ensures given { IfOk result (λ count. Takes (R.source.told source.old).left (R.source.told source.new).left (take count (drop start room.new))) }
-    ensures end { IfOk result (λ count. EndsAt (R.source.told source.old).left (R.source.told source.new).left count) }
-    ensures kept { OnErr result (Keeps (R.source.told source.old).left (R.source.told source.new).left) }
-    ensures made { R.source.reads source.old (length (drop start room.old)) (given_by (drop start room.new) result) source.new }
-    ensures cause { HasCause (R.source.told source.old).faults (R.source.told source.new).faults result }
-{
-    source.read(&mut room[start..])
-}
-
-/// Whether a moment is not past a base and a limit; a limit of 0 is none.
-fn is_within(limit: u64, base: u64, at: u64) -> bool
-    ensures { result ≡ is_within limit base at }
-{
-    limit == 0 || at.saturating_sub(base) <= limit
-}
-
-/// From when the time runs behind a read that completed so many messages.
-fn base_behind(base: u64, at: u64, messages: u64) -> u64
-    ensures none { messages ≡ 0 → result ≡ base }
-    ensures some { 0 < messages → result ≡ at }
-{
-    if messages == 0 { base } else { at }
 }
 
 /// Writes the bytes of replies, and lets them go.

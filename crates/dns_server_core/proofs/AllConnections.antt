@@ -4,12 +4,11 @@ use Rattle.std.proofs.lemmas.List.{map-append}
 use Rattle.std.proofs.lemmas.List.Elements.{filter_map-append}
 use Rattle.std.specs.List.{flat_map, filter_map, cons_option, AllByRecursion}
 use Rattle.std.specs.Option.{option_and_then}
-use Rattle.dns_server_core.specs.declared.connection.Connection.{Connection}
 use Rattle.dns_server_core.specs.Runs.{Completed}
 use Rattle.dns_server_core.specs.declared.event.Event.{Event}
 use Rattle.dns_server_core.specs.declared.event.Event.TheVariants.{Accepted, Bytes, Ended, Datagram, Tick, Stop}
 use Rattle.dns_server_core.specs.Events.{moment}
-use Rattle.dns_server_core.specs.Connections.{is_safe, turn_of, byte_events, is_ended, total, base, in_time, left_by, Start, completed_by, message_of, datagram_by, accepted, starts_in, starts, completed_at}
+use Rattle.dns_server_core.specs.Connections.{Connection, is_safe, turn_of, byte_events, is_ended, total, base, in_time, left_by, Start, completed_by, message_of, datagram_by, accepted, starts_in, starts, completed_at}
 use Rattle.dns_server_core.specs.Steps.{moved, heard, step, completed_now, open_next}
 use Rattle.dns_server_core.specs.Order.{IsRest}
 use Rattle.dns_frames.proofs.Cutting.{frames-nil}

@@ -2,12 +2,11 @@
 use Rattle.std.proofs.Common.{◌≡◌, ◌≢◌, ◌<◌, ℕ, List, [], ◌∷◌, ◌++◌, length, get_or, set, map, refl, sym, ap, ◌∙◌, cond, Bool, true, false, Some, None, arith, zero, suc, subst, append-nil, eqb}
 use Rattle.std.specs.List.{filter_map, flat_map, AllByRecursion, remove}
 use Rattle.std.proofs.lemmas.Bool.{ne_eqb, eq-eqb}
-use Rattle.dns_server_core.specs.declared.connection.Connection.{Connection}
 use Rattle.dns_server_core.specs.Runs.{Completed}
 use Rattle.dns_server_core.specs.declared.event.Event.{Event}
 use Rattle.dns_server_core.specs.declared.event.Event.TheVariants.{Bytes, Ended}
 use Rattle.dns_server_core.specs.Events.{moment}
-use Rattle.dns_server_core.specs.Connections.{Piece, Over, Other, turn_of, message_of, datagram_by, accepted}
+use Rattle.dns_server_core.specs.Connections.{Connection, Piece, Over, Other, turn_of, message_of, datagram_by, accepted}
 use Rattle.dns_server_core.specs.Steps.{moved, heard, step, completed_now, open_next}
 use Rattle.dns_server_core.specs.Order.{Climbs}
 use Rattle.dns_server_core.proofs.KeptOrder.{all_weaker, all_at, others_same, turn_stays, turn_goes, bytes_others, ended_others}

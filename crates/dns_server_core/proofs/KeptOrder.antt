@@ -2,12 +2,11 @@
 use Rattle.std.proofs.Common.{◌≡◌, ◌≢◌, ◌<◌, ℕ, List, [], ◌∷◌, ◌++◌, length, get_or, set, refl, sym, ap, cond, Bool, true, false, Option, Some, None, arith, zero, suc, subst, append-nil}
 use Rattle.std.specs.List.{filter_map, cons_option, AllByRecursion, remove}
 use Rattle.std.proofs.lemmas.Bool.{ne_eqb}
-use Rattle.dns_server_core.specs.declared.connection.Connection.{Connection}
 use Rattle.dns_server_core.specs.declared.event.Event.{Event}
 use Rattle.dns_server_core.specs.declared.event.Event.TheVariants.{Accepted, Bytes, Ended, Datagram, Tick, Stop}
 use Rattle.dns_server_core.specs.Events.{number_in}
 use Rattle.dns_server_core.specs.Valid.{IsAbove, Rises}
-use Rattle.dns_server_core.specs.Connections.{is_safe, Turn, Piece, Over, Other, turn_of, accepted, Kept}
+use Rattle.dns_server_core.specs.Connections.{Connection, is_safe, Turn, Piece, Over, Other, turn_of, accepted, Kept}
 use Rattle.dns_server_core.specs.Steps.{moved, step}
 use Rattle.dns_server_core.specs.Order.{IsRest, Climbs, IsUpTo, IsKept, next}
 use Rattle.dns_frames.proofs.Cutting.{frames-rest, frames-nil}

@@ -3,12 +3,11 @@ use Rattle.std.proofs.Common.{◌≡◌, ℕ, List, [], ◌∷◌, ◌++◌, len
 use Rattle.std.proofs.lemmas.Bool.{cases_Bool, cond-false}
 use Rattle.std.specs.List.{filter_map, filter, cons_option, AllByRecursion}
 use Rattle.std.specs.Option.{option_and_then}
-use Rattle.dns_server_core.specs.declared.connection.Connection.{Connection}
 use Rattle.dns_server_core.specs.declared.event.Event.{Event}
 use Rattle.dns_server_core.specs.declared.event.Event.TheVariants.{Accepted, Bytes, Ended, Datagram, Tick, Stop}
 use Rattle.dns_server_core.specs.Events.{has_stop, is_stop}
 use Rattle.dns_server_core.specs.Valid.{StopIsLast}
-use Rattle.dns_server_core.specs.Connections.{byte_events, is_ended, base, is_within, in_time, left_by, Start, accepted, starts_in, starts, left_at, Kept}
+use Rattle.dns_server_core.specs.Connections.{Connection, byte_events, is_ended, base, is_within, in_time, left_by, Start, accepted, starts_in, starts, left_at, Kept}
 use Rattle.dns_server_core.specs.Order.{IsKept, IsRest, IsUpTo, closed}
 use Rattle.dns_server_core.proofs.KeptOrder.{all_kept, climbs_kept}
 use Rattle.dns_server_core.proofs.Pieces.{pending}

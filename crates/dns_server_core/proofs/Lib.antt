@@ -12,3 +12,4 @@ pub mod ValidTests
 pub mod PieceCut
 pub mod Failing
 pub mod LongerRuns
+pub mod FirstFrames

@@ -5,12 +5,11 @@ use Rattle.std.proofs.lemmas.List.{take_more, take-append-drop}
 use Rattle.std.proofs.lemmas.Bool.{cases_Bool}
 use Rattle.std.proofs.lemmas.Grind.{flat_map-append}
 use Rattle.std.specs.List.{filter_map, filter, flat_map, AllByRecursion}
-use Rattle.dns_server_core.specs.declared.connection.Connection.{Connection}
 use Rattle.dns_server_core.specs.Runs.{Completed}
 use Rattle.dns_server_core.specs.declared.event.Event.{Event}
 use Rattle.dns_server_core.specs.Events.{moment, number_in, last_moment, last_number, has_stop, is_stop}
 use Rattle.dns_server_core.specs.Valid.{StopIsLast, Rises}
-use Rattle.dns_server_core.specs.Connections.{Kept, starts, left_at, is_within, after, done_from}
+use Rattle.dns_server_core.specs.Connections.{Connection, Kept, starts, left_at, is_within, after, done_from}
 use Rattle.dns_server_core.specs.Serving.{IsCutOff}
 use Rattle.dns_server_core.specs.Steps.{completed_now, open_next}
 use Rattle.dns_server_core.specs.Order.{IsRest, next, closed}

@@ -2,7 +2,7 @@
 use Rattle.std.proofs.Common.{◌≡◌, ◌≢◌, ◌<◌, ℕ, ◌+◌, List, [], ◌∷◌, length, get_or, take, drop, arith, zero, suc, subst}
 use Rattle.std.specs.List.{AllByRecursion}
 use Rattle.std.proofs.lemmas.List.{take-append-drop}
-use Rattle.dns_server_core.specs.declared.connection.Connection.{Connection}
+use Rattle.dns_server_core.specs.Connections.{Connection}
 use Rattle.dns_server_core.specs.Order.{Climbs}
 use Rattle.dns_server_core.proofs.KeptOrder.{all_weaker, all_push, all_at}
 

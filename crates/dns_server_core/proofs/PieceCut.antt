@@ -5,12 +5,11 @@ use Rattle.std.proofs.lemmas.Bool.{le-leb, eqb-true, eqb-false, cond-true, cond-
 use Rattle.std.proofs.lemmas.Grind.{flat_map-append}
 use Rattle.dns_frames.specs.Frames.{frames, ahead}
 use Rattle.dns_frames.proofs.Cutting.{frames-more}
-use Rattle.dns_server_core.specs.declared.connection.Connection.{Connection}
 use Rattle.dns_server_core.specs.declared.event.Event.{Event}
 use Rattle.dns_server_core.specs.declared.event.Event.TheVariants.{Bytes}
 use Rattle.dns_server_core.specs.Events.{number_in, last_number}
 use Rattle.dns_server_core.specs.Runs.{Completed}
-use Rattle.dns_server_core.specs.Connections.{Kept, is_within, message_of, done, done_from}
+use Rattle.dns_server_core.specs.Connections.{Connection, Kept, is_within, message_of, done, done_from}
 use Rattle.dns_server_core.specs.Steps.{base_by, fed_by, moved, heard, step, completed_now, open_next}
 use Rattle.dns_server_core.specs.Order.{Climbs, IsKept, next}
 use Rattle.dns_server_core.specs.Valid.{Rises, Valid}

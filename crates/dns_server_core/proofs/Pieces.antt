@@ -6,10 +6,9 @@ use Rattle.std.proofs.Math.Seq.{drop-append_seam, get_or-append_seam, take-lengt
 use Rattle.std.proofs.lemmas.Bool.{le-ltb, lt-ltb, cond-true, cond-false}
 use Rattle.std.specs.List.{flat_map}
 use Rattle.std.specs.Option.{option_and_then}
-use Rattle.dns_server_core.specs.declared.connection.Connection.{Connection}
 use Rattle.dns_server_core.specs.declared.event.Event.{Event}
 use Rattle.dns_frames.specs.Frames.{frames, ahead}
-use Rattle.dns_server_core.specs.Connections.{Arrival, Turn, Piece, Over, Other, turn_of, heading, ending, byte_events, is_ended, total, whole, moment_at, base, is_within, in_time, completed, left_by, Start, completed_with, completed_by}
+use Rattle.dns_server_core.specs.Connections.{Connection, Arrival, Turn, Piece, Over, Other, turn_of, heading, ending, byte_events, is_ended, total, whole, moment_at, base, is_within, in_time, completed, left_by, Start, completed_with, completed_by}
 use Rattle.dns_server_core.specs.Steps.{base_by, fed_by, moved, heard}
 use Rattle.dns_frames.proofs.Cutting.{frames-more}
 

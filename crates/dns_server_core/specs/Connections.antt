@@ -8,10 +8,18 @@ use Rattle.dns_frames.specs.Frames.{frames}
 use Rattle.dns_server_core.specs.declared.event.Event.{Event}
 use Rattle.dns_server_core.specs.declared.event.Event.TheVariants.{Accepted, Bytes, Ended, Datagram, Tick, Stop}
 use Rattle.dns_server_core.specs.declared.event.Receiver.TheVariants as to
-use Rattle.dns_server_core.specs.declared.connection.Connection.{Connection}
 use Rattle.dns_book.specs.Sources.{sanitized}
 use Rattle.dns_server_core.specs.Events.{moment, last_moment, number_in, last_number, has_stop}
 use Rattle.dns_server_core.specs.Runs.{Completed}
+
+-- a connection: its number, the other end, for how many milliseconds it may stay without a whole message (0 is without limit), the moment of
+-- its acceptance or of the last piece that completed a message, and the bytes that are not yet a message
+pub record Connection : Type 0 where
+  pub number : ℕ
+  pub peer : Peer
+  pub limit : ℕ
+  pub base : ℕ
+  pub rest : List ℕ
 
 -- what a server keeps from one list to the next: the last moment that it took (0 at first), the greatest number that it
 -- accepted (none at first), whether it was stopped, and the open connections

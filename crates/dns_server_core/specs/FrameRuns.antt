@@ -1,8 +1,26 @@
 -- Runs of a handler over the messages of a connection, and the bytes of their replies.
-use Rattle.std.specs.Prelude.{◌≡◌, ◌⊎◌, ℕ, List, [], ◌∷◌, ◌++◌, length, Option, Some, None}
+use Rattle.std.specs.Prelude.{◌≡◌, ◌⊎◌, ℕ, ◌+◌, List, [], ◌∷◌, ◌++◌, length, map, take, drop, Option, Some, None}
 use Rattle.std.specs.Int.{w16, to_be_bytes}
 use Rattle.dns_book.specs.declared.ask.Ask.{Ask}
 use Rattle.dns_book.specs.declared.ask.Settled.{Settled}
+use Rattle.dns_frames.specs.Frames.{frames}
+
+-- the whole messages at the front of a stream, at most so many
+abbrev pub first_messages : ℕ → List ℕ → List (List ℕ)
+first_messages most bytes = take most (frames bytes).messages
+
+-- how many bytes messages take on a stream, each behind the two bytes of its length
+abbrev pub framed_size : List (List ℕ) → ℕ
+framed_size [] = 0
+framed_size (m ∷ ms) = 2 + length m + framed_size ms
+
+-- what stands behind the first messages of a stream, at most so many
+abbrev pub behind_first : ℕ → List ℕ → List ℕ
+behind_first most bytes = drop (framed_size (first_messages most bytes)) bytes
+
+-- the first messages of a stream, at most so many, each asked as this one
+abbrev pub first_asks : Ask → ℕ → List ℕ → List Ask
+first_asks ask most bytes = map (λ m. record ask { bytes = m }) (first_messages most bytes)
 
 -- a message behind its length (RFC 1035 4.2.2)
 abbrev pub frame_of : List ℕ → List ℕ

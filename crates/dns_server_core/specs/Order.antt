@@ -1,11 +1,10 @@
 -- What a server keeps of its connections.
 use Rattle.std.specs.Prelude.{◌≡◌, ◌<◌, ◌≤◌, ℕ, List, [], ◌∷◌, Option, Some, None, ◌||◌, if◌then◌else◌}
 use Rattle.std.specs.List.{AllByRecursion, filter}
-use Rattle.dns_server_core.specs.declared.connection.Connection.{Connection}
 use Rattle.dns_server_core.specs.declared.event.Event.{Event}
 use Rattle.dns_frames.specs.Frames.{frames}
 use Rattle.dns_server_core.specs.Events.{moment, last_number, number_in, is_stop}
-use Rattle.dns_server_core.specs.Connections.{Kept, is_within}
+use Rattle.dns_server_core.specs.Connections.{Connection, Kept, is_within}
 use Rattle.dns_server_core.specs.Steps.{open_next}
 
 -- a rest with no message in it

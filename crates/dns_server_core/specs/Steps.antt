@@ -1,12 +1,13 @@
 -- What one event makes of the open connections, and the messages that it completes.
-use Rattle.std.specs.Prelude.{ℕ, List, [], ◌∷◌, ◌++◌, map, if◌then◌else◌, Option, Some, None}
+use Rattle.std.specs.Prelude.{◌≡◌, ℕ, true, false, List, [], ◌∷◌, ◌++◌, map, if◌then◌else◌, Option, Some, None}
 use Rattle.std.specs.List.{flat_map, filter_map}
 use Rattle.dns_server_core.specs.declared.event.Event.{Event}
 use Rattle.dns_server_core.specs.Runs.{Completed}
-use Rattle.dns_server_core.specs.declared.connection.Connection.{Connection}
+use Rattle.dns_server_core.specs.declared.session.Heard.{Heard}
+use Rattle.dns_server_core.specs.declared.session.Heard.TheVariants.{InTime, Late}
 use Rattle.dns_frames.specs.Frames.{frames, Cut}
 use Rattle.dns_server_core.specs.Events.{moment}
-use Rattle.dns_server_core.specs.Connections.{Turn, Piece, Over, Other, turn_of, is_within, message_of, datagram_by, accepted}
+use Rattle.dns_server_core.specs.Connections.{Connection, Turn, Piece, Over, Other, turn_of, is_within, message_of, datagram_by, accepted}
 
 abbrev pub base_by : ℕ → ℕ → List (List ℕ) → ℕ
 base_by base at [] = base
@@ -31,6 +32,15 @@ heard conn Other = []
 -- a piece that comes at a moment
 abbrev pub piece_at : ℕ → List ℕ → Turn
 piece_at at piece = Piece (record { at = at; piece = piece })
+
+-- the connection with one more piece of its bytes
+abbrev pub with_piece : Connection → List ℕ → Connection
+with_piece conn piece = record { number = conn.number; peer = conn.peer; limit = conn.limit; base = conn.base; rest = conn.rest ++ piece }
+
+-- a connection hears a piece at a moment: in time, the piece stands behind its unread bytes; past its base and its limit, nothing changes
+abbrev pub HearsPiece : Connection → ℕ → List ℕ → Heard → Connection → Type 0
+HearsPiece before at piece InTime after = (is_within before.limit before.base at ≡ true) × (after ≡ with_piece before piece)
+HearsPiece before at piece (Late since) after = (is_within before.limit before.base at ≡ false) × (since ≡ before.base) × (after ≡ before)
 
 -- the messages that a connection's unread bytes have
 abbrev pub unread_messages : ℕ → Connection → List Completed

@@ -2,38 +2,15 @@
 
 ghost use Rattle.std.specs.Prelude.{◌≡◌, ◌≢◌, ◌<◌, ◌++◌, length, OnOk, IfSome, IfNone, slice_index_or};
 ghost use Rattle.std.specs.List.{AllByRecursion, filter_map};
-ghost use Rattle.dns_server_core.specs.Connections.{is_within, is_safe, accepted};
+ghost use Rattle.dns_server_core.specs.Connections.{Connection, is_safe, accepted};
 ghost use Rattle.dns_server_core.specs.Steps.{step};
 ghost use Rattle.dns_server_core.specs.Order.{Climbs};
-ghost use Rattle.dns_server_core.specs.declared.connection.Connection.{Connection as Entry};
 ghost use Rattle.dns_server_core.specs.declared.event.Event.TheVariants as event;
 
+use crate::session::Session;
 use dns_book::sanitize_src_address;
-use dns_frames::Frames;
 use dns_io::{OutOfMemory, Peer};
 use std::alloc::Global;
-
-/// An open connection.
-#[derive(Drop)]
-pub(crate) struct Connection {
-    /// Its number.
-    pub(crate) number: u32,
-    /// The other end.
-    pub(crate) peer: Peer,
-    /// For how many milliseconds it may stay without a whole message; 0 is without limit.
-    pub(crate) limit: u64,
-    /// The moment of its acceptance, or of the last event that completed a message.
-    pub(crate) base: u64,
-    /// The bytes that are not yet a message.
-    pub(crate) rest: Frames,
-}
-
-/// Whether a moment is not past a base and a limit; limit 0 is none.
-pub(crate) fn is_within(limit: u64, base: u64, at: u64) -> bool
-    ensures { result ≡ is_within limit base at }
-{
-    limit == 0 || at.saturating_sub(base) <= limit
-}
 
 fn is_safe(peer: &Peer) -> bool
     ensures { result ≡ is_safe peer.now }
@@ -44,7 +21,7 @@ fn is_safe(peer: &Peer) -> bool
 /// A connection from a safe peer is open from now on.
 pub(crate) fn accept(
     alloc: Global,
-    connections: &mut Vec<Connection>,
+    connections: &mut Vec<Session>,
     at: u64,
     number: u32,
     peer: Peer,
@@ -53,29 +30,23 @@ pub(crate) fn accept(
     ensures { OnOk result (connections.new.items ≡ connections.old.items ++ accepted (event.Accepted at number peer limit)) }
 {
     if is_safe(&peer) {
-        connections.push(Connection {
-            number,
-            peer,
-            limit,
-            base: at,
-            rest: Frames::new(alloc),
-        })?;
+        connections.push(Session::open(alloc, number, peer, limit, at))?;
     }
     Ok(())
 }
 
 /// Where the connection of a number stands.
-pub(crate) fn place_of(connections: &[Connection], number: u32) -> Option<usize>
+pub(crate) fn place_of(connections: &[Session], number: u32) -> Option<usize>
     requires { Climbs connections.now }
     ensures inside { IfSome result (λ i. i < length connections.now) }
-    ensures found { IfSome result (λ i. (d : Entry) → (slice_index_or connections.now i d).number ≡ number) }
+    ensures found { IfSome result (λ i. (d : Connection) → (slice_index_or connections.now i d).number ≡ number) }
     ensures none { IfNone result (AllByRecursion (λ k. k.number ≢ number) connections.now) }
 {
     let mut low = 0;
     let mut high = connections.len();
     while low < high {
         let middle = low + (high - low) / 2;
-        let here = connections[middle].number;
+        let here = connections[middle].number();
         if here == number {
             return Some(middle);
         }
@@ -89,7 +60,7 @@ pub(crate) fn place_of(connections: &[Connection], number: u32) -> Option<usize>
 }
 
 /// The connection of a number ends.
-pub(crate) fn end(connections: &mut Vec<Connection>, at: u64, number: u32)
+pub(crate) fn end(connections: &mut Vec<Session>, at: u64, number: u32)
     requires { Climbs connections.old.items }
     ensures { connections.new.items ≡ filter_map (step (event.Ended at number)) connections.old.items }
 {

@@ -1,21 +1,26 @@
 //! What settles the messages of connections and datagrams.
 
-ghost use Rattle.std.specs.Prelude.{◌≡◌, ◌+◌, ◌*◌, ◌<◌, ◌≤◌, ◌^◌, length, map, IfOk, OnOk, OnErr};
+ghost use Rattle.std.specs.Prelude.{◌≡◌, ◌+◌, ◌-◌, ◌*◌, ◌<◌, ◌≤◌, ◌^◌, ◌∷◌, [], length, IfOk, OnOk, OnErr, IfSome, IfNone, OnSome};
 ghost use Rattle.dns_book.specs.Into.{SettlesInto};
-ghost use Rattle.dns_frames.specs.Frames.{frames};
-ghost use Rattle.dns_server_core.specs.FrameRuns.{Adds, Halts};
+ghost use Rattle.dns_server_core.specs.FrameRuns.{Adds, Halts, behind_first, first_asks, first_messages};
 
 use dns_book::{AccessControl, Ask, Book, Settled, SettledInto};
 use dns_frames::first_frame;
 use dns_io::{Octets, OutOfMemory};
 use dns_keeper::Keeper;
+use dns_wire::limits::MAX_MESSAGE_LEN;
 use std::alloc::Global;
 use std::mem;
+
+/// The most bytes that a reply adds to a buffer, behind the two bytes of its length.
+const MOST_ADDED: usize = MAX_MESSAGE_LEN as usize + 2;
 
 /// How many messages were settled, and how many bytes stand behind them.
 #[derive(Clone, Copy)]
 pub struct Answered {
+    /// How many messages.
     pub messages: u64,
+    /// How many bytes.
     pub rest: usize,
 }
 
@@ -41,6 +46,8 @@ pub trait RequestHandler {
 
     /// Settles one message as `handle_request` does, and adds the reply that it is owed to what a buffer has: as it is, or behind the two
     /// bytes of its length, as it goes over a connection (RFC 1035 4.2.2). Where memory ran out, part of a reply may have been added.
+    ///
+    /// Here it makes room for the longest reply, and then calls `handle_request`.
     fn handle_into(
         &mut self,
         access: &AccessControl,
@@ -51,30 +58,38 @@ pub trait RequestHandler {
         requires moment { ask.now.at < 2 ^ 47 }
         requires bytes { length ask.now.bytes ≤ 65535 }
         ensures ok { IfOk result (SettlesInto (λ settled. serves access.now self.old ask.now settled self.new) is_framed out.old.items out.new.items) }
-        ensures err { OnErr result (skips self.old self.new) };
+        ensures err { OnErr result (skips self.old self.new) }
+    {
+        out.reserve(MOST_ADDED)?;
+        let settled = self.handle_request(access, ask)?;
+        settled.is_short();
+        Ok(settled.put_into(out, is_framed))
+    }
 
-    /// Settles, in order, the whole messages at the front of what came over a connection, each behind its length (RFC 1035 4.2.2), and adds
-    /// the replies that they are owed to what a buffer has, each behind its length. Each is handed over as `ask`, whose buffer is used for
-    /// one after the other. Where memory runs out, the first of them were settled, and part of the replies may have been added.
+    /// Settles, in order, the whole messages at the front of what came over a connection, at most so many, each behind its length (RFC 1035
+    /// 4.2.2), and adds the replies that they are owed to what a buffer has, each behind its length. Each is handed over as `ask`, whose
+    /// buffer is used for one after the other. Where memory runs out, the first of them were settled, and part of the replies may have been
+    /// added.
     fn handle_frames(
         &mut self,
         alloc: Global,
         access: &AccessControl,
         ask: &mut Ask,
         bytes: &[u8],
+        most: u64,
         replies: &mut Vec<u8>,
     ) -> Result<Answered, OutOfMemory>
         requires { ask.old.at < 2 ^ 47 }
-        ensures ok { OnOk result (Adds (serves access.now) self.old (map (λ m. record ask.old { bytes = m }) (frames bytes.now).messages) self.new replies.old.items replies.new.items) }
-        ensures count { IfOk result (λ a. a.messages ≡ length (frames bytes.now).messages) }
-        ensures rest { IfOk result (λ a. a.rest ≡ length (frames bytes.now).rest) }
+        ensures ok { OnOk result (Adds (serves access.now) self.old (first_asks ask.old most bytes.now) self.new replies.old.items replies.new.items) }
+        ensures count { IfOk result (λ a. a.messages ≡ length (first_messages most bytes.now)) }
+        ensures rest { IfOk result (λ a. a.rest ≡ length (behind_first most bytes.now)) }
         ensures shorter { IfOk result (λ a. 2 * a.messages + a.rest ≤ length bytes.now) }
-        ensures err { OnErr result (Halts (serves access.now) skips self.old (map (λ m. record ask.old { bytes = m }) (frames bytes.now).messages) self.new) }
+        ensures err { OnErr result (Halts (serves access.now) skips self.old (first_asks ask.old most bytes.now) self.new) }
         ensures ask { ask.new ≡ record ask.old { bytes = ask.new.bytes } }
     {
         let mut left = bytes;
         let mut messages = 0;
-        while let Some((message, after)) = first_frame(left) {
+        while let Some((message, after)) = next_frame(left, most - messages) {
             refill(alloc, &mut ask.bytes, message)?;
             let _settled = self.handle_into(access, &*ask, replies, true)?;
             left = after;
@@ -84,6 +99,25 @@ pub trait RequestHandler {
             messages,
             rest: left.len(),
         })
+    }
+}
+
+/// The first message of a stream, of which so many are to be taken, and the stream behind it; none where none is whole, or none is to be
+/// taken.
+pub fn next_frame(bytes: &[u8], most: u64) -> Option<(&[u8], &[u8])>
+    ensures messages { IfSome result (λ parts. first_messages most bytes.now ≡ parts.0.now ∷ first_messages (most - 1) parts.1.now) }
+    ensures behind { IfSome result (λ parts. behind_first most bytes.now ≡ behind_first (most - 1) parts.1.now) }
+    ensures some { OnSome result (0 < most) }
+    ensures none { IfNone result (first_messages most bytes.now ≡ []) }
+    ensures short { IfSome result (λ parts. length parts.0.now ≤ 65535) }
+    ensures inside { IfSome result (λ parts. 2 + length parts.0.now + length parts.1.now ≡ length bytes.now) }
+{
+    if most == 0 {
+        return None;
+    }
+    match first_frame(bytes) {
+        Some((message, after)) => Some((message, after)),
+        None => None,
     }
 }
 

@@ -8,6 +8,7 @@ mod handler;
 pub mod laws;
 mod responder;
 mod server;
+mod session;
 mod sessions;
 mod valid;
 
@@ -19,3 +20,4 @@ pub use event::{Event, Out, Receiver};
 pub use fault::RunFault;
 pub use handler::{Answered, RequestHandler, refill};
 pub use server::Server;
+pub use session::{Heard, Session};

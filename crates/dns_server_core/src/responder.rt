@@ -5,14 +5,15 @@ ghost use Rattle.std.specs.Vec.{vec_capacity};
 ghost use Rattle.dns_frames.specs.Frames.{frames};
 ghost use Rattle.dns_server_core.specs.Connections.{datagram_by};
 ghost use Rattle.dns_server_core.specs.Runs.{outs_of, sent_to};
-ghost use Rattle.dns_server_core.specs.Steps.{moved, fed_by, piece_at, unread_messages, heard_messages};
+ghost use Rattle.dns_server_core.specs.Steps.{moved, piece_at, unread_messages, heard_messages};
 ghost use Rattle.dns_server_core.specs.Handing.{Hands, Breaks};
 ghost use Rattle.dns_server_core.specs.declared.event.Event.TheVariants as event;
 
-use crate::connection::{Connection, is_within};
 use crate::event::{Out, Receiver};
-use crate::handler::RequestHandler;
+use crate::handler::{Answered, RequestHandler};
+use crate::session::{Heard, Session};
 use dns_book::{AccessControl, Ask, ReplyBytes};
+use dns_frames::first_frame;
 use dns_io::{Octets, OutOfMemory, Peer, Protocol};
 use std::alloc::Global;
 use std::marker::Model;
@@ -128,33 +129,46 @@ impl<H: RequestHandler> Responder<H> {
         self.settle_message(Receiver::Peer(peer), ask)
     }
 
-    /// Settles the whole messages that a connection has.
-    fn settle_frames(&mut self, connection: &mut Connection, at: u64) -> Result<(), OutOfMemory>
+    /// Settles the whole messages that a connection has unread.
+    fn settle_unread(
+        &mut self,
+        alloc: Global,
+        connection: &Session,
+        at: u64,
+    ) -> Result<Answered, OutOfMemory>
         requires { at < 2 ^ 47 }
-        ensures left { OnOk result (connection.new ≡ fed_by connection.old at (frames connection.old.rest)) }
-        ensures ok { OnOk result (Hands H.serves self.old (unread_messages at connection.old) self.new) }
-        ensures err { OnErr result (Breaks H.serves H.skips self.old (unread_messages at connection.old) self.new) }
+        ensures ok { OnOk result (Hands H.serves self.old (unread_messages at connection.now) self.new) }
+        ensures count { IfOk result (λ a. a.messages ≡ length (frames connection.now.rest).messages) }
+        ensures rest { IfOk result (λ a. a.rest ≡ length (frames connection.now.rest).rest) }
+        ensures err { OnErr result (Breaks H.serves H.skips self.old (unread_messages at connection.now) self.new) }
     {
-        while let Some(bytes) = connection.rest.next()? {
-            let to = Receiver::Conn(connection.number);
+        let mut left = connection.unread();
+        let mut messages = 0;
+        while let Some((message, after)) = first_frame(left) {
+            let to = Receiver::Conn(connection.number());
             let ask = Ask {
-                bytes,
-                source: connection.peer,
+                bytes: Octets::from_slice(alloc, message)?,
+                source: connection.peer(),
                 protocol: Protocol::Tcp,
                 at,
                 client: 0,
             };
             self.settle_message(to, ask)?;
-            connection.base = at;
+            left = after;
+            messages += 1;
         }
-        Ok(())
+        Ok(Answered {
+            messages,
+            rest: left.len(),
+        })
     }
 
     /// Receives a piece of a connection's bytes: settles the messages that are whole now, and says whether the connection
     /// stays open.
     pub(crate) fn receive_piece(
         &mut self,
-        connection: &mut Connection,
+        alloc: Global,
+        connection: &mut Session,
         at: u64,
         piece: &[u8],
     ) -> Result<bool, OutOfMemory>
@@ -163,12 +177,15 @@ impl<H: RequestHandler> Responder<H> {
         ensures ran { OnOk result (Hands H.serves self.old (heard_messages at connection.old (piece_at at piece.now)) self.new) }
         ensures err { OnErr result (Breaks H.serves H.skips self.old (heard_messages at connection.old (piece_at at piece.now)) self.new) }
     {
-        if !is_within(connection.limit, connection.base, at) {
-            return Ok(false);
+        let heard = connection.hear(at, piece)?;
+        match heard {
+            Heard::Late { since: _since } => Ok(false),
+            Heard::InTime => {
+                let answered = self.settle_unread(alloc, &*connection, at)?;
+                connection.settled(at, answered);
+                Ok(true)
+            }
         }
-        connection.rest.feed(piece)?;
-        self.settle_frames(connection, at)?;
-        Ok(true)
     }
 }
 

@@ -11,10 +11,11 @@ ghost use Rattle.dns_server_core.specs.Handing.{Hands, Breaks};
 ghost use Rattle.dns_server_core.specs.Serving.{IsCutOff};
 ghost use Rattle.dns_server_core.specs.declared.event.Event.TheVariants as event;
 
-use crate::connection::{Connection, accept, end, is_within, place_of};
+use crate::connection::{accept, end, place_of};
 use crate::event::Event;
 use crate::handler::RequestHandler;
 use crate::responder::Responder;
+use crate::session::Session;
 use crate::valid::are_valid;
 use dns_io::{Octets, OutOfMemory};
 use std::alloc::Global;
@@ -27,7 +28,7 @@ pub(crate) struct Sessions {
     last: u64,
     greatest: Option<u32>,
     stopped: bool,
-    connections: Vec<Connection>,
+    connections: Vec<Session>,
     alloc: Global,
 }
 
@@ -143,11 +144,7 @@ impl Sessions {
             self.connections.clear();
         } else {
             let last = self.last;
-            self.connections.retain(|connection| is_within(
-                connection.limit,
-                connection.base,
-                last,
-            ));
+            self.connections.retain(|session| session.is_within(last));
         }
     }
 }
@@ -156,7 +153,7 @@ impl Sessions {
 fn apply<H: RequestHandler>(
     alloc: Global,
     responder: &mut Responder<H>,
-    connections: &mut Vec<Connection>,
+    connections: &mut Vec<Session>,
     event: &Event,
 ) -> Result<(), OutOfMemory>
     requires climbs { Climbs connections.old.items }
@@ -173,7 +170,7 @@ fn apply<H: RequestHandler>(
             limit,
         } => accept(alloc, connections, *at, *conn, *peer, *limit),
         Event::Bytes { at, conn, piece } => {
-            receive_bytes(responder, connections, *at, *conn, piece)
+            receive_bytes(alloc, responder, connections, *at, *conn, piece)
         }
         Event::Ended { at, conn } => {
             end(connections, *at, *conn);
@@ -187,8 +184,9 @@ fn apply<H: RequestHandler>(
 
 /// Receives a piece of the bytes of the connection of a number; one that came too late closes it.
 fn receive_bytes<H: RequestHandler>(
+    alloc: Global,
     responder: &mut Responder<H>,
-    connections: &mut Vec<Connection>,
+    connections: &mut Vec<Session>,
     at: u64,
     number: u32,
     piece: &Octets,
@@ -202,7 +200,7 @@ fn receive_bytes<H: RequestHandler>(
         (Breaks H.serves H.skips responder.old (completed_now (event.Bytes at number piece.now) connections.old.items) responder.new) }
 {
     if let Some(i) = place_of(connections, number) {
-        let stays = responder.receive_piece(&mut connections[i], at, piece.as_slice())?;
+        let stays = responder.receive_piece(alloc, &mut connections[i], at, piece.as_slice())?;
         if !stays {
             connections.remove(i);
         }

@@ -4,7 +4,6 @@ use Rattle.std.proofs.lemmas.List.{length-append, append-nil}
 use Rattle.dns_io.specs.declared.fault.OutOfMemory.{OutOfMemory}
 use Rattle.dns_io.specs.Told.{Rose, Told as ToldOf}
 use Rattle.dns_keeper.specs.declared.row.Row.{Row}
-use Rattle.dns_frames.specs.Frames.{Cut, frames, behind}
 use Rattle.dns_book.specs.Access.{Access}
 use Rattle.dns_book.specs.declared.ask.Ask.{Ask}
 use Rattle.dns_book.specs.declared.ask.Receipt.{Receipt}
@@ -13,13 +12,13 @@ use Rattle.dns_book.specs.declared.ask.SettledInto.{SettledInto}
 use Rattle.dns_book.specs.Into.{SettlesInto}
 use Rattle.dns_book.specs.Book.{SeenOf, Settles, IsLeft}
 use Rattle.dns_book.proofs.IntoBuffer.{into_map}
-use Rattle.dns_server_core.specs.FrameRuns.{Run, Adds, AddsFront, Halts}
+use Rattle.dns_server_core.specs.FrameRuns.{Run, Adds, AddsFront, Halts, first_asks, first_messages}
 use Rattle.dns_server_core.proofs.LongerRuns.{Run-append, Adds-one, Adds-append, AddsFront-none, AddsFront-more, AddsFront-halts, Halts-skips}
 use Rattle.dns_ticket_lock.specs.declared.held.Told.{Told}
 use Rattle.dns_ticket_lock.specs.declared.held.Member.{Member}
 use Rattle.dns_ticket_lock.specs.declared.view.Account.{Account}
 use Rattle.dns_ticket_lock.specs.declared.view.Terms.{Terms}
-use Rattle.dns_ticket_lock.specs.Fronts.{asks_in, nothing_told}
+use Rattle.dns_ticket_lock.specs.Fronts.{nothing_told}
 use Rattle.dns_ticket_lock.specs.Lists.{StartsWith, with_head}
 use Rattle.dns_ticket_lock.specs.Places.{listed, places_of, places_from}
 use Rattle.dns_ticket_lock.specs.Naming.{NamesRows, IsBatch, Advances}
@@ -142,28 +141,28 @@ module _ {K : Type 0} (krows : K → Option (List Row)) (kfaults : K → ℕ) wh
     by_account t = SettledAs krows kfaults t access ask.client
 
     -- so many messages were settled by the book, and nothing came
-    pub record Quiet (start book : SeenOf K) (bytes left : List ℕ) (old new : List ℕ) (messages : ℕ) : Type 0 where
+    pub record Quiet (start book : SeenOf K) (most more : ℕ) (bytes left : List ℕ) (old new : List ℕ) (messages : ℕ) : Type 0 where
       pub came : Advances krows kfaults ask.client start None 0 book
       pub uncounted : kfaults book.keeper ≡ kfaults start.keeper
       pub ran : (t : Terms) (rows : List Row) (a : Account) → HasTerms t start → NamesRows krows start rows → StartsWith rows a.seen
-          → (now : Account) × IsNow messages rows a now × AddsFront (by_account t) a (asks_in ask bytes) now (asks_in ask left) old new
+          → (now : Account) × IsNow messages rows a now × AddsFront (by_account t) a (first_asks ask most bytes) now (first_asks ask more left) old new
 
-    pub Quiet-begun : (start : SeenOf K) (bytes old : List ℕ) → Quiet start start bytes bytes old old 0
-    Quiet-begun start bytes old = record {
+    pub Quiet-begun : (start : SeenOf K) (most : ℕ) (bytes old : List ℕ) → Quiet start start most most bytes bytes old old 0
+    Quiet-begun start most bytes old = record {
       came = nothing_came ask.client start;
       uncounted = refl;
-      ran = λ t rows a terms named begins. (a, record { none = λ e. refl; some = λ l. absurd (omega (arith, l)) }, AddsFront-none (by_account t) a (asks_in ask bytes) old);
+      ran = λ t rows a terms named begins. (a, record { none = λ e. refl; some = λ l. absurd (omega (arith, l)) }, AddsFront-none (by_account t) a (first_asks ask most bytes) old);
     }
 
     -- one message more, whatever came
-    pub one_more : (start book later : SeenOf K) (bytes left after message old mid new : List ℕ) (messages : ℕ) (told : Told) (into : SettledInto)
-        → frames left ≡ behind message (frames after) → Quiet start book bytes left old mid messages
+    pub one_more : (start book later : SeenOf K) (most more less : ℕ) (bytes left after message old mid new : List ℕ) (messages : ℕ) (told : Told) (into : SettledInto)
+        → first_messages more left ≡ message ∷ first_messages less after → Quiet start book most more bytes left old mid messages
         → SettlesInto (λ s. Settles krows kfaults access book (record ask { bytes = message }) s later) true mid new into
         → Advances krows kfaults ask.client book told.receipt told.count later → told.receipt ≡ into.receipt → kfaults book.keeper + told.rise ≡ kfaults later.keeper
         → (Rose (kfaults book.keeper) (kfaults later.keeper) → (0 < told.rise) ⊎ (told.mark ≡ true))
         → (t : Terms) (rows : List Row) (a : Account) → HasTerms t start → NamesRows krows start rows → StartsWith rows a.seen
-        → AddsFront (by_account t) a (asks_in ask bytes) (settled rows (done_by krows ask.client rows later told) a) (asks_in ask after) old new
-    one_more start book later bytes left after message old mid new messages told into cut q ok step receipt rise rose t rows a terms named begins =
+        → AddsFront (by_account t) a (first_asks ask most bytes) (settled rows (done_by krows ask.client rows later told) a) (first_asks ask less after) old new
+    one_more start book later most more less bytes left after message old mid new messages told into cut q ok step receipt rise rose t rows a terms named begins =
         let ran = q.ran t rows a terms named begins in
         let now = ran.0 in
         let done = done_by krows ask.client rows later told in
@@ -174,19 +173,19 @@ module _ {K : Type 0} (krows : K → Option (List Row)) (kfaults : K → ℕ) wh
         let by_now = into_map (λ s. Settles krows kfaults access book asked s later) (λ s. by_account t now asked s (settled rows done now)) true mid new into
         (λ s is one. settles_one krows kfaults t access ask.client now asked s rows book later told (begins_now messages rows a now ran.1 begins) terms_now named_now refl one turn
         (receipt ∙ ap (λ (i : SettledInto). i.receipt) is) rise rose) ok in
-        let all : List Ask = asks_in ask bytes in
-        let front = subst (λ (c : Cut). AddsFront (by_account t) a all now (map (λ m. record ask { bytes = m }) c.messages) old mid) cut ran.2 in
-        let longer = AddsFront-more (by_account t) a now (settled rows done now) all (asks_in ask after) asked old mid new front (Adds-one (by_account t) now (settled rows done now) asked mid new into by_now) in
-        subst (λ (x : Account). AddsFront (by_account t) a all x (asks_in ask after) old new) (settled_now messages rows a now done ran.1) longer
+        let all : List Ask = first_asks ask most bytes in
+        let front = subst (λ (ms : List (List ℕ)). AddsFront (by_account t) a all now (map (λ m. record ask { bytes = m }) ms) old mid) cut ran.2 in
+        let longer = AddsFront-more (by_account t) a now (settled rows done now) all (first_asks ask less after) asked old mid new front (Adds-one (by_account t) now (settled rows done now) asked mid new into by_now) in
+        subst (λ (x : Account). AddsFront (by_account t) a all x (first_asks ask less after) old new) (settled_now messages rows a now done ran.1) longer
 
-    pub Quiet-more : (start book later : SeenOf K) (bytes left after message old mid new : List ℕ) (messages : ℕ) (told : Told) (into : SettledInto)
-        → frames left ≡ behind message (frames after) → Quiet start book bytes left old mid messages
+    pub Quiet-more : (start book later : SeenOf K) (most more less : ℕ) (bytes left after message old mid new : List ℕ) (messages : ℕ) (told : Told) (into : SettledInto)
+        → first_messages more left ≡ message ∷ first_messages less after → Quiet start book most more bytes left old mid messages
         → SettlesInto (λ s. Settles krows kfaults access book (record ask { bytes = message }) s later) true mid new into
         → Advances krows kfaults ask.client book told.receipt told.count later → told.receipt ≡ into.receipt → kfaults book.keeper + told.rise ≡ kfaults later.keeper
         → (Rose (kfaults book.keeper) (kfaults later.keeper) → (0 < told.rise) ⊎ (told.mark ≡ true))
         → told.receipt ≡ None → told.rise ≡ 0 → told.mark ≡ false
-        → Quiet start later bytes after old new (messages + 1)
-    Quiet-more start book later bytes left after message old mid new messages told into cut q ok step receipt rise rose no_receipt no_rise no_mark =
+        → Quiet start later most less bytes after old new (messages + 1)
+    Quiet-more start book later most more less bytes left after message old mid new messages told into cut q ok step receipt rise rose no_receipt no_rise no_mark =
         let places : places_of (listed told.receipt) ≡ places_from (book.row_count + 1) told.count = step.places in
         let none : told.count ≡ 0 = none_came (book.row_count + 1) told.count (ap (λ (r : Option Receipt). places_of (listed r)) (sym no_receipt) ∙ places) in
         let step0 = subst (λ (r : Option Receipt). Advances krows kfaults ask.client book r 0 later) no_receipt (subst (λ (n : ℕ). Advances krows kfaults ask.client book told.receipt n later) none step) in
@@ -200,33 +199,33 @@ module _ {K : Type 0} (krows : K → Option (List Row)) (kfaults : K → ℕ) wh
               let batch : done.batch ≡ [] = nil_of done.batch (sym turn.many ∙ none) in (
                 settled rows done a,
                 record { none = λ e. absurd (omega (arith, e)); some = λ l. still rows a done batch no_receipt no_rise no_mark },
-                one_more start book later bytes left after message old mid new messages told into cut q ok step receipt rise rose t rows a terms named begins,
+                one_more start book later most more less bytes left after message old mid new messages told into cut q ok step receipt rise rose t rows a terms named begins,
               );
         }
 
     -- nothing came of all of them
-    pub Quiet-end : (start book : SeenOf K) (bytes left old new : List ℕ) (messages : ℕ) → Quiet start book bytes left old new messages → 0 < messages
+    pub Quiet-end : (start book : SeenOf K) (most more : ℕ) (bytes left old new : List ℕ) (messages : ℕ) → Quiet start book most more bytes left old new messages → 0 < messages
         → (t : Terms) (rows : List Row) (a : Account) → HasTerms t start → NamesRows krows start rows → StartsWith rows a.seen
-        → AddsFront (by_account t) a (asks_in ask bytes) (settled rows (done_by krows ask.client rows book nothing_told) a) (asks_in ask left) old new
-    Quiet-end start book bytes left old new messages q some_did t rows a terms named begins =
+        → AddsFront (by_account t) a (first_asks ask most bytes) (settled rows (done_by krows ask.client rows book nothing_told) a) (first_asks ask more left) old new
+    Quiet-end start book most more bytes left old new messages q some_did t rows a terms named begins =
         let ran = q.ran t rows a terms named begins in
         let done = done_by krows ask.client rows book nothing_told in
         let turn : IsTurn krows kfaults ask.client rows start book nothing_told = turn_of krows kfaults ask.client rows start book nothing_told named q.came in
         let batch : done.batch ≡ [] = nil_of done.batch (sym turn.many) in
-        subst (λ (x : Account). AddsFront (by_account t) a (asks_in ask bytes) x (asks_in ask left) old new) (ran.1.some some_did ∙ sym (still rows a done batch refl refl refl)) ran.2
+        subst (λ (x : Account). AddsFront (by_account t) a (first_asks ask most bytes) x (first_asks ask more left) old new) (ran.1.some some_did ∙ sym (still rows a done batch refl refl refl)) ran.2
 
     -- behind them memory ran out
-    pub Quiet-halts : (start book later : SeenOf K) (bytes left old mid : List ℕ) (messages : ℕ) (told : Told) → Quiet start book bytes left old mid messages
+    pub Quiet-halts : (start book later : SeenOf K) (most more : ℕ) (bytes left old mid : List ℕ) (messages : ℕ) (told : Told) → Quiet start book most more bytes left old mid messages
         → IsLeft krows kfaults book later → told.receipt ≡ None → kfaults book.keeper + told.rise ≡ kfaults later.keeper
         → (t : Terms) (rows : List Row) (a : Account) → HasTerms t start → NamesRows krows start rows → StartsWith rows a.seen
-        → Halts (by_account t) LeftAs a (asks_in ask bytes) (settled rows (done_by krows ask.client rows later told) a)
-    Quiet-halts start book later bytes left old mid messages told q err no_receipt rise t rows a terms named begins =
+        → Halts (by_account t) LeftAs a (first_asks ask most bytes) (settled rows (done_by krows ask.client rows later told) a)
+    Quiet-halts start book later most more bytes left old mid messages told q err no_receipt rise t rows a terms named begins =
         let ran = q.ran t rows a terms named begins in
         let now = ran.0 in
         let done = done_by krows ask.client rows later told in
         let same = err.uncounted in
         let skipped : LeftAs now (settled rows done a) = subst (λ (x : Account). LeftAs now x) (settled_now messages rows a now done ran.1)
         (leaves_one krows kfaults ask.client now rows book later told (begins_now messages rows a now ran.1 begins) no_receipt (omega (arith, same, rise))) in
-        let all : List Ask = asks_in ask bytes in
-        let front = subst (λ (l : List Ask). AddsFront (by_account t) a all now l old mid) (sym (append-nil (asks_in ask left))) ran.2 in
-        AddsFront-halts (by_account t) LeftAs a now (settled rows done a) all (asks_in ask left) [] old mid front (Halts-skips (by_account t) LeftAs now (settled rows done a) (asks_in ask left) skipped)
+        let all : List Ask = first_asks ask most bytes in
+        let front = subst (λ (l : List Ask). AddsFront (by_account t) a all now l old mid) (sym (append-nil (first_asks ask more left))) ran.2 in
+        AddsFront-halts (by_account t) LeftAs a now (settled rows done a) all (first_asks ask more left) [] old mid front (Halts-skips (by_account t) LeftAs now (settled rows done a) (first_asks ask more left) skipped)

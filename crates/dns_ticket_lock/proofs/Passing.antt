@@ -1,7 +1,6 @@
 -- What a run of an account is to its pass.
 use Rattle.std.proofs.Common.{◌≡◌, ℕ, List, Option, map, refl}
 use Rattle.dns_keeper.specs.declared.row.Row.{Row}
-use Rattle.dns_frames.specs.Frames.{frames}
 use Rattle.dns_book.specs.Access.{Access}
 use Rattle.dns_book.specs.declared.ask.Ask.{Ask}
 use Rattle.dns_book.specs.declared.ask.Settled.{Settled}
@@ -9,7 +8,6 @@ use Rattle.dns_server_core.specs.FrameRuns.{Adds, Halts}
 use Rattle.dns_server_core.proofs.LongerRuns.{Adds-map, Halts-map}
 use Rattle.dns_ticket_lock.specs.declared.view.Account.{Account}
 use Rattle.dns_ticket_lock.specs.declared.view.Terms.{Terms}
-use Rattle.dns_ticket_lock.specs.Fronts.{asks_in}
 use Rattle.dns_ticket_lock.specs.Passes.{BookId, PassSeen, SettledBy, LeftBy}
 use Rattle.dns_ticket_lock.specs.Settling.{SettledAs, LeftAs, asked_by}
 use Rattle.dns_ticket_lock.proofs.Turning.{asked_once}
@@ -32,14 +30,14 @@ module _ {K : Type 0} (krows : K → Option (List Row)) (kfaults : K → ℕ) (a
   left_by_pass : (a b : Account) → LeftAs a b → LeftBy (record p { account = a }) (record p { account = b })
   left_by_pass a b s = record { same = record { book = refl; terms = refl; number = refl }; account = s }
 
-  pub passes-adds : (bytes : List ℕ) (a b : Account) (old new : List ℕ) → Adds (SettledAs krows kfaults p.terms access p.number) a (asks_in (asked_by p.number ask) bytes) b old new
-      → Adds (SettledBy krows kfaults access) (record p { account = a }) (map (λ m. record ask { bytes = m }) (frames bytes).messages) (record p { account = b }) old new
-  passes-adds bytes a b old new r =
+  pub passes-adds : (ms : List (List ℕ)) (a b : Account) (old new : List ℕ) → Adds (SettledAs krows kfaults p.terms access p.number) a (map (λ m. record (asked_by p.number ask) { bytes = m }) ms) b old new
+      → Adds (SettledBy krows kfaults access) (record p { account = a }) (map (λ m. record ask { bytes = m }) ms) (record p { account = b }) old new
+  passes-adds ms a b old new r =
       Adds-map (SettledAs krows kfaults p.terms access p.number) (SettledBy krows kfaults access) (λ x. record p { account = x }) (λ m. record (asked_by p.number ask) { bytes = m }) (λ m. record ask { bytes = m })
-      by_pass (frames bytes).messages a b old new r
+      by_pass ms a b old new r
 
-  pub passes-halts : (bytes : List ℕ) (a b : Account) → Halts (SettledAs krows kfaults p.terms access p.number) LeftAs a (asks_in (asked_by p.number ask) bytes) b
-      → Halts (SettledBy krows kfaults access) LeftBy (record p { account = a }) (map (λ m. record ask { bytes = m }) (frames bytes).messages) (record p { account = b })
-  passes-halts bytes a b r =
+  pub passes-halts : (ms : List (List ℕ)) (a b : Account) → Halts (SettledAs krows kfaults p.terms access p.number) LeftAs a (map (λ m. record (asked_by p.number ask) { bytes = m }) ms) b
+      → Halts (SettledBy krows kfaults access) LeftBy (record p { account = a }) (map (λ m. record ask { bytes = m }) ms) (record p { account = b })
+  passes-halts ms a b r =
       Halts-map (SettledAs krows kfaults p.terms access p.number) LeftAs (SettledBy krows kfaults access) LeftBy (λ x. record p { account = x }) (λ m. record (asked_by p.number ask) { bytes = m }) (λ m. record ask { bytes = m })
-      by_pass left_by_pass (frames bytes).messages a b r
+      by_pass left_by_pass ms a b r

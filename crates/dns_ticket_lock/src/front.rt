@@ -1,18 +1,17 @@
 //! Messages of a connection that are settled in one turn, so that threads which have many to settle do not hand the book to and fro for
 //! each.
 
-ghost use Rattle.std.specs.Prelude.{◌≡◌, ℕ, ◌+◌, ◌*◌, ◌<◌, ◌≤◌, ◌^◌, ◌⊎◌, ◌||◌, true, false, None, [], List, length, map, slice_set, IfOk, IfSome, OnOk, OnErr};
+ghost use Rattle.std.specs.Prelude.{◌≡◌, ℕ, ◌+◌, ◌-◌, ◌*◌, ◌<◌, ◌≤◌, ◌^◌, ◌⊎◌, ◌||◌, true, false, None, [], List, length, slice_set, IfOk, IfSome, OnOk, OnErr};
 ghost use mathlib.Core.Option.{some};
 ghost use lib.ListN.{get_elem?};
 ghost use Rattle.dns_io.specs.Told.{Rose};
 ghost use Rattle.dns_keeper.specs.declared.row.Row.{Row};
 ghost use Rattle.dns_book.specs.Into.{SettlesInto};
 ghost use Rattle.dns_book.specs.Book.{Settles, IsLeft};
-ghost use Rattle.dns_frames.specs.Frames.{frames};
-ghost use Rattle.dns_server_core.specs.FrameRuns.{Adds, AddsFront, Halts};
+ghost use Rattle.dns_server_core.specs.FrameRuns.{Adds, AddsFront, Halts, behind_first, first_asks, first_messages};
 ghost use Rattle.dns_ticket_lock.specs.declared.view.Account.{Account};
 ghost use Rattle.dns_ticket_lock.specs.declared.view.Terms.{Terms};
-ghost use Rattle.dns_ticket_lock.specs.Fronts.{asks_in, nothing_told};
+ghost use Rattle.dns_ticket_lock.specs.Fronts.{nothing_told};
 ghost use Rattle.dns_ticket_lock.specs.Lists.{StartsWith};
 ghost use Rattle.dns_ticket_lock.specs.Naming.{Advances, NamesRows};
 ghost use Rattle.dns_ticket_lock.specs.Passes.{SettledBy, LeftBy};
@@ -27,10 +26,9 @@ use crate::turns::{begin_turn, end_turn};
 use crate::view::View;
 use atomic_table::{Badge, Seat};
 use dns_book::{AccessControl, Ask, Book, SettledInto};
-use dns_frames::first_frame;
 use dns_io::OutOfMemory;
 use dns_keeper::Keeper;
-use dns_server_core::{Answered, refill};
+use dns_server_core::{Answered, next_frame, refill};
 use std::alloc::Global;
 use std::mem;
 use std::sync::Wait;
@@ -57,12 +55,13 @@ fn nothing_told() -> Told
     }
 }
 
-/// Whether a turn goes on behind so many messages, of which this is told of the last: it has not had the most, and nothing was done to the
-/// rows and no fault counted.
-fn goes_on(messages: u64, told: &Told) -> bool
-    ensures { result ≡ true → (told.now.receipt ≡ None) × (told.now.rise ≡ 0) × (told.now.mark ≡ false) }
+/// Whether a turn goes on behind so many messages, of which this is told of the last: it has not had the most that it may have, and nothing
+/// was done to the rows and no fault counted.
+fn goes_on(messages: u64, most: u64, told: &Told) -> bool
+    ensures nothing { result ≡ true → (told.now.receipt ≡ None) × (told.now.rise ≡ 0) × (told.now.mark ≡ false) }
+    ensures more { result ≡ true → (messages < most) × (messages < 64) }
 {
-    messages < MOST && told.receipt.is_none() && told.rise == 0 && !told.mark
+    messages < most && messages < MOST && told.receipt.is_none() && told.rise == 0 && !told.mark
 }
 
 /// Settles a message by the book, as `ask`, in whose buffer it is put.
@@ -91,25 +90,27 @@ fn settle_next<K: Keeper>(
     settle_book(book, access, &*ask, replies, true)
 }
 
-/// Settles messages at the front of these bytes by the book, at least one: up to the first that adds rows or counts a fault, and no more than
-/// a turn may have. Tells what the last of them did.
+/// Settles messages at the front of these bytes by the book, at least one: up to the first that adds rows or counts a fault, no more than a
+/// turn may have, and at most so many. Tells what the last of them did.
 fn settle_front<'a, K: Keeper>(
     book: &mut Book<K>,
     alloc: Global,
     access: &AccessControl,
     ask: &mut Ask,
     bytes: &'a [u8],
+    most: u64,
     replies: &mut Vec<u8>,
 ) -> (Result<Front<'a>, OutOfMemory>, Told)
     requires moment { ask.old.at < 2 ^ 47 }
-    requires some { 0 < length (frames bytes.now).messages }
+    requires some { 0 < length (first_messages most bytes.now) }
     ensures ok { IfOk result.0 (λ f. (t : Terms) (rows : List Row) (a : Account) → HasTerms t book.old → NamesRows K.rows book.old rows → StartsWith rows a.seen
-        → AddsFront (SettledAs K.rows K.faults t access.now ask.old.client) a (asks_in ask.old bytes.now) (settled rows (done_by K.rows ask.old.client rows book.new result.1) a) (asks_in ask.old f.left.now) replies.old.items replies.new.items) }
+        → AddsFront (SettledAs K.rows K.faults t access.now ask.old.client) a (first_asks ask.old most bytes.now) (settled rows (done_by K.rows ask.old.client rows book.new result.1) a) (first_asks ask.old (most - f.messages) f.left.now) replies.old.items replies.new.items) }
     ensures err { OnErr result.0 ((t : Terms) (rows : List Row) (a : Account) → HasTerms t book.old → NamesRows K.rows book.old rows → StartsWith rows a.seen
-        → Halts (SettledAs K.rows K.faults t access.now ask.old.client) LeftAs a (asks_in ask.old bytes.now) (settled rows (done_by K.rows ask.old.client rows book.new result.1) a)) }
+        → Halts (SettledAs K.rows K.faults t access.now ask.old.client) LeftAs a (first_asks ask.old most bytes.now) (settled rows (done_by K.rows ask.old.client rows book.new result.1) a)) }
     ensures some { IfOk result.0 (λ f. 0 < f.messages) }
-    ensures count { IfOk result.0 (λ f. f.messages + length (frames f.left.now).messages ≡ length (frames bytes.now).messages) }
-    ensures rest { IfOk result.0 (λ f. (frames f.left.now).rest ≡ (frames bytes.now).rest) }
+    ensures few { IfOk result.0 (λ f. (f.messages ≤ most) × (f.messages ≤ 64)) }
+    ensures count { IfOk result.0 (λ f. f.messages + length (first_messages (most - f.messages) f.left.now) ≡ length (first_messages most bytes.now)) }
+    ensures behind { IfOk result.0 (λ f. behind_first (most - f.messages) f.left.now ≡ behind_first most bytes.now) }
     ensures shorter { IfOk result.0 (λ f. 2 * f.messages + length f.left.now ≤ length bytes.now) }
     ensures advances { Advances K.rows K.faults ask.old.client book.old result.1.receipt result.1.count book.new }
     ensures rise { K.faults book.old.keeper + result.1.rise ≡ K.faults book.new.keeper }
@@ -118,14 +119,14 @@ fn settle_front<'a, K: Keeper>(
 {
     let mut left = bytes;
     let mut messages = 0;
-    while let Some((message, after)) = first_frame(left) {
+    while let Some((message, after)) = next_frame(left, most - messages) {
         let (answer, told) = settle_next(book, alloc, access, ask, message, replies);
         let Ok(_settled) = answer else {
             return (Err(OutOfMemory), told);
         };
         left = after;
         messages += 1;
-        if !goes_on(messages, &told) {
+        if !goes_on(messages, most, &told) {
             return (Ok(Front { messages, left }), told);
         }
     }
@@ -140,25 +141,27 @@ fn settle_held_front<'a, K: Keeper>(
     access: &AccessControl,
     ask: &mut Ask,
     bytes: &'a [u8],
+    most: u64,
     replies: &mut Vec<u8>,
 ) -> (Result<Front<'a>, OutOfMemory>, Told)
     requires moment { ask.old.at < 2 ^ 47 }
-    requires some { 0 < length (frames bytes.now).messages }
+    requires some { 0 < length (first_messages most bytes.now) }
     requires low { low < length held.old.members.items }
     ensures ok { IfOk result.0 (λ f. (t : Terms) (rows : List Row) (a : Account) → HasTerms t held.old.book → NamesRows K.rows held.old.book rows → StartsWith rows a.seen
-        → AddsFront (SettledAs K.rows K.faults t access.now ask.old.client) a (asks_in ask.old bytes.now) (settled rows (done_by K.rows ask.old.client rows held.new.book result.1) a) (asks_in ask.old f.left.now) replies.old.items replies.new.items) }
+        → AddsFront (SettledAs K.rows K.faults t access.now ask.old.client) a (first_asks ask.old most bytes.now) (settled rows (done_by K.rows ask.old.client rows held.new.book result.1) a) (first_asks ask.old (most - f.messages) f.left.now) replies.old.items replies.new.items) }
     ensures err { OnErr result.0 ((t : Terms) (rows : List Row) (a : Account) → HasTerms t held.old.book → NamesRows K.rows held.old.book rows → StartsWith rows a.seen
-        → Halts (SettledAs K.rows K.faults t access.now ask.old.client) LeftAs a (asks_in ask.old bytes.now) (settled rows (done_by K.rows ask.old.client rows held.new.book result.1) a)) }
+        → Halts (SettledAs K.rows K.faults t access.now ask.old.client) LeftAs a (first_asks ask.old most bytes.now) (settled rows (done_by K.rows ask.old.client rows held.new.book result.1) a)) }
     ensures some { IfOk result.0 (λ f. 0 < f.messages) }
-    ensures count { IfOk result.0 (λ f. f.messages + length (frames f.left.now).messages ≡ length (frames bytes.now).messages) }
-    ensures rest { IfOk result.0 (λ f. (frames f.left.now).rest ≡ (frames bytes.now).rest) }
+    ensures few { IfOk result.0 (λ f. (f.messages ≤ most) × (f.messages ≤ 64)) }
+    ensures count { IfOk result.0 (λ f. f.messages + length (first_messages (most - f.messages) f.left.now) ≡ length (first_messages most bytes.now)) }
+    ensures behind { IfOk result.0 (λ f. behind_first (most - f.messages) f.left.now ≡ behind_first most bytes.now) }
     ensures shorter { IfOk result.0 (λ f. 2 * f.messages + length f.left.now ≤ length bytes.now) }
     ensures advances { Advances K.rows K.faults ask.old.client held.old.book result.1.receipt result.1.count held.new.book }
     ensures members { (m : _) → get_elem? held.old.members.items low ≡ some m → held.new.members.items ≡ slice_set held.old.members.items low (record { share = m.share + result.1.rise; mark = m.mark || result.1.mark }) }
     ensures start { held.new.start ≡ held.old.start }
     ensures ask { ask.new ≡ record ask.old { bytes = ask.new.bytes } }
 {
-    let (answer, told) = settle_front(&mut held.book, alloc, access, ask, bytes, replies);
+    let (answer, told) = settle_front(&mut held.book, alloc, access, ask, bytes, most, replies);
     let _faults = held.book.fault_count();
     let member = held.members[low];
     held.members[low] = member_after(member, told.rise, told.mark);
@@ -174,35 +177,46 @@ fn settle_turn<'a, K: Keeper, R: Wait>(
     access: &AccessControl,
     ask: &mut Ask,
     bytes: &'a [u8],
+    most: u64,
     replies: &mut Vec<u8>,
 ) -> (Result<Front<'a>, OutOfMemory>, u64)
     requires board { (board.now.table_id.words ≡ 3) × (board.now.table_id.slots ≡ 1) × (seat.old.table_id ≡ board.now.table_id) }
     requires idle { (seat.old.me.1 ≡ []) × (seat.old.me.0.phase ≡ 0) × (length seat.old.me.0.accounts ≡ 1) }
     requires number { ask.old.client ≡ seat.old.me.0.low + 1 }
     requires moment { ask.old.at < 2 ^ 47 }
-    requires some { 0 < length (frames bytes.now).messages }
+    requires some { 0 < length (first_messages most bytes.now) }
     ensures same { seat.new.table_id ≡ seat.old.table_id }
     ensures idle { (seat.new.me.1 ≡ []) × (seat.new.me.0.phase ≡ 0) × (length seat.new.me.0.accounts ≡ 1) }
     ensures low { (seat.new.me.0.low ≡ seat.old.me.0.low) × (seat.new.me.0.terms ≡ seat.old.me.0.terms) }
     ensures seen { length (own seat.new.me.0.accounts).seen ≡ result.1 }
-    ensures ok { IfOk result.0 (λ f. AddsFront (SettledAs K.rows K.faults seat.old.me.0.terms access.now ask.old.client) (own seat.old.me.0.accounts) (asks_in ask.old bytes.now) (own seat.new.me.0.accounts) (asks_in ask.old f.left.now) replies.old.items replies.new.items) }
-    ensures err { OnErr result.0 (Halts (SettledAs K.rows K.faults seat.old.me.0.terms access.now ask.old.client) LeftAs (own seat.old.me.0.accounts) (asks_in ask.old bytes.now) (own seat.new.me.0.accounts)) }
+    ensures ok { IfOk result.0 (λ f. AddsFront (SettledAs K.rows K.faults seat.old.me.0.terms access.now ask.old.client) (own seat.old.me.0.accounts) (first_asks ask.old most bytes.now) (own seat.new.me.0.accounts) (first_asks ask.old (most - f.messages) f.left.now) replies.old.items replies.new.items) }
+    ensures err { OnErr result.0 (Halts (SettledAs K.rows K.faults seat.old.me.0.terms access.now ask.old.client) LeftAs (own seat.old.me.0.accounts) (first_asks ask.old most bytes.now) (own seat.new.me.0.accounts)) }
     ensures some { IfOk result.0 (λ f. 0 < f.messages) }
-    ensures count { IfOk result.0 (λ f. f.messages + length (frames f.left.now).messages ≡ length (frames bytes.now).messages) }
-    ensures rest { IfOk result.0 (λ f. (frames f.left.now).rest ≡ (frames bytes.now).rest) }
+    ensures few { IfOk result.0 (λ f. (f.messages ≤ most) × (f.messages ≤ 64)) }
+    ensures count { IfOk result.0 (λ f. f.messages + length (first_messages (most - f.messages) f.left.now) ≡ length (first_messages most bytes.now)) }
+    ensures behind { IfOk result.0 (λ f. behind_first (most - f.messages) f.left.now ≡ behind_first most bytes.now) }
     ensures shorter { IfOk result.0 (λ f. 2 * f.messages + length f.left.now ≤ length bytes.now) }
     ensures ask { ask.new ≡ record ask.old { bytes = ask.new.bytes } }
 {
     let low = ask.client as usize - 1;
     let mut held = begin_turn(rt, board, seat);
-    let (answer, told) = settle_held_front(held.as_mut(), low, alloc, access, ask, bytes, replies);
+    let (answer, told) = settle_held_front(
+        held.as_mut(),
+        low,
+        alloc,
+        access,
+        ask,
+        bytes,
+        most,
+        replies,
+    );
     let rows = held.book.journal_len();
     end_turn(board, seat, held, &told);
     (answer, rows)
 }
 
-/// As many turns of a seat with one account as the whole messages at the front of these bytes take. `seen` is how many rows the account has
-/// seen.
+/// As many turns of a seat with one account as the whole messages at the front of these bytes take, at most so many. `seen` is how many rows
+/// the account has seen.
 fn settle_turns<K: Keeper, R: Wait>(
     rt: &R,
     board: &Board<Box<Held<K>>>,
@@ -212,6 +226,7 @@ fn settle_turns<K: Keeper, R: Wait>(
     access: &AccessControl,
     ask: &mut Ask,
     bytes: &[u8],
+    most: u64,
     replies: &mut Vec<u8>,
 ) -> Result<Answered, OutOfMemory>
     requires board { (board.now.table_id.words ≡ 3) × (board.now.table_id.slots ≡ 1) × (seat.old.table_id ≡ board.now.table_id) }
@@ -223,17 +238,18 @@ fn settle_turns<K: Keeper, R: Wait>(
     ensures idle { (seat.new.me.1 ≡ []) × (seat.new.me.0.phase ≡ 0) × (length seat.new.me.0.accounts ≡ 1) }
     ensures low { (seat.new.me.0.low ≡ seat.old.me.0.low) × (seat.new.me.0.terms ≡ seat.old.me.0.terms) }
     ensures seen { length (own seat.new.me.0.accounts).seen ≡ seen.new }
-    ensures ok { OnOk result (Adds (SettledAs K.rows K.faults seat.old.me.0.terms access.now ask.old.client) (own seat.old.me.0.accounts) (asks_in ask.old bytes.now) (own seat.new.me.0.accounts) replies.old.items replies.new.items) }
-    ensures err { OnErr result (Halts (SettledAs K.rows K.faults seat.old.me.0.terms access.now ask.old.client) LeftAs (own seat.old.me.0.accounts) (asks_in ask.old bytes.now) (own seat.new.me.0.accounts)) }
-    ensures count { IfOk result (λ a. a.messages ≡ length (frames bytes.now).messages) }
-    ensures rest { IfOk result (λ a. a.rest ≡ length (frames bytes.now).rest) }
+    ensures ok { OnOk result (Adds (SettledAs K.rows K.faults seat.old.me.0.terms access.now ask.old.client) (own seat.old.me.0.accounts) (first_asks ask.old most bytes.now) (own seat.new.me.0.accounts) replies.old.items replies.new.items) }
+    ensures err { OnErr result (Halts (SettledAs K.rows K.faults seat.old.me.0.terms access.now ask.old.client) LeftAs (own seat.old.me.0.accounts) (first_asks ask.old most bytes.now) (own seat.new.me.0.accounts)) }
+    ensures count { IfOk result (λ a. a.messages ≡ length (first_messages most bytes.now)) }
+    ensures rest { IfOk result (λ a. a.rest ≡ length (behind_first most bytes.now)) }
     ensures shorter { IfOk result (λ a. 2 * a.messages + a.rest ≤ length bytes.now) }
     ensures ask { ask.new ≡ record ask.old { bytes = ask.new.bytes } }
 {
     let mut left = bytes;
     let mut messages = 0;
-    while let Some((_message, _after)) = first_frame(left) {
-        let (answer, rows) = settle_turn(rt, board, seat, alloc, access, ask, left, replies);
+    while let Some((_message, _after)) = next_frame(left, most - messages) {
+        let more = most - messages;
+        let (answer, rows) = settle_turn(rt, board, seat, alloc, access, ask, left, more, replies);
         *seen = rows;
         let front = answer?;
         left = front.left;
@@ -246,11 +262,11 @@ fn settle_turns<K: Keeper, R: Wait>(
 }
 
 impl<K: Keeper> TicketBook<K> {
-    /// Settles, in order, the whole messages at the front of what came over a connection, each behind its length, as
+    /// Settles, in order, the whole messages at the front of what came over a connection, at most so many, each behind its length, as
     /// [`TicketBook::settle_into`] does each, and adds the replies that they are owed, each behind its length. Each is asked as `ask`, whose
     /// buffer is used for one after the other.
     ///
-    /// One turn serves several of them, up to one that adds rows or counts a fault.
+    /// One turn serves several of them, 64 at most, up to one that adds rows or counts a fault.
     pub fn settle_frames<R: Wait>(
         &self,
         rt: &R,
@@ -259,16 +275,17 @@ impl<K: Keeper> TicketBook<K> {
         access: &AccessControl,
         ask: &mut Ask,
         bytes: &[u8],
+        most: u64,
         replies: &mut Vec<u8>,
     ) -> Result<Answered, OutOfMemory>
         requires pass { pass.old.book ≡ self.now.id }
         requires moment { ask.old.at < 2 ^ 47 }
         ensures book { pass.new.book ≡ pass.old.book }
-        ensures ok { OnOk result (Adds (SettledBy K.rows K.faults access.now) pass.old (map (λ m. record ask.old { bytes = m }) (frames bytes.now).messages) pass.new replies.old.items replies.new.items) }
-        ensures count { IfOk result (λ a. a.messages ≡ length (frames bytes.now).messages) }
-        ensures rest { IfOk result (λ a. a.rest ≡ length (frames bytes.now).rest) }
+        ensures ok { OnOk result (Adds (SettledBy K.rows K.faults access.now) pass.old (first_asks ask.old most bytes.now) pass.new replies.old.items replies.new.items) }
+        ensures count { IfOk result (λ a. a.messages ≡ length (first_messages most bytes.now)) }
+        ensures rest { IfOk result (λ a. a.rest ≡ length (behind_first most bytes.now)) }
         ensures shorter { IfOk result (λ a. 2 * a.messages + a.rest ≤ length bytes.now) }
-        ensures err { OnErr result (Halts (SettledBy K.rows K.faults access.now) LeftBy pass.old (map (λ m. record ask.old { bytes = m }) (frames bytes.now).messages) pass.new) }
+        ensures err { OnErr result (Halts (SettledBy K.rows K.faults access.now) LeftBy pass.old (first_asks ask.old most bytes.now) pass.new) }
         ensures ask { ask.new ≡ record ask.old { bytes = ask.new.bytes } }
     {
         let client = mem::replace(&mut ask.client, pass.number);
@@ -284,6 +301,7 @@ impl<K: Keeper> TicketBook<K> {
             access,
             ask,
             bytes,
+            most,
             replies,
         );
         pass.badge = seat.into_badge();

@@ -86,8 +86,18 @@ impl<'a, K: Keeper, R: Wait> RequestHandler for Seated<'a, K, R> {
         access: &AccessControl,
         ask: &mut Ask,
         bytes: &[u8],
+        most: u64,
         replies: &mut Vec<u8>,
     ) -> Result<Answered, OutOfMemory> {
-        self.book.settle_frames(self.rt, &mut self.pass, alloc, access, ask, bytes, replies)
+        self.book.settle_frames(
+            self.rt,
+            &mut self.pass,
+            alloc,
+            access,
+            ask,
+            bytes,
+            most,
+            replies,
+        )
     }
 }

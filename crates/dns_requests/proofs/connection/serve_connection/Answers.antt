@@ -1,14 +1,19 @@
 -- From read to read, and how it ends.
-use Rattle.std.proofs.Common.{◌∙◌, ◌+◌, ◌≤◌, ℕ, List, length, map, refl, sym, ap, subst, arith, length-append}
+use Rattle.std.proofs.Common.{◌≡◌, ◌≢◌, ◌∙◌, ◌+◌, ◌≤◌, ℕ, List, length, map, take, refl, sym, ap, subst, arith, length-append}
+use Rattle.std.proofs.lemmas.List.{length-take-le}
 use Rattle.std.proofs.lemmas.Result.{err_from_is_err_and}
 use Rattle.dns_io.proofs.ToldContents.{Keeps-same, Keeps-more}
 use Rattle.dns_io.specs.declared.peer.Protocol.TheVariants.{Tcp}
 use Rattle.dns_book.specs.declared.ask.Ask.{Ask}
 use Rattle.dns_frames.specs.Frames.{frames}
+use Rattle.dns_requests.specs.Arrivals.{ask_at, opened}
 use Rattle.dns_requests.specs.Ends.{Parts, Terms}
+use Rattle.dns_server_core.specs.Connections.{Connection}
 use Rattle.dns_server_core.specs.FrameRuns.{Adds, Halts}
+use Rattle.dns_server_core.specs.Steps.{with_piece}
+use Rattle.dns_server_core.proofs.LongerRuns.{Halts-none}
 use Rattle.dns_requests.proofs.MoreArrivals.{ask_stays}
-use Rattle.dns_requests.proofs.Going.{Going, Going-begun, Heard-more, Heard-answered, base_when, ends_answering, ends_cut_off, ends_late, ends_reading, ends_served, ends_writing}
+use Rattle.dns_requests.proofs.Going.{Going, Going-begun, Heard-more, Heard-answered, ends_answering, ends_cut_off, ends_late, ends_reading, ends_served, ends_writing}
 use Rattle.dns_requests.proofs.connection.serve_connection.Goals as goal
 
 pub loop-turn-init : goal.loop-turn-init
@@ -16,10 +21,10 @@ loop-turn-init g c =
     let before : Parts g.row.T.Denot g.row.R.Denot g.row.W.Denot g.row.C.Denot = record { handler = c.args.handler.now; source = c.args.source.now; sink = c.args.sink.now; clock = c.args.clock.now } in
     let terms : Terms = record { peer = c.args.peer; limit = c.args.limit; reads = c.args.reads } in
     record {
-      going = subst (λ (u : List ℕ). Going (g.T.RequestHandler.serves c.args.access.now) g.T.RequestHandler.skips g.R.Source.source g.W.Sink.sink g.C.Clock.clock terms before
-          (record { handler = c.args.handler.now; source = c.args.source.now; sink = c.args.sink.now; clock = c.now-base.new.self }) 0 c.now-base.result u 0)
-          (sym c.new-unread.ensures.items)
-          (Going-begun (g.T.RequestHandler.serves c.args.access.now) g.T.RequestHandler.skips g.R.Source.source g.W.Sink.sink g.C.Clock.clock terms before c.now-base.new.self c.now-base.result c.now-base.ensures.next);
+      going = subst (λ (k : Connection). Going (g.T.RequestHandler.serves c.args.access.now) g.T.RequestHandler.skips g.R.Source.source g.W.Sink.sink g.C.Clock.clock terms before
+          (record { handler = c.args.handler.now; source = c.args.source.now; sink = c.args.sink.now; clock = c.now-began.new.self }) 0 k 0)
+          (sym c.open-session.ensures)
+          (Going-begun (g.T.RequestHandler.serves c.args.access.now) g.T.RequestHandler.skips g.R.Source.source g.W.Sink.sink g.C.Clock.clock terms before c.now-began.new.self c.now-began.result c.now-began.ensures.next);
       ask = refl;
       written = c.new-replies.ensures.items;
       unflushed = Keeps-same _;
@@ -30,20 +35,47 @@ returns-in_err-count-clause-ends g c =
     let now : Parts g.row.T.Denot g.row.R.Denot g.row.W.Denot g.row.C.Denot = record { handler = c.loop-turn.handler; source = c.loop-turn.source; sink = c.loop-turn.sink; clock = c.loop-turn.clock } in
     let p = err_from_is_err_and c.from_residual.result c.from_residual.ensures.1 in
     rw (p.1, p.2)
-    (ends_reading _ _ _ _ _ _ _ now c.loop-turn._turn c.loop-turn.base c.loop-turn.unread.items c.loop-turn.taken c.receive.new.source c.in_err-count.field-0.0
+    (ends_reading _ _ _ _ _ _ _ now c.loop-turn._turn c.loop-turn.session c.loop-turn.taken c.receive.new.source c.in_err-count.field-0.0
     c.loop-turn.invariant.going c.loop-turn-test.true c.in_err-count.ensures.kept c.in_err-count.ensures.err)
 
 pub returns-then-count-eq0-clause-ends : goal.returns-then-count-eq0-clause-ends
 returns-then-count-eq0-clause-ends g c =
     let now : Parts g.row.T.Denot g.row.R.Denot g.row.W.Denot g.row.C.Denot = record { handler = c.loop-turn.handler; source = c.loop-turn.source; sink = c.loop-turn.sink; clock = c.loop-turn.clock } in
-    ends_served _ _ _ _ _ _ _ now c.loop-turn._turn c.loop-turn.base c.loop-turn.unread.items c.receive.new.unread.items c.loop-turn.taken c.in_ok-count.count c.receive.new.source
-    c.loop-turn.invariant.going c.loop-turn-test.true c.in_ok-count.ensures.ok c.if-count-eq0.true
+    let piece = take c.in_ok-count.count c.receive.new.room in
+    let size : length piece ≡ c.in_ok-count.count = length-take-le c.in_ok-count.count c.receive.new.room c.in_ok-count.ensures.count in
+    ends_served _ _ _ _ _ _ _ now c.loop-turn._turn c.loop-turn.session c.loop-turn.taken c.receive.new.source piece
+    c.loop-turn.invariant.going c.loop-turn-test.true c.in_ok-count.ensures.ok (size ∙ c.if-count-eq0.true)
 
-pub returns-then-not-is_within-clause-ends : goal.returns-then-not-is_within-clause-ends
-returns-then-not-is_within-clause-ends g c =
+pub returns-in_err-heard-clause-ends : goal.returns-in_err-heard-clause-ends
+returns-in_err-heard-clause-ends g c =
+    let serves = g.T.RequestHandler.serves c.args.access.now in
     let now : Parts g.row.T.Denot g.row.R.Denot g.row.W.Denot g.row.C.Denot = record { handler = c.loop-turn.handler; source = c.loop-turn.source; sink = c.loop-turn.sink; clock = c.loop-turn.clock } in
-    ends_late _ _ _ _ _ _ _ now c.loop-turn._turn c.loop-turn.base c.loop-turn.unread.items c.receive.new.unread.items c.loop-turn.taken c.in_ok-count.count c.receive.new.source c.now-at.new.self c.now-at.result
-    c.loop-turn.invariant.going c.loop-turn-test.true c.in_ok-count.ensures.ok c.if-count-eq0.false c.now-at.ensures.next (sym c.is_within.ensures ∙ c.if-not-is_within.true)
+    let before : Parts g.row.T.Denot g.row.R.Denot g.row.W.Denot g.row.C.Denot = record { handler = c.args.handler.now; source = c.args.source.now; sink = c.args.sink.now; clock = c.args.clock.now } in
+    let terms : Terms = record { peer = c.args.peer; limit = c.args.limit; reads = c.args.reads } in
+    let at = c.now-at.result in
+    let piece = take c.in_ok-count.count c.receive.new.room in
+    let size : length piece ≡ c.in_ok-count.count = length-take-le c.in_ok-count.count c.receive.new.room c.in_ok-count.ensures.count in
+    let some : length piece ≢ 0 = subst (λ (n : ℕ). n ≢ 0) (sym size) c.if-count-eq0.false in
+    let new = with_piece c.loop-turn.session piece in
+    let p = err_from_is_err_and c.from_residual-in_err-heard.result c.from_residual-in_err-heard.ensures.1 in
+    let heard = Heard-more serves g.T.RequestHandler.skips g.R.Source.source g.W.Sink.sink g.C.Clock.clock terms before now c.loop-turn._turn c.loop-turn.session c.loop-turn.taken c.receive.new.source c.now-at.new.self at piece new
+    c.loop-turn.invariant.going c.in_ok-count.ensures.ok some c.now-at.ensures.next (c.in_err-heard.ensures.timely, refl) in
+    rw (p.1, p.2)
+    (ends_answering serves g.T.RequestHandler.skips g.R.Source.source g.W.Sink.sink g.C.Clock.clock terms before now c.loop-turn._turn c.loop-turn.session c.loop-turn.taken
+    c.receive.new.source c.now-at.new.self at new c.loop-turn.handler heard c.loop-turn-test.true (Halts-none serves g.T.RequestHandler.skips c.loop-turn.handler _))
+
+pub returns-in-Late-clause-ends : goal.returns-in-Late-clause-ends
+returns-in-Late-clause-ends g c =
+    let serves = g.T.RequestHandler.serves c.args.access.now in
+    let now : Parts g.row.T.Denot g.row.R.Denot g.row.W.Denot g.row.C.Denot = record { handler = c.loop-turn.handler; source = c.loop-turn.source; sink = c.loop-turn.sink; clock = c.loop-turn.clock } in
+    let before : Parts g.row.T.Denot g.row.R.Denot g.row.W.Denot g.row.C.Denot = record { handler = c.args.handler.now; source = c.args.source.now; sink = c.args.sink.now; clock = c.args.clock.now } in
+    let terms : Terms = record { peer = c.args.peer; limit = c.args.limit; reads = c.args.reads } in
+    let at = c.now-at.result in
+    let piece = take c.in_ok-count.count c.receive.new.room in
+    let size : length piece ≡ c.in_ok-count.count = length-take-le c.in_ok-count.count c.receive.new.room c.in_ok-count.ensures.count in
+    let some : length piece ≢ 0 = subst (λ (n : ℕ). n ≢ 0) (sym size) c.if-count-eq0.false in
+    ends_late _ _ _ _ _ _ _ now c.loop-turn._turn c.loop-turn.session c.hear.new.self c.loop-turn.taken c.receive.new.source c.now-at.new.self at c.in-Late.since piece
+    c.loop-turn.invariant.going c.loop-turn-test.true c.in_ok-count.ensures.ok some c.now-at.ensures.next (rw c.in-Late.is at c.in_ok-heard.ensures.ok)
 
 pub returns-in_err-messages-clause-ends : goal.returns-in_err-messages-clause-ends
 returns-in_err-messages-clause-ends g c =
@@ -52,13 +84,16 @@ returns-in_err-messages-clause-ends g c =
     let before : Parts g.row.T.Denot g.row.R.Denot g.row.W.Denot g.row.C.Denot = record { handler = c.args.handler.now; source = c.args.source.now; sink = c.args.sink.now; clock = c.args.clock.now } in
     let terms : Terms = record { peer = c.args.peer; limit = c.args.limit; reads = c.args.reads } in
     let at = c.now-at.result in
-    let new = c.receive.new.unread.items in
+    let piece = take c.in_ok-count.count c.receive.new.room in
+    let size : length piece ≡ c.in_ok-count.count = length-take-le c.in_ok-count.count c.receive.new.room c.in_ok-count.ensures.count in
+    let some : length piece ≢ 0 = subst (λ (n : ℕ). n ≢ 0) (sym size) c.if-count-eq0.false in
+    let new = c.hear.new.self in
     let p = err_from_is_err_and c.from_residual-in_err-messages.result c.from_residual-in_err-messages.ensures.1 in
-    let heard = Heard-more serves g.T.RequestHandler.skips g.R.Source.source g.W.Sink.sink g.C.Clock.clock terms before now c.loop-turn._turn c.loop-turn.base c.loop-turn.unread.items c.loop-turn.taken
-    c.receive.new.source c.now-at.new.self at new c.in_ok-count.count c.loop-turn.invariant.going c.in_ok-count.ensures.ok c.if-count-eq0.false c.now-at.ensures.next (sym c.is_within.ensures ∙ c.if-not-is_within.false) in
-    let halts = subst (λ (x : Ask). Halts serves g.T.RequestHandler.skips c.loop-turn.handler (map (λ (m : List ℕ). record x { at = at; bytes = m }) (frames new).messages) c.answer.new.handler) c.loop-turn.invariant.ask c.in_err-messages.ensures.err in
+    let heard = Heard-more serves g.T.RequestHandler.skips g.R.Source.source g.W.Sink.sink g.C.Clock.clock terms before now c.loop-turn._turn c.loop-turn.session c.loop-turn.taken c.receive.new.source c.now-at.new.self at piece c.hear.new.self
+    c.loop-turn.invariant.going c.in_ok-count.ensures.ok some c.now-at.ensures.next (rw c.in-InTime.is at c.in_ok-heard.ensures.ok) in
+    let halts = subst (λ (x : Ask). Halts serves g.T.RequestHandler.skips c.loop-turn.handler (map (λ (m : List ℕ). record x { at = at; bytes = m }) (frames new.rest).messages) c.answer.new.handler) c.loop-turn.invariant.ask c.in_err-messages.ensures.err in
     rw (p.1, p.2)
-    (ends_answering serves g.T.RequestHandler.skips g.R.Source.source g.W.Sink.sink g.C.Clock.clock terms before now c.loop-turn._turn c.loop-turn.base c.loop-turn.unread.items c.loop-turn.taken
+    (ends_answering serves g.T.RequestHandler.skips g.R.Source.source g.W.Sink.sink g.C.Clock.clock terms before now c.loop-turn._turn c.loop-turn.session c.loop-turn.taken
     c.receive.new.source c.now-at.new.self at new c.answer.new.handler heard c.loop-turn-test.true halts)
 
 pub returns-in_err-send-clause-ends : goal.returns-in_err-send-clause-ends
@@ -68,28 +103,30 @@ returns-in_err-send-clause-ends g c =
     let before : Parts g.row.T.Denot g.row.R.Denot g.row.W.Denot g.row.C.Denot = record { handler = c.args.handler.now; source = c.args.source.now; sink = c.args.sink.now; clock = c.args.clock.now } in
     let terms : Terms = record { peer = c.args.peer; limit = c.args.limit; reads = c.args.reads } in
     let at = c.now-at.result in
-    let new = c.receive.new.unread.items in
+    let piece = take c.in_ok-count.count c.receive.new.room in
+    let size : length piece ≡ c.in_ok-count.count = length-take-le c.in_ok-count.count c.receive.new.room c.in_ok-count.ensures.count in
+    let some : length piece ≢ 0 = subst (λ (n : ℕ). n ≢ 0) (sym size) c.if-count-eq0.false in
+    let heard = Heard-more serves g.T.RequestHandler.skips g.R.Source.source g.W.Sink.sink g.C.Clock.clock terms before now c.loop-turn._turn c.loop-turn.session c.loop-turn.taken c.receive.new.source c.now-at.new.self at piece c.hear.new.self
+    c.loop-turn.invariant.going c.in_ok-count.ensures.ok some c.now-at.ensures.next (rw c.in-InTime.is at c.in_ok-heard.ensures.ok) in
+    let new = c.hear.new.self in
     let replies = c.answer.new.replies.items in
+    let adds = subst (λ (x : Ask). Adds serves c.loop-turn.handler (map (λ (m : List ℕ). record x { at = at; bytes = m }) (frames new.rest).messages) c.answer.new.handler c.loop-turn.replies.items replies) c.loop-turn.invariant.ask c.in_ok-messages.ensures.ok in
+    let added = subst (λ (l : List ℕ). Adds serves c.loop-turn.handler (map (ask_at c.args.peer at) (frames new.rest).messages) c.answer.new.handler l replies) c.loop-turn.invariant.written adds in
     let p = err_from_is_err_and c.from_residual-in_err-send.result c.from_residual-in_err-send.ensures.1 in
-    let heard = Heard-more serves g.T.RequestHandler.skips g.R.Source.source g.W.Sink.sink g.C.Clock.clock terms before now c.loop-turn._turn c.loop-turn.base c.loop-turn.unread.items c.loop-turn.taken
-    c.receive.new.source c.now-at.new.self at new c.in_ok-count.count c.loop-turn.invariant.going c.in_ok-count.ensures.ok c.if-count-eq0.false c.now-at.ensures.next (sym c.is_within.ensures ∙ c.if-not-is_within.false) in
-    let adds = subst (λ (x : Ask). Adds serves c.loop-turn.handler (map (λ (m : List ℕ). record x { at = at; bytes = m }) (frames new).messages) c.answer.new.handler c.loop-turn.replies.items replies) c.loop-turn.invariant.ask c.in_ok-messages.ensures.ok in
-    let added = subst (λ (l : List ℕ). Adds serves c.loop-turn.handler (map (λ (m : List ℕ). record { bytes = m; source = c.args.peer; protocol = Tcp; at = at; client = 0 }) (frames new).messages) c.answer.new.handler l replies)
-    c.loop-turn.invariant.written adds in
     rw (p.1, p.2)
-    (ends_writing serves g.T.RequestHandler.skips g.R.Source.source g.W.Sink.sink g.C.Clock.clock terms before now c.loop-turn._turn c.loop-turn.base c.loop-turn.unread.items c.loop-turn.taken
+    (ends_writing serves g.T.RequestHandler.skips g.R.Source.source g.W.Sink.sink g.C.Clock.clock terms before now c.loop-turn._turn c.loop-turn.session c.loop-turn.taken
     c.receive.new.source c.now-at.new.self at new c.answer.new.handler c.send.new.sink replies c.in_err-send.field-0.0 heard c.loop-turn-test.true added c.in_err-send.ensures.err c.in_err-send.ensures.counts)
 
 pub returns-clause-ends : goal.returns-clause-ends
 returns-clause-ends g c =
     let now : Parts g.row.T.Denot g.row.R.Denot g.row.W.Denot g.row.C.Denot = record { handler = c.loop-turn.handler; source = c.loop-turn.source; sink = c.loop-turn.sink; clock = c.loop-turn.clock } in
-    ends_cut_off _ _ _ _ _ _ _ now c.loop-turn._turn c.loop-turn.base c.loop-turn.unread.items c.loop-turn.taken c.loop-turn.invariant.going (omega (arith, c.loop-turn-test.false, c.loop-turn.auto._turn-end))
+    ends_cut_off _ _ _ _ _ _ _ now c.loop-turn._turn c.loop-turn.session c.loop-turn.taken c.loop-turn.invariant.going (omega (arith, c.loop-turn-test.false, c.loop-turn.auto._turn-end))
 
 pub overflow_add-taken : goal.overflow_add-taken
 overflow_add-taken g c =
-    let r = c.in_ok-count.ensures.ok in
-    let size : length c.receive.new.unread.items ≤ length c.loop-turn.unread.items + 4096 = omega (arith, ap length r.is, length-append c.loop-turn.unread.items r.piece, r.size, r.most) in
-    omega (arith, c.loop-turn.invariant.going.fits, c.in_ok-messages.ensures.shorter, size, c.loop-turn-test.true, c.requires.reads)
+    let piece = take c.in_ok-count.count c.receive.new.room in
+    let rest = ap length (ap (λ (k : Connection). k.rest) (rw c.in-InTime.is at c.in_ok-heard.ensures.ok).1) in
+    omega (arith, c.loop-turn.invariant.going.fits, c.in_ok-messages.ensures.shorter, rest, length-append c.loop-turn.session.rest piece, c.in_ok-count.ensures.ok.most, c.loop-turn-test.true, c.requires.reads)
 
 pub loop-turn-preserved : goal.loop-turn-preserved
 loop-turn-preserved g c =
@@ -98,18 +135,19 @@ loop-turn-preserved g c =
     let before : Parts g.row.T.Denot g.row.R.Denot g.row.W.Denot g.row.C.Denot = record { handler = c.args.handler.now; source = c.args.source.now; sink = c.args.sink.now; clock = c.args.clock.now } in
     let terms : Terms = record { peer = c.args.peer; limit = c.args.limit; reads = c.args.reads } in
     let at = c.now-at.result in
-    let new = c.receive.new.unread.items in
+    let piece = take c.in_ok-count.count c.receive.new.room in
+    let size : length piece ≡ c.in_ok-count.count = length-take-le c.in_ok-count.count c.receive.new.room c.in_ok-count.ensures.count in
+    let some : length piece ≢ 0 = subst (λ (n : ℕ). n ≢ 0) (sym size) c.if-count-eq0.false in
+    let heard = Heard-more serves g.T.RequestHandler.skips g.R.Source.source g.W.Sink.sink g.C.Clock.clock terms before now c.loop-turn._turn c.loop-turn.session c.loop-turn.taken c.receive.new.source c.now-at.new.self at piece c.hear.new.self
+    c.loop-turn.invariant.going c.in_ok-count.ensures.ok some c.now-at.ensures.next (rw c.in-InTime.is at c.in_ok-heard.ensures.ok) in
+    let new = c.hear.new.self in
     let replies = c.answer.new.replies.items in
-    let heard = Heard-more serves g.T.RequestHandler.skips g.R.Source.source g.W.Sink.sink g.C.Clock.clock terms before now c.loop-turn._turn c.loop-turn.base c.loop-turn.unread.items c.loop-turn.taken
-    c.receive.new.source c.now-at.new.self at new c.in_ok-count.count c.loop-turn.invariant.going c.in_ok-count.ensures.ok c.if-count-eq0.false c.now-at.ensures.next (sym c.is_within.ensures ∙ c.if-not-is_within.false) in
-    let adds = subst (λ (x : Ask). Adds serves c.loop-turn.handler (map (λ (m : List ℕ). record x { at = at; bytes = m }) (frames new).messages) c.answer.new.handler c.loop-turn.replies.items replies) c.loop-turn.invariant.ask c.in_ok-messages.ensures.ok in
-    let added = subst (λ (l : List ℕ). Adds serves c.loop-turn.handler (map (λ (m : List ℕ). record { bytes = m; source = c.args.peer; protocol = Tcp; at = at; client = 0 }) (frames new).messages) c.answer.new.handler l replies)
-    c.loop-turn.invariant.written adds in
-    let next = base_when c.loop-turn.base at c.base_behind-base.result (frames new).messages c.in_ok-messages.messages c.in_ok-messages.ensures.count c.base_behind-base.ensures.none c.base_behind-base.ensures.some in
+    let adds = subst (λ (x : Ask). Adds serves c.loop-turn.handler (map (λ (m : List ℕ). record x { at = at; bytes = m }) (frames new.rest).messages) c.answer.new.handler c.loop-turn.replies.items replies) c.loop-turn.invariant.ask c.in_ok-messages.ensures.ok in
+    let added = subst (λ (l : List ℕ). Adds serves c.loop-turn.handler (map (ask_at c.args.peer at) (frames new.rest).messages) c.answer.new.handler l replies) c.loop-turn.invariant.written adds in
     record {
-      going = Heard-answered serves g.T.RequestHandler.skips g.R.Source.source g.W.Sink.sink g.C.Clock.clock terms before now c.loop-turn._turn c.loop-turn.base c.loop-turn.unread.items c.loop-turn.taken
-          c.receive.new.source c.now-at.new.self at new c.answer.new.handler c.send.new.sink replies c.answer.new.unread.items c.in_ok-messages.messages c.base_behind-base.result heard added c.in_ok-send.ensures.ok c.in_ok-send.ensures.counts c.in_ok-messages.ensures.count
-          c.in_ok-messages.ensures.rest next c.in_ok-messages.ensures.shorter;
+      going = Heard-answered serves g.T.RequestHandler.skips g.R.Source.source g.W.Sink.sink g.C.Clock.clock terms before now c.loop-turn._turn c.loop-turn.session c.loop-turn.taken
+          c.receive.new.source c.now-at.new.self at new c.answer.new.session c.answer.new.handler c.send.new.sink replies c.in_ok-messages.messages heard added c.in_ok-send.ensures.ok c.in_ok-send.ensures.counts
+          c.in_ok-messages.ensures.count c.in_ok-messages.ensures.fed c.in_ok-messages.ensures.shorter;
       ask = ask_stays c.answer.new.ask c.loop-turn.ask c.args.peer at c.loop-turn.invariant.ask c.answer.ensures.ask;
       written = c.in_ok-send.ensures.sent;
       unflushed = Keeps-more _ _ _ c.loop-turn.invariant.unflushed c.send.ensures.unflushed;

@@ -1,8 +1,7 @@
 -- Each event is a turn of one connection, or of none.
 use Rattle.std.proofs.Common.{ap, sym, refl, List, ◌++◌, []}
-use Rattle.dns_server_core.specs.declared.connection.Connection.{Connection}
 use Rattle.dns_server_core.specs.declared.event.Event.TheVariants.{Accepted, Ended, Datagram, Tick, Stop}
-use Rattle.dns_server_core.specs.Connections.{accepted}
+use Rattle.dns_server_core.specs.Connections.{Connection, accepted}
 use Rattle.dns_server_core.specs.Steps.{completed_now}
 use Rattle.dns_server_core.proofs.Running.{Hands-none, Hands-same, ok_hands, breaks_none, breaks_same}
 use Rattle.dns_server_core.proofs.OnePiece.{on_ok, ok_lists}

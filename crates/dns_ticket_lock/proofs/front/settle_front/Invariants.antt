@@ -1,6 +1,6 @@
 -- So far nothing came, and the messages of the bytes that are left are to come.
-use Rattle.std.proofs.Common.{◌≡◌, ◌+◌, ◌*◌, ◌≤◌, length}
-use Rattle.dns_frames.specs.Frames.{frames}
+use Rattle.std.proofs.Common.{◌≡◌, ◌+◌, ◌-◌, ◌*◌, ◌≤◌, ◌<◌, length}
+use Rattle.dns_server_core.specs.FrameRuns.{behind_first, first_messages}
 use Rattle.dns_ticket_lock.proofs.Fronts.{Quiet}
 use Rattle.dns_ticket_lock.proofs.front.settle_front.Given as goal
 
@@ -8,9 +8,10 @@ abbrev pub invariant-loop-message : goal.invariant-loop-message
 invariant-loop-message g l =
     record {
       ask : l.ask ≡ record l.fn.ask { bytes = l.ask.bytes };
-      quiet : Quiet g.K.Keeper.rows g.K.Keeper.faults l.access l.fn.ask l.fn.book l.book l.bytes l.left l.fn.replies.items l.replies.items l.messages;
-      rest : (frames l.left).rest ≡ (frames l.bytes).rest;
-      count : l.messages + length (frames l.left).messages ≡ length (frames l.bytes).messages;
+      within : (l.messages ≤ l.most) × (l.messages < 64);
+      quiet : Quiet g.K.Keeper.rows g.K.Keeper.faults l.access l.fn.ask l.fn.book l.book l.most (l.most - l.messages) l.bytes l.left l.fn.replies.items l.replies.items l.messages;
+      count : l.messages + length (first_messages (l.most - l.messages) l.left) ≡ length (first_messages l.most l.bytes);
+      behind : behind_first (l.most - l.messages) l.left ≡ behind_first l.most l.bytes;
       shorter : 2 * l.messages + length l.left ≤ length l.bytes;
     }
 

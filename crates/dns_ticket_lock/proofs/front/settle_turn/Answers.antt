@@ -10,8 +10,7 @@ use Rattle.dns_ticket_lock.specs.Settling.{Names, SettledAs, LeftAs, done_by}
 use Rattle.dns_ticket_lock.specs.Naming.{Advances}
 use mathlib.Core.Option.{some}
 use lib.ListN.{get_elem?}
-use Rattle.dns_server_core.specs.FrameRuns.{AddsFront, Halts}
-use Rattle.dns_ticket_lock.specs.Fronts.{asks_in}
+use Rattle.dns_server_core.specs.FrameRuns.{AddsFront, Halts, first_asks}
 use Rattle.dns_ticket_lock.proofs.Fronts.{ok_map, on_err_map, own_begins, own_head}
 use Rattle.dns_ticket_lock.proofs.Turning.{finds_place, members_are, seen_is, turn_of}
 use Rattle.dns_ticket_lock.proofs.front.settle_turn.Goals as goal
@@ -118,7 +117,7 @@ returns-clause-ok g c =
     ap own accounts ∙ (own_head v.accounts (settled took.1 done) (omega arith) ∙ ap (λ (k : ℕ). settled took.1 (done_by g.K.Keeper.rows k took.1 then.book now.1) (own v.accounts)) (sym c.requires.number)) in
     let begins = own_begins v.accounts v.low took.1 took.2 (omega arith) took.4.1 in
     let by_account = SettledAs g.K.Keeper.rows g.K.Keeper.faults v.terms c.args.access.now c.args.ask.now.client in
-    ok_map now.0 _ _ (λ f x. subst (λ (y : Account). AddsFront by_account (own v.accounts) (asks_in c.args.ask.now c.args.bytes.now) y (asks_in c.args.ask.now f.left.now) c.args.replies.now.items c.settle_held_front.new.replies.items) (sym is_own)
+    ok_map now.0 _ _ (λ f x. subst (λ (y : Account). AddsFront by_account (own v.accounts) (first_asks c.args.ask.now c.args.most c.args.bytes.now) y (first_asks c.args.ask.now (c.args.most - f.messages) f.left.now) c.args.replies.now.items c.settle_held_front.new.replies.items) (sym is_own)
     (x v.terms took.1 (own v.accounts) n.same_terms n.has_rows begins)) c.settle_held_front.ensures.ok
 
 pub returns-clause-err : goal.returns-clause-err
@@ -139,5 +138,5 @@ returns-clause-err g c =
     ap own accounts ∙ (own_head v.accounts (settled took.1 done) (omega arith) ∙ ap (λ (k : ℕ). settled took.1 (done_by g.K.Keeper.rows k took.1 then.book now.1) (own v.accounts)) (sym c.requires.number)) in
     let begins = own_begins v.accounts v.low took.1 took.2 (omega arith) took.4.1 in
     let by_account = SettledAs g.K.Keeper.rows g.K.Keeper.faults v.terms c.args.access.now c.args.ask.now.client in
-    on_err_map now.0 _ _ (λ x. subst (λ (y : Account). Halts by_account LeftAs (own v.accounts) (asks_in c.args.ask.now c.args.bytes.now) y) (sym is_own) (x v.terms took.1 (own v.accounts) n.same_terms n.has_rows begins))
+    on_err_map now.0 _ _ (λ x. subst (λ (y : Account). Halts by_account LeftAs (own v.accounts) (first_asks c.args.ask.now c.args.most c.args.bytes.now) y) (sym is_own) (x v.terms took.1 (own v.accounts) n.same_terms n.has_rows begins))
     c.settle_held_front.ensures.err

@@ -1,8 +1,6 @@
 -- The first messages were settled, and those of the bytes that are left are to come.
-use Rattle.std.proofs.Common.{◌≡◌, ◌+◌, ◌*◌, ◌≤◌, [], length}
-use Rattle.dns_frames.specs.Frames.{frames}
-use Rattle.dns_server_core.specs.FrameRuns.{AddsFront}
-use Rattle.dns_ticket_lock.specs.Fronts.{asks_in}
+use Rattle.std.proofs.Common.{◌≡◌, ◌+◌, ◌-◌, ◌*◌, ◌≤◌, [], length}
+use Rattle.dns_server_core.specs.FrameRuns.{AddsFront, behind_first, first_asks, first_messages}
 use Rattle.dns_ticket_lock.specs.Rule.{own}
 use Rattle.dns_ticket_lock.specs.Settling.{SettledAs}
 use Rattle.dns_ticket_lock.proofs.front.settle_turns.Given as goal
@@ -15,9 +13,10 @@ invariant-loop-message g l =
       low : (l.seat.me.0.low ≡ l.fn.seat.me.0.low) × (l.seat.me.0.terms ≡ l.fn.seat.me.0.terms);
       seen : length (own l.seat.me.0.accounts).seen ≡ l.seen;
       ask : l.ask ≡ record l.fn.ask { bytes = l.ask.bytes };
-      front : AddsFront (SettledAs g.K.Keeper.rows g.K.Keeper.faults l.fn.seat.me.0.terms l.access l.fn.ask.client) (own l.fn.seat.me.0.accounts) (asks_in l.fn.ask l.bytes) (own l.seat.me.0.accounts) (asks_in l.fn.ask l.left) l.fn.replies.items l.replies.items;
-      rest : (frames l.left).rest ≡ (frames l.bytes).rest;
-      count : l.messages + length (frames l.left).messages ≡ length (frames l.bytes).messages;
+      front : AddsFront (SettledAs g.K.Keeper.rows g.K.Keeper.faults l.fn.seat.me.0.terms l.access l.fn.ask.client) (own l.fn.seat.me.0.accounts) (first_asks l.fn.ask l.most l.bytes) (own l.seat.me.0.accounts) (first_asks l.fn.ask (l.most - l.messages) l.left) l.fn.replies.items l.replies.items;
+      within : l.messages ≤ l.most;
+      count : l.messages + length (first_messages (l.most - l.messages) l.left) ≡ length (first_messages l.most l.bytes);
+      behind : behind_first (l.most - l.messages) l.left ≡ behind_first l.most l.bytes;
       shorter : 2 * l.messages + length l.left ≤ length l.bytes;
     }
 

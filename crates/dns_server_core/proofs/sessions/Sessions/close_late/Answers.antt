@@ -1,8 +1,7 @@
 -- Those that are within their limits stay.
 use Rattle.std.proofs.Common.{ap, ◌∙◌, rules}
 use Rattle.std.proofs.lemmas.Fn.{filter_same}
-use Rattle.dns_server_core.specs.declared.connection.Connection.{Connection}
-use Rattle.dns_server_core.specs.Connections.{Kept, is_within}
+use Rattle.dns_server_core.specs.Connections.{Connection, Kept, is_within}
 use Rattle.dns_server_core.specs.Order.{closed}
 use Rattle.dns_server_core.proofs.Leaving.{IsKept-alive, closed-running}
 use Rattle.dns_server_core.proofs.sessions.Sessions.close_late.Goals as goal

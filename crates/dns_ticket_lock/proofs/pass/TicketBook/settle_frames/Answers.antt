@@ -1,12 +1,10 @@
 -- What the turns of a seat come to for its pass.
-use Rattle.std.proofs.Common.{◌≡◌, ℕ, List, map, sym, ap, subst, subst₂, ◌∙◌}
-use Rattle.dns_frames.specs.Frames.{frames}
+use Rattle.std.proofs.Common.{◌≡◌, ℕ, List, sym, ap, subst, subst₂, ◌∙◌}
 use Rattle.dns_book.specs.declared.ask.Ask.{Ask}
-use Rattle.dns_server_core.specs.FrameRuns.{Adds, Halts}
+use Rattle.dns_server_core.specs.FrameRuns.{Adds, Halts, first_asks, first_messages}
 use Rattle.dns_ticket_lock.specs.declared.view.Account.{Account}
 use Rattle.dns_ticket_lock.specs.declared.view.Terms.{Terms}
 use Rattle.dns_ticket_lock.specs.declared.view.View.{View}
-use Rattle.dns_ticket_lock.specs.Fronts.{asks_in}
 use Rattle.dns_ticket_lock.specs.Rule.{own, view_of}
 use Rattle.dns_ticket_lock.specs.Settling.{SettledAs, LeftAs, asked_by}
 use Rattle.dns_ticket_lock.specs.Passes.{PassSeen, SettledBy, LeftBy}
@@ -45,15 +43,15 @@ returns-clause-ok g c =
     (ap (λ (x : View). own x.accounts) view2) in
     let by : Terms → ℕ → _ = λ t n. SettledAs g.K.Keeper.rows g.K.Keeper.faults t c.args.access.now n in
     let by_pass = SettledBy g.K.Keeper.rows g.K.Keeper.faults c.args.access.now in
-    let asks : List Ask = map (λ m. record c.args.ask.now { bytes = m }) (frames c.args.bytes.now).messages in
+    let asks : List Ask = first_asks c.args.ask.now c.args.most c.args.bytes.now in
     let had = c.args.replies.now.items in
     let now = c.settle_turns-answer.new.replies.items in
     on_ok_map c.settle_turns-answer.result _ _
     (λ x.
-    let numbered = subst (λ (n : ℕ). Adds (by old.terms n) (own old.accounts) (asks_in (asked_by n c.args.ask.now) c.args.bytes.now) (own new.accounts) had now) client x in
-    let mine = subst (λ (t : Terms). Adds (by t p.number) (own old.accounts) (asks_in (asked_by p.number c.args.ask.now) c.args.bytes.now) (own new.accounts) had now) (sym terms) numbered in
+    let numbered = subst (λ (n : ℕ). Adds (by old.terms n) (own old.accounts) (first_asks (asked_by n c.args.ask.now) c.args.most c.args.bytes.now) (own new.accounts) had now) client x in
+    let mine = subst (λ (t : Terms). Adds (by t p.number) (own old.accounts) (first_asks (asked_by p.number c.args.ask.now) c.args.most c.args.bytes.now) (own new.accounts) had now) (sym terms) numbered in
     subst₂ (λ (one other : PassSeen). Adds by_pass one asks other had now) before (sym after)
-    (passes-adds g.K.Keeper.rows g.K.Keeper.faults c.args.access.now p c.args.ask.now c.args.bytes.now (own old.accounts) (own new.accounts) had now mine)) e.ok
+    (passes-adds g.K.Keeper.rows g.K.Keeper.faults c.args.access.now p c.args.ask.now (first_messages c.args.most c.args.bytes.now) (own old.accounts) (own new.accounts) had now mine)) e.ok
 
 pub returns-clause-err : goal.returns-clause-err
 returns-clause-err g c =
@@ -80,10 +78,10 @@ returns-clause-err g c =
     (ap (λ (x : View). own x.accounts) view2) in
     let by : Terms → ℕ → _ = λ t n. SettledAs g.K.Keeper.rows g.K.Keeper.faults t c.args.access.now n in
     let by_pass = SettledBy g.K.Keeper.rows g.K.Keeper.faults c.args.access.now in
-    let asks : List Ask = map (λ m. record c.args.ask.now { bytes = m }) (frames c.args.bytes.now).messages in
+    let asks : List Ask = first_asks c.args.ask.now c.args.most c.args.bytes.now in
     on_err_map c.settle_turns-answer.result _ _
     (λ x.
-    let numbered = subst (λ (n : ℕ). Halts (by old.terms n) LeftAs (own old.accounts) (asks_in (asked_by n c.args.ask.now) c.args.bytes.now) (own new.accounts)) client x in
-    let mine = subst (λ (t : Terms). Halts (by t p.number) LeftAs (own old.accounts) (asks_in (asked_by p.number c.args.ask.now) c.args.bytes.now) (own new.accounts)) (sym terms) numbered in
+    let numbered = subst (λ (n : ℕ). Halts (by old.terms n) LeftAs (own old.accounts) (first_asks (asked_by n c.args.ask.now) c.args.most c.args.bytes.now) (own new.accounts)) client x in
+    let mine = subst (λ (t : Terms). Halts (by t p.number) LeftAs (own old.accounts) (first_asks (asked_by p.number c.args.ask.now) c.args.most c.args.bytes.now) (own new.accounts)) (sym terms) numbered in
     subst₂ (λ (one other : PassSeen). Halts by_pass LeftBy one asks other) before (sym after)
-    (passes-halts g.K.Keeper.rows g.K.Keeper.faults c.args.access.now p c.args.ask.now c.args.bytes.now (own old.accounts) (own new.accounts) mine)) e.err
+    (passes-halts g.K.Keeper.rows g.K.Keeper.faults c.args.access.now p c.args.ask.now (first_messages c.args.most c.args.bytes.now) (own old.accounts) (own new.accounts) mine)) e.err

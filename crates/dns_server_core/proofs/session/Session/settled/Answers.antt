@@ -1,0 +1,26 @@
+-- None was whole, or all that were are let go.
+use Rattle.std.proofs.Common.{◌≡◌, ◌≤◌, ap, List, ℕ, length, subst, sym}
+use Rattle.dns_frames.specs.Frames.{frames}
+use Rattle.dns_frames.proofs.Cutting.{frames-at_end_le}
+use Rattle.dns_server_core.specs.Connections.{Connection}
+use Rattle.dns_server_core.specs.Steps.{fed_by}
+use Rattle.dns_server_core.proofs.FirstFrames.{fed_none, fed_some}
+use Rattle.dns_server_core.proofs.session.Session.settled.Goals as goal
+
+pub returns-then-answered-eq0 : goal.returns-then-answered-eq0
+returns-then-answered-eq0 c = fed_none c.args.self.now c.args.at (subst (λ (n : ℕ). n ≡ 0) c.requires.messages c.if-answered-eq0.true)
+
+pub keep_last-requires : goal.keep_last-requires
+keep_last-requires c =
+    let rest = ap (λ (k : Connection). k.rest) c.self.view_is in
+    subst (λ (l : List ℕ). c.args.answered.rest ≤ length l) (sym rest) (subst (λ (n : ℕ). n ≤ length c.args.self.now.rest) (sym c.requires.rest) (frames-at_end_le c.args.self.now.rest))
+
+pub returns : goal.returns
+returns c =
+    let s = c.self.inside in
+    let k : Connection = record { number = s.number; peer = s.peer; limit = s.limit; base = s.base; rest = s.unread.items } in
+    let messages = rw (← c.self.view_is) at c.requires.messages in
+    let rest = rw (← c.self.view_is) at c.requires.rest in
+    let left = ap (λ (l : List ℕ). record { number = s.number; peer = s.peer; limit = s.limit; base = c.args.at; rest = l }) c.keep_last.ensures in
+    subst (λ (old : Connection). record { number = s.number; peer = s.peer; limit = s.limit; base = c.args.at; rest = c.keep_last.new.bytes.items } ≡ fed_by old c.args.at (frames old.rest)) c.self.view_is
+    (fed_some k _ c.args.at c.args.answered.messages c.args.answered.rest messages c.if-answered-eq0.false rest left)

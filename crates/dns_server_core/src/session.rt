@@ -1,0 +1,125 @@
+//! The rule of a connection, as a machine that whoever drives it tells what came and what was done (RFC 1035 4.2.2, RFC 7766 6.2.3, 8).
+
+ghost use Rattle.std.specs.Prelude.{◌≡◌, ◌≤◌, ◌-◌, true, [], length, drop, IfOk, OnErr};
+ghost use Rattle.dns_frames.specs.Frames.{frames};
+ghost use Rattle.dns_server_core.specs.Connections.{is_within};
+ghost use Rattle.dns_server_core.specs.Steps.{fed_by, HearsPiece};
+
+use crate::handler::Answered;
+use dns_io::{OutOfMemory, Peer};
+use std::alloc::Global;
+use std::marker::Model;
+
+/// What became of a piece of a connection's bytes.
+#[derive(Clone, Copy, Debug, PartialEq, Eq)]
+pub enum Heard {
+    /// It came in time, and stands behind the bytes that were unread.
+    InTime,
+    /// It came after the time was over, and was dropped.
+    Late {
+        /// The moment from which the time ran, in milliseconds.
+        since: u64,
+    },
+}
+
+/// An open connection: the other end, its deadline, and the bytes that are not yet a message. It reads, writes and settles nothing:
+/// whoever drives it tells it each piece of bytes that comes, settles the whole messages at the front of its unread bytes, and tells it
+/// that this was done. Moments and limits are in milliseconds, below 2^47.
+#[derive(Drop)]
+pub struct Session {
+    number: u32,
+    peer: Peer,
+    limit: u64,
+    base: u64,
+    unread: Vec<u8>,
+}
+
+impl Model for Session {
+    ghost use Rattle.dns_server_core.specs.Connections.{Connection};
+
+    ghost Value = { Connection };
+
+    ghost view = { λ s. record { number = s.number; peer = s.peer; limit = s.limit; base = s.base; rest = s.unread.items } };
+}
+
+impl Session {
+    /// A connection that is accepted at a moment. For `limit` milliseconds it may stay without a whole message; 0 is without limit. The
+    /// number tells it from the others of a server. Takes no memory.
+    pub fn open(alloc: Global, number: u32, peer: Peer, limit: u64, at: u64) -> Session
+        ensures { result ≡ record { number = number; peer = peer; limit = limit; base = at; rest = [] } }
+    {
+        Session {
+            number,
+            peer,
+            limit,
+            base: at,
+            unread: Vec::new(alloc),
+        }
+    }
+
+    /// Its number.
+    pub fn number(&self) -> u32
+        ensures { result ≡ self.now.number }
+    {
+        self.number
+    }
+
+    /// The other end.
+    pub fn peer(&self) -> Peer
+        ensures { result ≡ self.now.peer }
+    {
+        self.peer
+    }
+
+    /// The bytes that are not yet let go: the whole messages at their front, each behind its length, are to be settled.
+    pub fn unread(&self) -> &[u8]
+        ensures { result.now ≡ self.now.rest }
+    {
+        self.unread.as_slice()
+    }
+
+    /// Whether a moment is not past the connection's time, which runs from its acceptance, and anew from each piece that completes a
+    /// message.
+    pub fn is_within(&self, at: u64) -> bool
+        ensures { result ≡ is_within self.now.limit self.now.base at }
+    {
+        self.limit == 0 || at.saturating_sub(self.base) <= self.limit
+    }
+
+    /// A piece of its bytes came at a moment: in time it is added to the unread ones, and else dropped. Where memory runs out, nothing
+    /// has changed.
+    pub fn hear(&mut self, at: u64, piece: &[u8]) -> Result<Heard, OutOfMemory>
+        ensures ok { IfOk result (λ heard. HearsPiece self.old at piece.now heard self.new) }
+        ensures err { OnErr result (self.new ≡ self.old) }
+        ensures timely { OnErr result (is_within self.old.limit self.old.base at ≡ true) }
+    {
+        if !self.is_within(at) {
+            return Ok(Heard::Late { since: self.base });
+        }
+        self.unread.extend_from_slice(piece)?;
+        Ok(Heard::InTime)
+    }
+
+    /// The whole messages of the unread bytes were settled: they are let go, and where there was one the time runs from this moment. Takes
+    /// no memory; bytes are moved only behind a message, and then no more than stand behind the last one.
+    pub fn settled(&mut self, at: u64, answered: Answered)
+        requires messages { answered.messages ≡ length (frames self.old.rest).messages }
+        requires rest { answered.rest ≡ length (frames self.old.rest).rest }
+        ensures { self.new ≡ fed_by self.old at (frames self.old.rest) }
+    {
+        if answered.messages == 0 {
+            return;
+        }
+        self.base = at;
+        keep_last(&mut self.unread, answered.rest);
+    }
+}
+
+/// Lets all bytes go but the last of them, so many.
+fn keep_last(bytes: &mut Vec<u8>, count: usize)
+    requires { count ≤ length bytes.old.items }
+    ensures { bytes.new.items ≡ drop (length bytes.old.items - count) bytes.old.items }
+{
+    let start = bytes.len() - count;
+    bytes.drain(..start);
+}
