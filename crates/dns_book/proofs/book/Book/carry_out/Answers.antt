@@ -14,10 +14,10 @@ pub returns-in-Err-Failed-clause-ok : goal.returns-in-Err-Failed-clause-ok
 returns-in-Err-Failed-clause-ok g c = CarriesOut-failed _ _ _ _ _ _ _ _ _ c.in-Some.is (rw c.in-Err-Failed.field-0-is at c.in-Err-Failed.ensures.is) c.answered-in-Err-Failed.ensures.book c.answered-in-Err-Failed.ensures.settled
 
 pub returns-in_default-clause-left_on : goal.returns-in_default-clause-left_on
-returns-in_default-clause-left_on g c = λ on. subst (λ (b : SeenOf g.row.K.Denot). LeavesOn g.K.Keeper.rows g.K.Keeper.may_leave b) (sym c.answered.ensures.book) on
+returns-in_default-clause-left_on g c = λ on. subst (λ (b : SeenOf g.row.K.Denot). LeavesOn g.K.Keeper.keeper b) (sym c.answered.ensures.book) on
 
 pub returns-in-Ok-clause-left_on : goal.returns-in-Ok-clause-left_on
-returns-in-Ok-clause-left_on g c = λ on. subst (λ (b : SeenOf g.row.K.Denot). LeavesOn g.K.Keeper.rows g.K.Keeper.may_leave b) (sym c.answered-in-Ok.ensures.book) (c.journal.ensures.left_on on)
+returns-in-Ok-clause-left_on g c = λ on. subst (λ (b : SeenOf g.row.K.Denot). LeavesOn g.K.Keeper.keeper b) (sym c.answered-in-Ok.ensures.book) (c.journal.ensures.left_on on)
 
 pub returns-in-Err-Failed-clause-left_on : goal.returns-in-Err-Failed-clause-left_on
-returns-in-Err-Failed-clause-left_on g c = λ on. subst (λ (b : SeenOf g.row.K.Denot). LeavesOn g.K.Keeper.rows g.K.Keeper.may_leave b) (sym c.answered-in-Err-Failed.ensures.book) (c.journal.ensures.left_on on)
+returns-in-Err-Failed-clause-left_on g c = λ on. subst (λ (b : SeenOf g.row.K.Denot). LeavesOn g.K.Keeper.keeper b) (sym c.answered-in-Err-Failed.ensures.book) (c.journal.ensures.left_on on)

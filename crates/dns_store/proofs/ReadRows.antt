@@ -1,22 +1,23 @@
 -- Rows that are read back one by one.
 use Rattle.std.proofs.Common.{◌≡◌, ℕ, ◌+◌, ◌≤◌, ℤ, pos, ◌+ℤ◌, List, [], ◌∷◌, ◌++◌, length, Option, Some, None, true, false, refl, sym, ap, ◌∙◌, subst, arith, append_assoc, length-append}
-use Rattle.std.specs.Prelude.{IfSome, Err}
+use Rattle.std.specs.Prelude.{IfSome, Result, Err}
 use Rattle.std.specs.Int.Signed.{le_z}
 use Rattle.std.proofs.lemmas.Int.{ints}
 use Rattle.std.proofs.lemmas.List.{append-nil}
 use Rattle.std.proofs.lemmas.Option.{same_Some}
 use Rattle.dns_name.specs.Name.{fold_of}
 use Rattle.dns_io.specs.Told.{Keeps}
+use Rattle.dns_wire.specs.declared.record.Record.{Record}
 use Rattle.dns_keeper.specs.declared.row.Row.{Row}
 use Rattle.dns_keeper.specs.Rows.{first_of, first_from, is_ascending, AreAscending}
 use Rattle.dns_keeper.specs.Keeping.{IsRowFrom, TellsAscending}
 use Rattle.dns_update.specs.Replay.{Refusal, Replays}
 use Rattle.dns_zone.specs.Replayed.{Replayed}
 use Rattle.dns_zone.specs.Replaying.{HasTaken}
-use Rattle.dns_book.specs.declared.opening.OpenKind.{OpenKind}
-use Rattle.dns_book.specs.declared.opening.OpenKind.TheVariants.{Recovery, KeeperFault, NoZone, OutOfMemory}
-use Rattle.dns_book.specs.Opening.{RecoversNot}
-use Rattle.dns_book.specs.Recovering.{TellsRefusal, ReadsNot, IsFirst, IsFirstFrom, IsReadUpTo, AreTaken}
+use Rattle.dns_store.specs.declared.opening.OpenKind.{OpenKind}
+use Rattle.dns_store.specs.declared.opening.OpenKind.TheVariants.{Recovery, KeeperFault, NoZone, OutOfMemory}
+use Rattle.dns_store.specs.Opening.{IsUnread, CountsByKind}
+use Rattle.dns_store.specs.Recovering.{TellsRefusal, IsKeepers, IsFirst, IsFirstFrom, IsReadUpTo, AreTaken}
 
 -- a row has a lower id than each row behind it
 is_below : (r : Row) (front : List Row) (row : Row) (rest : List Row) → is_ascending (r ∷ front ++ row ∷ rest) ≡ true → le_z row.id r.id ≡ false
@@ -108,21 +109,32 @@ refused_at origin state row refusal rows front (r ∷ rest) same parts taken nex
     let all : rows ≡ front ++ row ∷ rest = parts ∙ ap (λ (one : Row). front ++ one ∷ rest) (sym is) in
     subst (λ (l : List Row). Replays (fold_of origin) l (Err refusal)) (sym all) (subst (λ (o : List (List ℕ)). Replays o (front ++ row ∷ rest) (Err refusal)) same (told front rest taken))
 
-pub refused_there : (start now : Option (List Row)) (faults later : ℕ) (origin : List (List ℕ)) (state : Replayed) (count : ℕ) (row : Row) (kind : OpenKind) → Keeps start now
+pub refused_there : (start now : Option (List Row)) (origin : List (List ℕ)) (state : Replayed) (count : ℕ) (row : Row) (kind : OpenKind) → Keeps start now
     → IfSome now (IsReadUpTo state count (Some row)) → state.origin ≡ fold_of origin
-    → TellsRefusal (λ end. (taken more : List Row) → HasTaken state taken → Replays state.origin (taken ++ row ∷ more) end) kind → RecoversNot start now faults later origin kind
-refused_there start None faults later origin state count row (Recovery id why) keeps read same told = tt
-refused_there None (Some rows) faults later origin state count row (Recovery id why) keeps read same told = absurd keeps
-refused_there (Some old) (Some rows) faults later origin state count row (Recovery id why) keeps read same told =
+    → TellsRefusal (λ end. (taken more : List Row) → HasTaken state taken → Replays state.origin (taken ++ row ∷ more) end) kind → IsUnread start now origin kind
+refused_there start None origin state count row (Recovery id why) keeps read same told = tt
+refused_there None (Some rows) origin state count row (Recovery id why) keeps read same told = absurd keeps
+refused_there (Some old) (Some rows) origin state count row (Recovery id why) keeps read same told =
     subst (λ (l : List Row). Replays (fold_of origin) l (Err (record { row = id; kind = why }))) keeps
     (refused_at origin state row (record { row = id; kind = why }) rows read.front read.rest same read.parts read.taken read.follows told)
-refused_there start now faults later origin state count row KeeperFault keeps read same told = absurd told
-refused_there start now faults later origin state count row NoZone keeps read same told = absurd told
-refused_there start now faults later origin state count row OutOfMemory keeps read same told = tt
+refused_there start now origin state count row KeeperFault keeps read same told = absurd told
+refused_there start now origin state count row NoZone keeps read same told = absurd told
+refused_there start now origin state count row OutOfMemory keeps read same told = tt
 
 -- and a call of the keeper that is refused
-pub failed_there : (start now : Option (List Row)) (first before later : ℕ) (origin : List (List ℕ)) (kind : OpenKind) → first ≤ before → ReadsNot before later kind → RecoversNot start now first later origin kind
-failed_there start now first before later origin (Recovery id why) rise told = absurd told
-failed_there start now first before later origin KeeperFault rise told = omega (arith, rise, told)
-failed_there start now first before later origin NoZone rise told = absurd told
-failed_there start now first before later origin OutOfMemory rise told = tt
+pub failed_there : (start now : Option (List Row)) (origin : List (List ℕ)) (kind : OpenKind) → IsKeepers kind → IsUnread start now origin kind
+failed_there start now origin (Recovery id why) told = absurd told
+failed_there start now origin KeeperFault told = tt
+failed_there start now origin NoZone told = absurd told
+failed_there start now origin OutOfMemory told = tt
+
+-- a refusal of rows is no fault of the keeper
+pub uncounted_there : (before now : ℕ) (End : Result (List Record) Refusal → Type 0) (kind : OpenKind) → now ≡ before → TellsRefusal End kind → CountsByKind before now kind
+uncounted_there before now End (Recovery id why) same told = same
+uncounted_there before now End KeeperFault same told = absurd told
+uncounted_there before now End NoZone same told = absurd told
+uncounted_there before now End OutOfMemory same told = same
+
+-- what a count of faults did since it was so, and since it was as it then was
+pub counts_since : (first before now : ℕ) (kind : OpenKind) → before ≡ first → CountsByKind before now kind → CountsByKind first now kind
+counts_since first before now kind same counts = subst (λ (n : ℕ). CountsByKind n now kind) same counts
