@@ -1,3 +1,4 @@
+pub mod Opened
 pub mod Growing
 pub mod Leaving
 pub mod Codes
