@@ -12,7 +12,7 @@ use Rattle.dns_update.specs.declared.batch.Modified.{Modified}
 use Rattle.dns_counts.specs.Counters.{changed}
 use Rattle.dns_zone.specs.Updates.{IsBatchOf}
 use Rattle.dns_store.specs.Store.{StoreOf, stored_with, IsGrown, Stores}
-use Rattle.dns_store.proofs.Growing.{Keeps-same}
+use Rattle.dns_io.proofs.ToldContents.{Keeps-same}
 use Rattle.dns_book.specs.declared.ask.Ask.{Ask}
 use Rattle.dns_book.specs.Counted.{zone_with, counts_with}
 use Rattle.dns_book.specs.Book.{SeenOf, seen, IsLeft, receipt_of, grown, Ends, idle, journalled, failed}

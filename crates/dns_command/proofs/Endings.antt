@@ -14,8 +14,8 @@ use Rattle.dns_server_core.specs.declared.event.Event.{Event}
 use Rattle.dns_server_core.specs.declared.event.Out.{Out}
 use Rattle.dns_book.specs.Book.{SeenOf, IsKept, Settles}
 use Rattle.dns_book.specs.Opening as book
-use Rattle.dns_book.specs.declared.opening.OpenKind.{OpenKind}
-use Rattle.dns_book.specs.declared.opening.OpenKind.TheVariants as kind
+use Rattle.dns_store.specs.declared.opening.OpenKind.{OpenKind}
+use Rattle.dns_store.specs.declared.opening.OpenKind.TheVariants as kind
 use Rattle.dns_server_core.specs.Serving.{ServerOf}
 use Rattle.dns_server_core.specs.Valid.{Valid}
 use Rattle.dns_server_core.specs.Connections.{Kept, new_kept, done, after}

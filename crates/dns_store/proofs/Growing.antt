@@ -17,11 +17,6 @@ use Rattle.dns_zone.specs.Updates.{IsBatchOf, zone_after, Journals}
 use Rattle.dns_store.specs.Store.{StoreOf, HasRows, StandFor, IsStored, zone_with, stored_with, IsGrown, HasFailed, IsWithout, Stores}
 use Rattle.dns_store.proofs.Opened.{length-rows_of}
 
--- what was told is told
-pub Keeps-same : {A : Type 0} (told : Option A) → Keeps told told
-Keeps-same None = tt
-Keeps-same (Some a) = refl
-
 HasRows-kept : (before after : Option (List Row)) (n : ℕ) → Keeps before after → HasRows before n → HasRows after n
 HasRows-kept before None n kept has = tt
 HasRows-kept None (Some after) n kept has = absurd kept

@@ -11,13 +11,11 @@ use Rattle.dns_keeper.specs.Keeping.{KeeperTold, KeeperOf, HasBatch, GrowsByBatc
 use Rattle.dns_name.specs.Name.{fold_of}
 use Rattle.dns_zone_map.specs.Zone.{Contents, serial_of}
 use Rattle.dns_update.specs.Replay.{opening_of, Replays}
-use Rattle.dns_zone.specs.declared.replaying.ReplayFault.{ReplayFault}
-use Rattle.dns_zone.specs.declared.replaying.ReplayFault.TheVariants as fault
 use Rattle.dns_store.specs.declared.opening.OpenKind.{OpenKind}
 use Rattle.dns_store.specs.declared.opening.OpenKind.TheVariants.{Recovery, KeeperFault, NoZone, OutOfMemory}
 use Rattle.dns_store.specs.Store.{StoreOf, HasRows, StandFor, IsStored}
-use Rattle.dns_store.specs.Opening.{HadNoRow, HadRows, Begins, Recovers, IsUnopened, CountsByKind, IsUnread, RecoversNot, BeginsNot, BeginsNotWith, Opens, OpensNot}
-use Rattle.dns_store.specs.Recovering.{kind_of, keeper_kind, ReadsRows}
+use Rattle.dns_store.specs.Opening.{HadNoRow, HadRows, Begins, Recovers, IsUnopened, IsUnread, RecoversNot, BeginsNot, BeginsNotWith, Opens, OpensNot}
+use Rattle.dns_store.specs.Recovering.{keeper_kind, ReadsRows}
 use Rattle.dns_store.proofs.ReadRows.{kept_on, counts_since}
 use Rattle.dns_store.specs.Opening.Opens.{begun, recovered}
 
@@ -192,11 +190,6 @@ pub recovers_not : {K T : Type 0} (keeper : KeeperOf K) (old new : K) (origin : 
 recovers_not keeper old new origin result kind is unread reads =
     let so = subst (λ (r : Result _ OpenKind). ReadsRows keeper old new r) is reads in
     record { unread = unread; unopened = record { kept = so.kept; later = so.later; counts = so.counts } }
-
--- a refusal of rows is no fault of the keeper
-pub counts_refused : (before now : ℕ) (f : ReplayFault) → now ≡ before → CountsByKind before now (kind_of f)
-counts_refused before now (fault.Refused row kind) same = same
-counts_refused before now fault.OutOfMemory same = same
 
 -- what follows from what an answer without a fault gives
 pub on_ok : {A E : Type 0} (P Q : A → Type 0) (result : Result A E) → ((value : A) → P value → Q value) → IfOk result P → IfOk result Q

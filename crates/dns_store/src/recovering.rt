@@ -93,7 +93,8 @@ fn no_rows(alloc: Global, origin: &Name) -> Result<Replaying, OpenKind>
 /// Takes the next row.
 fn take_row(alloc: Global, replaying: &mut Replaying, row: &Row) -> Result<(), OpenKind>
     ensures origin { replaying.new.origin ≡ replaying.old.origin }
-    ensures taken { OnOk result ((rows : List JournalRow) → HasTaken replaying.old rows → HasTaken replaying.new (rows ++ row.now ∷ [])) }
+    ensures taken { OnOk result ((rows : List JournalRow) → HasTaken replaying.old rows
+        → HasTaken replaying.new (rows ++ row.now ∷ [])) }
     ensures err { IfErr result (TellsRefusal (λ end. (rows more : List JournalRow) → HasTaken replaying.old rows
         → Replays replaying.old.origin (rows ++ row.now ∷ more) end)) }
 {

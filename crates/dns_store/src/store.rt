@@ -53,7 +53,8 @@ impl<K: Keeper> Store<K> {
         requires passes { prescan self.old.zone.origin updates.now ≡ Passes }
         requires back { AllByRecursion ReadsBack updates.now }
         ensures batch { IfOk result (IsBatchOf self.old.zone updates.now) }
-        ensures is { Stores K.keeper self.old client moment (batch_of self.old.zone.origin self.old.zone.records updates.now) result self.new }
+        ensures is { Stores K.keeper self.old client moment
+            (batch_of self.old.zone.origin self.old.zone.records updates.now) result self.new }
         ensures stored { IsStored K.keeper self.new }
         ensures alone { IfOk result (LeavesJournalled K.keeper self.new.keeper) }
         ensures left { LeavesStored K.keeper self.old client moment
