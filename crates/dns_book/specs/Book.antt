@@ -60,7 +60,7 @@ pub data Ends {K : Type 0} (keeper : KeeperOf K) (before : SeenOf K) (ask : Ask)
   idle : length batch ≡ 0 → Ends keeper before ask batch false None before
   journalled : 0 < length batch → (held : K)
       → GrowsByBatch (keeper.told before.keeper).rows (keeper.told held).rows ask.client
-          (serial_after_batch before.zone.origin before.zone.records batch) ask.at batch
+      (serial_after_batch before.zone.origin before.zone.records batch) ask.at batch
       → (keeper.told held).faults ≡ (keeper.told before.keeper).faults
       → Ends keeper before ask batch false (Some (receipt_of before ask batch)) (grown before held batch)
   failed : 0 < length batch → (held : K) → Keeps (keeper.told before.keeper).rows (keeper.told held).rows

@@ -103,7 +103,13 @@ impl<K: Keeper> Book<K> {
         ensures left_unsettled { OnErr result (LeavesUnsettled K.keeper access.now self.old ask.now self.new) }
         ensures left_on { LeavesOn K.keeper self.old → LeavesOn K.keeper self.new }
     {
-        match outcome_for(self.alloc, self.store.zone(), self.allow_update, access, ask)? {
+        match outcome_for(
+            self.alloc,
+            self.store.zone(),
+            self.allow_update,
+            access,
+            ask,
+        )? {
             None => Ok(self.told(false)),
             Some(outcome) => {
                 out.reserve(reply_room(&outcome))?;

@@ -108,7 +108,7 @@ OpensNot-earlier b m a origin opening s (journal_failed rose) k same = journal_f
 OpensNot-earlier b m a origin opening s (opening_without_memory still) k same = opening_without_memory (still ∙ same)
 
 -- a journal whose first row was not seen
-pub sees_no_row : {T : Type 0} (journal : Around KeeperTold) (why : KeepFault) → HasCause {T} journal.before.faults journal.after.faults (Err why) → SeesNoRow journal (unkept why)
+pub sees_no_row : {T : Type 0} (journal : Around KeeperTold) (why : KeepFault) → HasCause {T = T} journal.before.faults journal.after.faults (Err why) → SeesNoRow journal (unkept why)
 sees_no_row journal keep.Failed cause = journal_unread cause.counts
 sees_no_row journal keep.OutOfMemory cause = journal_without_memory cause.counts
 

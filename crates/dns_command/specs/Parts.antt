@@ -71,7 +71,7 @@ pub data SettlesPart {K : Type 0} (keeper : KeeperOf K) (access : Access) (first
   of_memory : {left : K} → (count : ℕ) (outs : List Out) (last : SeenOf K) → Valid new_kept events
       → (ran : Run (Settles keeper access) first (take count (done new_kept events)) outs last)
       → CountsFailures (failures keeper access first (take count (done new_kept events)) outs last ran)
-          (keeper.told first.keeper).faults (keeper.told left).faults
+      (keeper.told first.keeper).faults (keeper.told left).faults
       → Keeps (keeper.told last.keeper).rows (keeper.told left).rows → (keeper.told left).faults ≡ (keeper.told last.keeper).faults
       → SettlesPart keeper access first events status.OutOfMemory left
 

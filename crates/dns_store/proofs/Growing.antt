@@ -137,7 +137,7 @@ stores_refused {K} keeper store held zone client moment batch result fault was s
     subst (λ (z : Contents). Stores keeper store client moment batch (Err fault) (updated held z store.row_count)) (sym same)
     (refused fault was (subst (HasCause (keeper.told store.keeper).faults (keeper.told held).faults) was cause))
   where
-    refused : (fault : KeepFault) → result ≡ Err fault → HasCause {Batch} (keeper.told store.keeper).faults (keeper.told held).faults (Err fault)
+    refused : (fault : KeepFault) → result ≡ Err fault → HasCause {T = Batch} (keeper.told store.keeper).faults (keeper.told held).faults (Err fault)
         → Stores keeper store client moment batch (Err fault) (record store { keeper = held })
     refused keep.Failed was is = record { some = some was; same = refl; kept = kept; later = is.later; rose = is.counts }
     refused keep.OutOfMemory was is = record { same = refl; kept = kept; uncounted = is.counts }

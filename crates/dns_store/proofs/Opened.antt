@@ -157,17 +157,17 @@ opens_not_recovered before between now origin given NoZone row kept same seen is
 opens_not_recovered before between now origin given OutOfMemory row kept same seen is = record { unfound = tt; unopened = unopened_since before between now _ kept same is.unopened }
 
 -- a call of the keeper was refused
-unopened_by : (before now : KeeperTold) (f : KeepFault) → Keeps before.rows now.rows → HasCause {Unit {0}} before.faults now.faults (Err f) → IsUnopened before now (keeper_kind f)
+unopened_by : (before now : KeeperTold) (f : KeepFault) → Keeps before.rows now.rows → HasCause {T = Unit {0}} before.faults now.faults (Err f) → IsUnopened before now (keeper_kind f)
 unopened_by before now keep.Failed kept cause = record { kept = kept; later = cause.later; counts = cause.counts }
 unopened_by before now keep.OutOfMemory kept cause = record { kept = kept; later = cause.later; counts = cause.counts }
 
 -- the first one
-cause_alone : {T : Type 0} (before now : ℕ) (f : KeepFault) → HasCause {T} before now (Err f) → HasCause {Unit {0}} before now (Err f)
+cause_alone : {T : Type 0} (before now : ℕ) (f : KeepFault) → HasCause {T = T} before now (Err f) → HasCause {T = Unit {0}} before now (Err f)
 cause_alone before now keep.Failed cause = record { later = cause.later; counts = cause.counts }
 cause_alone before now keep.OutOfMemory cause = record { later = cause.later; counts = cause.counts }
 
 pub opens_not_seen : {T : Type 0} (before now : KeeperTold) (origin : List (List ℕ)) (given : Option Contents) (f : KeepFault) (kind : OpenKind) → kind ≡ keeper_kind f → Keeps before.rows now.rows
-    → HasCause {T} before.faults now.faults (Err f) → OpensNot before now origin given kind
+    → HasCause {T = T} before.faults now.faults (Err f) → OpensNot before now origin given kind
 opens_not_seen before now origin given f kind is kept cause =
     subst (OpensNot before now origin given) (sym is) (by f (unopened_by before now f kept (cause_alone before.faults now.faults f cause)))
   where
@@ -187,8 +187,8 @@ begins_not_with before now given f kind is not =
 -- rows were read, of which no zone came
 pub recovers_not : {K T : Type 0} (keeper : KeeperOf K) (old new : K) (origin : List (List ℕ)) (result : Result T OpenKind) (kind : OpenKind) → result ≡ Err kind
     → IsUnread (keeper.told old).rows (keeper.told new).rows origin kind → ReadsRows keeper old new result → RecoversNot (keeper.told old) (keeper.told new) origin kind
-recovers_not keeper old new origin result kind is unread reads =
-    let so = subst (λ (r : Result _ OpenKind). ReadsRows keeper old new r) is reads in
+recovers_not {T} keeper old new origin result kind is unread reads =
+    let so = subst (λ (r : Result T OpenKind). ReadsRows keeper old new r) is reads in
     record { unread = unread; unopened = record { kept = so.kept; later = so.later; counts = so.counts } }
 
 -- what follows from what an answer without a fault gives

@@ -90,7 +90,7 @@ pub record OpensNot (before now : KeeperTold) (origin : List (List ℕ)) (given 
 -- a journal was not begun: no row changed, and the count of faults rose where the keeper failed, and only there
 pub record BeginsNot (before now : KeeperTold) (fault : KeepFault) : Type 0 where
   pub kept : Keeps before.rows now.rows
-  pub cause : HasCause {Unit {0}} before.faults now.faults (Err fault)
+  pub cause : HasCause {T = Unit {0}} before.faults now.faults (Err fault)
 
 -- why a journal without rows was not begun, with the zone that was given, if one was
 abbrev pub IsUnbegun : Option Contents → OpenKind → Type 0

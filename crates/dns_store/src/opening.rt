@@ -112,11 +112,7 @@ impl<K: Keeper> Store<K> {
     /// Reads a journal back, row by row from the least id on: the zone that its rows stand for, whose origin this is, in
     /// whatever case. Rows that are no zone's are refused with the first that is wrong, and no rows as none with an SOA.
     /// The rows stay as they are.
-    pub fn recover(
-        alloc: Global,
-        mut keeper: K,
-        origin: &Name,
-    ) -> Result<Store<K>, OpenFault<K>>
+    pub fn recover(alloc: Global, mut keeper: K, origin: &Name) -> Result<Store<K>, OpenFault<K>>
         ensures ok { IfOk result (Recovers K.keeper (K.keeper.told keeper) origin.now) }
         ensures err { IfErr result (λ f. RecoversNot (K.keeper.told keeper) (K.keeper.told f.keeper) origin.now f.kind) }
         ensures left { IfOk result (λ store. LeavesNoOther (K.keeper.may_leave keeper) (K.keeper.may_leave store.keeper)) }

@@ -68,10 +68,7 @@ impl<K: Keeper> Store<K> {
             return Err(KeepFault::OutOfMemory);
         }
         let (alloc, keeper) = (self.alloc, &mut self.keeper);
-        let batch = match self
-            .zone
-            .journal(alloc, keeper, client, moment, updates)
-        {
+        let batch = match self.zone.journal(alloc, keeper, client, moment, updates) {
             Ok(batch) => batch,
             Err(fault) => return Err(fault),
         };
