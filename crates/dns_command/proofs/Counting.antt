@@ -1,5 +1,5 @@
 -- Which counts of faults rose, by how a list of events ended.
-use Rattle.std.proofs.Common.{◌≡◌, ◌⊎◌, ◌<◌, List, take, ℕ, zero, suc, Option, Some, None, MatchOption, inl, inr, refl, sym, ap, ◌∙◌, subst, arith}
+use Rattle.std.proofs.Common.{◌≡◌, ◌⊎◌, ◌<◌, List, take, ℕ, Option, Some, None, MatchOption, inl, inr, refl, sym, ap, ◌∙◌, subst}
 use Rattle.dns_io.specs.Told.{Rose}
 use Rattle.dns_edges.specs.Edges.{Around, SourceTold, SinkTold}
 use Rattle.dns_keeper.specs.Keeping.{KeeperTold, KeeperOf}
@@ -27,6 +27,7 @@ use Rattle.dns_command.specs.Status.{refusal_line}
 use Rattle.dns_command.specs.ServeEnds.{ListTells}
 use Rattle.dns_command.proofs.Completing.{completes}
 use Rattle.dns_command.proofs.Endings.{IsOpened-still}
+use Rattle.dns_command.proofs.Loops.{zero_or_more}
 
 -- the count of a source stood still, or it is told that it could not be read
 abbrev Read : Around SourceTold → Status → Type 0
@@ -107,7 +108,7 @@ refused_reads words z e journal moment s (at_opening options opening events lega
 -- ---- the journal
 
 -- the count of the journal stood still, or it is told that it failed
-abbrev Kept : Around KeeperTold → Status → Type 0
+abbrev pub Kept : Around KeeperTold → Status → Type 0
 Kept journal s = IsStillJournal journal ⊎ (Rose journal.before.faults journal.after.faults × (s ≡ status.KeeperFault))
 
 untouched_journal : (journal : Around KeeperTold) → IsUntouched journal → IsStillJournal journal
@@ -150,10 +151,6 @@ journal_fault w Failed s took (inr (rose, is)) = inr (inl (rose, cut_by_fault (s
 pub journal_want : (w : World) (Failed : Type 0) (s : Status) → TookFront w (refusal_line s) → Kept w.journal s → CountsJournal w Failed status.OutOfMemory
 journal_want w Failed s took (inl still) = inl still
 journal_want w Failed s took (inr (rose, is)) = inr (inl (rose, cut_for_want (subst (λ (x : Status). TookFront w (refusal_line x)) is took)))
-
-zero_or_more : (n : ℕ) → (n ≡ 0) ⊎ (0 < n)
-zero_or_more zero = inl refl
-zero_or_more (suc n) = inr (omega arith)
 
 -- what a refusal counts, by how its line was written
 pub written : (w : World) (source : Around SourceTold) (s : Status) → Read source s → CountsReading w source s

@@ -44,7 +44,8 @@ use Rattle.dns_command.specs.ServingParts.{ServesBook, ServesNot, unshared, clos
 use Rattle.dns_command.specs.ServeEnds.{IsCutServing, in_refusal, in_closing, ServeEnds, with_closing, with_refusal, with_write_fault, cut_for_memory, refused_for_memory, IsSoundServing}
 use Rattle.dns_command.specs.Counts.{ComesOf, with_line, cut_by_fault, cut_for_memory as cut_for_want, CountsWriting, HasServed, TakesSomeFaulty, FailsServing, in_serving, in_stopping, RunCounts}
 use Rattle.dns_command.proofs.Completing.{of_finding, of_opening}
-use Rattle.dns_command.proofs.Counting.{Kept, untouched, unwritten, of_found, of_unfound, of_unfound_journal, of_unopened, zero_or_more}
+use Rattle.dns_command.proofs.Counting.{Kept, untouched, unwritten, of_found, of_unfound, of_unfound_journal, of_unopened}
+use Rattle.dns_command.proofs.Loops.{zero_or_more}
 use Rattle.dns_command.proofs.Told.{NeverBegins-told}
 use Rattle.dns_command.proofs.Endings.{journal_of, Finds-on, OpensNot-earlier, IsOpened-earlier, IsOpened-told, IsOpened-still}
 

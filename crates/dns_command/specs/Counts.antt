@@ -20,7 +20,7 @@ use Rattle.dns_command.specs.World.{World, IsStill, IsStillJournal}
 use Rattle.dns_command.specs.Hubs.{Meanings, TakesFaulty}
 use Rattle.dns_command.specs.Ends.{TookFront, Serves}
 use Rattle.dns_command.specs.Serving.{openings_of, failed_updates, failed_so_far, StopsServing}
-use Rattle.dns_command.specs.Serving as Serving
+use Rattle.dns_command.specs.Serving as serving
 
 -- it ended with the status of a refusal; or the line of that refusal was cut, for a fault of the output or for want of memory
 pub data ComesOf (w : World) (cause : Status) : Status → Type 0 where
@@ -73,7 +73,7 @@ pub record TakesSomeFaulty {K U T R W C : Type 0} (m : Meanings K U T R W C) (hu
 
 -- a worker of the ports answered an update with ServFail, since the journal failed
 pub data FailsServing {K U T R W C : Type 0} (m : Meanings K U T R W C) (w : World) (hub : Around (HubTold U T)) : Type 0 where
-  in_serving : (written : List ℕ) (served : Serving.Serves m w hub written)
+  in_serving : (written : List ℕ) (served : serving.Serves m w hub written)
       → 0 < failed_updates m (access_of served.service.options) served.opened served.crew served.ports.worked → FailsServing m w hub
   in_stopping : (s : Status) (stopped : StopsServing m w hub s)
       → 0 < failed_so_far m (access_of stopped.service.options) stopped.opened stopped.crew stopped.shared.worked → FailsServing m w hub
