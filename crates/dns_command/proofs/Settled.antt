@@ -1,5 +1,5 @@
 -- What a server's run over messages leaves of a book.
-use Rattle.std.proofs.Common.{◌≡◌, ℕ, ◌+◌, List, [], ◌∷◌, ◌⊎◌, inl, inr, Option, Bool, true, false, if◌then◌else◌, refl, sym, ap, subst, ◌∙◌, take, arith}
+use Rattle.std.proofs.Common.{◌≡◌, ℕ, List, [], ◌∷◌, ◌⊎◌, inl, inr, Option, refl, sym, ap, subst, ◌∙◌, take}
 use Rattle.dns_io.specs.Told.{NeverBegins, Keeps}
 use Rattle.dns_io.proofs.ToldContents.{Keeps-same}
 use Rattle.dns_wire.specs.declared.record.Record.{Record}
@@ -9,7 +9,6 @@ use Rattle.dns_book.specs.declared.ask.Receipt.{Receipt}
 use Rattle.dns_book.specs.declared.ask.Settled.{Settled}
 use Rattle.dns_book.specs.Access.{Access}
 use Rattle.dns_book.specs.Book.{SeenOf, Ends, idle, journalled, failed, Settles, IsLeft}
-use Rattle.dns_book.proofs.Failing.{Settles-same}
 use Rattle.dns_server_core.specs.declared.event.Event.{Event}
 use Rattle.dns_server_core.specs.declared.event.Out.{Out}
 use Rattle.dns_server_core.specs.declared.fault.RunFault.{RunFault}
@@ -23,10 +22,6 @@ use Rattle.dns_command.specs.declared.status.Status.TheVariants as status
 use Rattle.dns_command.specs.Ends.{CountsFailures}
 use Rattle.dns_command.specs.Parts.{SettlesEach, SettlesPart, of_memory}
 use Rattle.dns_command.proofs.Told.{NeverBegins-told, NeverBegins-same, NeverBegins-more}
-
-no_failure : (fails : Bool) (rest : ℕ) → (if fails then 1 else 0) + rest ≡ 0 → (fails ≡ false) × (rest ≡ 0)
-no_failure true rest e = absurd (omega (arith, e))
-no_failure false rest e = (refl, e)
 
 module _ {K : Type 0} (keeper : KeeperOf K) where
   Ends-told : (before : SeenOf K) (ask : Ask) (batch : List Record) (flag : _) (receipt : Option Receipt) (after : SeenOf K) → Ends keeper before ask batch flag receipt after → NeverBegins (keeper.told before.keeper).rows (keeper.told after.keeper).rows
@@ -43,13 +38,14 @@ module _ {K : Type 0} (keeper : KeeperOf K) where
   Run-told access first last (c ∷ cs) outs ran =
       NeverBegins-more (keeper.told first.keeper).rows (keeper.told ran.1.keeper).rows (keeper.told last.keeper).rows (Settles-told access first c.ask ran.0 ran.1 ran.3) (Run-told access ran.1 last cs ran.2 ran.5)
 
-  -- where none of its updates failed, the count of faults is as it was
-  pub Run-still : (access : Access) (first last : SeenOf K) (asks : List Completed) (outs : List Out) (ran : Run (Settles keeper access) first asks outs last) → failures keeper access first asks outs last ran ≡ 0
-      → (keeper.told last.keeper).faults ≡ (keeper.told first.keeper).faults
-  Run-still access first last [] outs ran none = ap (λ (s : SeenOf K). (keeper.told s.keeper).faults) ran.0
-  Run-still access first last (c ∷ cs) outs ran none =
-      let no = no_failure ran.3.failed (failures keeper access ran.1 cs ran.2 last ran.5) none in
-      Run-still access ran.1 last cs ran.2 ran.5 no.1 ∙ Settles-same keeper access first ran.1 c.ask ran.0 ran.3 no.0
+  -- what the server's law says of a run: no more updates failed than the count of faults rose, and where none did it is as it was
+  abbrev Rises : Type 0
+  Rises = (a : Access) (first later : SeenOf K) (asks : List Completed) (outs : List Out) → (ran : Run (Settles keeper a) first asks outs later)
+      → RoseBy (failures keeper a first asks outs later ran) (keeper.told first.keeper).faults (keeper.told later.keeper).faults
+
+  abbrev Stays : Type 0
+  Stays = (a : Access) (first later : SeenOf K) (asks : List Completed) (outs : List Out) → (ran : Run (Settles keeper a) first asks outs later)
+      → failures keeper a first asks outs later ran ≡ 0 → (keeper.told later.keeper).faults ≡ (keeper.told first.keeper).faults
 
   -- where memory ran out, the rows are as they were, and no fault was counted
   skipped : (last now : SeenOf K) → (now ≡ last) ⊎ IsLeft keeper last now → Keeps (keeper.told last.keeper).rows (keeper.told now.keeper).rows × ((keeper.told now.keeper).faults ≡ (keeper.told last.keeper).faults)
@@ -59,29 +55,27 @@ module _ {K : Type 0} (keeper : KeeperOf K) where
   -- a whole list was served
   pub settled_each : (access : Access) (first : SeenOf K) (events : List Event) (new : List Out) (server : ServerOf (SeenOf K)) → Valid new_kept events
       → Answers (Settles keeper access) first (done new_kept events) server.handler [] new → server.kept ≡ after new_kept events
-      → ((a : Access) (before later : SeenOf K) (asks : List Completed) (outs : List Out) → (ran : Run (Settles keeper a) before asks outs later) → RoseBy (failures keeper a before asks outs later ran) (keeper.told before.keeper).faults (keeper.told later.keeper).faults)
-      → SettlesEach keeper access first events new server
-  settled_each access first events new server v answered kept law =
+      → Rises → Stays → SettlesEach keeper access first events new server
+  settled_each access first events new server v answered kept rises stays =
       let ran : Run (Settles keeper access) first (done new_kept events) new server.handler = subst (λ (o : List Out). Run (Settles keeper access) first (done new_kept events) o server.handler) (sym answered.added) answered.run in
       record {
         valid = v;
         ran = ran;
-        few = record { few = law access first server.handler (done new_kept events) new ran; still = Run-still access first server.handler (done new_kept events) new ran };
+        few = record { few = rises access first server.handler (done new_kept events) new ran; still = stays access first server.handler (done new_kept events) new ran };
         kept = kept;
       }
 
   -- a server that was new did not serve the whole list: memory ran out behind some of the messages
   pub cut_short : (access : Access) (before after : ServerOf (SeenOf K)) (events : List Event) (old new : List Out) (why : RunFault) (held : K) → before.kept ≡ new_kept → Valid new_kept events
       → Leaves (Settles keeper access) (IsLeft keeper) before events after old new why → held ≡ after.handler.keeper
-      → ((a : Access) (first later : SeenOf K) (asks : List Completed) (outs : List Out) → (ran : Run (Settles keeper a) first asks outs later) → RoseBy (failures keeper a first asks outs later ran) (keeper.told first.keeper).faults (keeper.told later.keeper).faults)
-      → SettlesPart keeper access before.handler events status.OutOfMemory held
-  cut_short access before after events old new fault.Stopped held n v l is law = absurd (let e = ap (λ (x : Kept). x.stopped) n in let was = l.0 in cc)
-  cut_short access before after events old new (fault.OutOfMemory count) held n v l is law =
+      → Rises → Stays → SettlesPart keeper access before.handler events status.OutOfMemory held
+  cut_short access before after events old new fault.Stopped held n v l is rises stays = absurd (let e = ap (λ (x : Kept). x.stopped) n in let was = l.0 in cc)
+  cut_short access before after events old new (fault.OutOfMemory count) held n v l is rises stays =
       let ran : Run (Settles keeper access) before.handler (take count (done new_kept events)) l.answered.outs l.last =
       subst (λ (x : Kept). Run (Settles keeper access) before.handler (take count (done x events)) l.answered.outs l.last) n l.answered.run in
       let counts : CountsFailures (failures keeper access before.handler (take count (done new_kept events)) l.answered.outs l.last ran) (keeper.told before.handler.keeper).faults (keeper.told l.last.keeper).faults = record {
-        few = law access before.handler l.last (take count (done new_kept events)) l.answered.outs ran;
-        still = Run-still access before.handler l.last (take count (done new_kept events)) l.answered.outs ran;
+        few = rises access before.handler l.last (take count (done new_kept events)) l.answered.outs ran;
+        still = stays access before.handler l.last (take count (done new_kept events)) l.answered.outs ran;
       } in
       let end = skipped l.last after.handler l.end in
       let same : (keeper.told held).faults ≡ (keeper.told l.last.keeper).faults = ap (λ (x : K). (keeper.told x).faults) is ∙ end.1 in

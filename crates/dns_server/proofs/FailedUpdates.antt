@@ -7,7 +7,7 @@ use Rattle.dns_book.specs.declared.ask.Ask.{Ask}
 use Rattle.dns_book.specs.declared.ask.Settled.{Settled}
 use Rattle.dns_book.specs.Access.{Access}
 use Rattle.dns_book.specs.Book.{SeenOf}
-use Rattle.dns_book.proofs.Failing.{Settles-later, Settles-same}
+use Rattle.dns_book.proofs.Failing.{Settles-later}
 use Rattle.dns_server_core.specs.Books.{RoseBy}
 use Rattle.dns_edges.specs.Edges.{SourceOf, SinkOf, ClockOf}
 use Rattle.dns_ports.specs.Ports.{UdpTold, ListenerOf}
@@ -62,9 +62,9 @@ few_by_step : (flag : Bool) (a b x y : ℕ) (marked : Bool) → b + x ≡ a + y 
 few_by_step true a b x y marked counted later fails = ⊎_elim (λ (less : a < b). inl (omega (arith, less))) (λ (m : marked ≡ true). inr m) (fails refl)
 few_by_step false a b x y marked counted later fails = inl (omega (arith, counted, later))
 
-still_by_step : (flag : Bool) (a b x y : ℕ) → b + x ≡ a + y → (flag ≡ false → y ≡ x) → (if flag then 1 else 0) ≡ 0 → b ≡ a
-still_by_step true a b x y counted same none = absurd (omega (arith, none))
-still_by_step false a b x y counted same none = let e = same refl in omega (arith, counted, e)
+no_failure : (flag : Bool) → (if flag then 1 else 0) ≡ 0 → flag ≡ false
+no_failure true none = absurd (omega (arith, none))
+no_failure false none = refl
 
 -- a run of steps by a pass
 module _ {K : Type 0} (keeper : KeeperOf K) (access : Access) where
@@ -73,8 +73,7 @@ module _ {K : Type 0} (keeper : KeeperOf K) (access : Access) where
     few = few_by_step s.account.settles.failed p.account.faults q.account.faults (keeper.told s.account.book.keeper).faults (keeper.told s.account.later.keeper).faults q.account.marked
         s.account.counted (Settles-later keeper access s.account.book s.account.later _ settled s.account.settles) s.account.failed;
     mark = s.account.mark;
-    still = still_by_step s.account.settles.failed p.account.faults q.account.faults (keeper.told s.account.book.keeper).faults (keeper.told s.account.later.keeper).faults s.account.counted
-        (Settles-same keeper access s.account.book s.account.later _ settled s.account.settles);
+    still = λ none. s.account.calm (no_failure s.account.settles.failed none);
   }
 
   datagram_grew : (p : PassSeen) (ask : Ask) (fate : Fate) (q : PassSeen) → (s : Steps (SettledBy keeper access) LeftBy p ask fate q) → GrewBy (failed_by_datagram keeper access p ask fate q s) p q
