@@ -8,6 +8,7 @@ pub mod laws;
 mod lines;
 mod logical_line;
 mod names;
+mod numbers;
 mod typed_data;
 mod values;
 mod words;
