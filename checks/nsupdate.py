@@ -144,6 +144,11 @@ FAULTY = [
     ("add a. 60 NOTYPE x\n", "1: Type"),
     ("add a. 60 A 192.0.2\n", "1: Data"),
     ("add a. 60 TXT \"x\n", "1: Quote"),
+    ("add $TTL x y\n", "1: Directive"),
+    ("add ( $TTL x )\n", "1: Directive"),
+    ("\t\nadd ( $ORIGIN a..b )\n", "2: Directive"),
+    ("add ( $INCLUDE f )\n", "1: Directive"),
+    ("add ( \"$TTL\" 60 A 192.0.2.1 )\n", "1: Name"),
     ("zone example.com.\nadd a.example.com. 60 A 192.0.2.1\n", "2: Unsent"),
     ("zone example.com.\nadd a.example.com. 60 A 192.0.2.1\nsend\n\nprereq yxdomain a.\ndelete a.", "5: Unsent"),
 ]

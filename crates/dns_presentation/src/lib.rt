@@ -14,7 +14,7 @@ mod values;
 mod words;
 
 pub use data_text::{WrittenType, type_of};
-pub use entry::{Context, Entry, entry_of, stated_ttl};
+pub use entry::{Context, Entry, entry_of, is_directive, stated_ttl};
 pub use fault::{EntryFault, EntryKind};
 pub use lines::split_line;
 pub use logical_line::LogicalLine;
