@@ -30,6 +30,7 @@ import connections
 import updates
 from update_model import A, ANY, IN, SOA, Record, Server, name_bytes, number, record_bytes, serial_of
 
+TOP = Path(__file__).resolve().parent.parent
 COUNT, KILLS, SEED = 60, 200, 2136
 BOUND = 60  # seconds
 BATCHES = 60  # updates of a run that is killed
@@ -227,6 +228,12 @@ def cut_row(journal, zone):
     spoil(journal, "UPDATE records SET record = substr(record, 1, length(record) - 1) WHERE id = 3")
 
 
+def cut_row_of_eight(journal, zone):
+    zone.write_bytes((TOP / "examples" / "example.com.zone").read_bytes())
+    begin(journal, zone)
+    spoil(journal, "UPDATE records SET record = substr(record, 1, length(record) - 1) WHERE id = 5")
+
+
 def missing_row(journal, zone):
     begin(journal, zone)
     spoil(journal, "DELETE FROM records WHERE id = 2")
@@ -258,6 +265,7 @@ REFUSALS = [
     (foreign_table, 8, "keeper fault"),
     (later_version, 8, "keeper fault"),
     (cut_row, 5, "journal row 3: row is no record"),
+    (cut_row_of_eight, 5, "journal row 5: row is no record"),
     (missing_row, 5, "journal row 3: row out of place"),
     (no_snapshot, 5, "journal row 1: row out of place"),
     (no_soa, 5, "journal row 1: not one SOA"),

@@ -1,6 +1,6 @@
 -- The names that stand in data are those that stand there in a message.
 use Rattle.std.proofs.Common.{◌≡◌, ℕ, zero, suc, ◌+◌, ◌-◌, ◌*◌, ◌<◌, ◌≤◌, nat_lt, Bool, true, false, ◌&&◌, List, [], ◌∷◌, length, take, drop, refl, sym, ap, subst, ◌∙◌, arith, length-drop, Option, Some, None, ◌⊎◌, inl, inr}
-use Rattle.std.specs.Prelude.{◌==◌, nat_le, if◌then◌else◌, slice_get, IsSomeAnd}
+use Rattle.std.specs.Prelude.{◌==◌, nat_le, if◌then◌else◌, slice_get, IfSome, IsSomeAnd}
 use Rattle.std.specs.Bool.{Decides}
 use Rattle.std.specs.List.{AllByRecursion, list_all}
 use Rattle.std.proofs.lemmas.Bool.{lt-ltb, leb-true, le-leb}
@@ -9,6 +9,7 @@ use Rattle.std.proofs.lemmas.List.{drop-drop}
 use Rattle.std.proofs.lemmas.Option.{slice_get_within}
 use Rattle.dns_name.specs.Name.{IsLabel, IsName, name_len}
 use Rattle.dns_name.specs.NameInMessage.{NameAt, ends, goes_on, points, StandsAt}
+use Rattle.dns_wire.proofs.Forward.{name_takes_bytes}
 use Rattle.dns_presentation.specs.Values.{◌>>=◌}
 use Rattle.dns_presentation.specs.NamesInData.{pointed, labels_at, labels_before, is_label, is_name, name_at, last_name}
 
@@ -214,6 +215,17 @@ name_at-none m i none = by_found (name_at m i) refl
     by_found : (found : Option (List (List ℕ) × ℕ)) → name_at m i ≡ found → found ≡ None
     by_found None is = refl
     by_found (Some found) is = absurd (none found.0 found.1 (name_at-stands m i found is))
+
+-- what was read is found
+pub name_at-read : (m : List ℕ) (i : ℕ) (read : Option (List (List ℕ) × ℕ)) → IfSome read (λ found. StandsAt m i found.0 found.1) → (found : List (List ℕ) × ℕ) → read ≡ Some found → (name_at m i ≡ Some found) × (i < found.1)
+name_at-read m i None stands found is = absurd cc
+name_at-read m i (Some other) stands found is =
+    let here : StandsAt m i found.0 found.1 = subst (λ (f : List (List ℕ) × ℕ). StandsAt m i f.0 f.1) (some_same other found is) stands in
+    (name_at-found m i found.0 found.1 here, name_takes_bytes m i found.0 found.1 here)
+
+pub name_at-unread : (m : List ℕ) (i : ℕ) (read : Option (List (List ℕ) × ℕ)) → ((labels : List (List ℕ)) (j : ℕ) → StandsAt m i labels j → IsSomeAnd read (λ found. (found.0 ≡ labels) × (found.1 ≡ j))) → read ≡ None → name_at m i ≡ None
+name_at-unread m i None only is = name_at-none m i only
+name_at-unread m i (Some other) only is = absurd cc
 
 -- so is a name that goes to the end
 pub last_name-stands : (m : List ℕ) (i : ℕ) (labels : List (List ℕ)) → last_name m i ≡ Some labels → StandsAt m i labels (length m)

@@ -172,7 +172,7 @@ fn txt_in(alloc: Global, bytes: &[u8]) -> Result<Texts, ValueFault>
     let mut texts = Texts::new(alloc);
     let mut rest = bytes;
     while let [size, tail @ ..] = rest {
-        let size = usize::from(*size);
+        let size = *size as usize;
         if tail.len() < size {
             return Err(ValueFault::Refused);
         }
