@@ -11,7 +11,9 @@ use Rattle.std.proofs.lemmas.Slice.Eq.{bytes_eq-Decides}
 use Rattle.dns_name.specs.Name.{name_bytes, labels_bytes}
 use Rattle.dns_name.proofs.Wire.{labels_of-spelled}
 use Rattle.dns_wire.specs.declared.rdata.Data.{Data}
-use Rattle.dns_wire.specs.declared.rdata.Data.TheVariants.{A, Aaaa, Ns, Cname, Ptr, Mx, Srv, Soa, Txt, Opaque, Empty}
+use Rattle.dns_wire.specs.declared.rdata.Data.TheVariants.{A, Aaaa, Ns, Cname, Ptr, Mx, Txt, Opaque}
+use Rattle.dns_wire.specs.declared.record_type.TheConstants as record_type
+use Rattle.dns_wire.specs.declared.record_type.TheConstants.{NS, CNAME, SOA, PTR, MX, TXT, AAAA, SRV, OPT}
 use Rattle.dns_wire.specs.declared.rdata.Form.{Form}
 use Rattle.dns_wire.specs.declared.rdata.Form.TheVariants as form
 use Rattle.dns_wire.specs.Forms.{form_of, variant_of}
@@ -172,7 +174,8 @@ pub typed_data-written : (type : ℕ) (d : Data) → IsData d → form_of type (
 unfolding typed_data
 typed_data-written type d kept form_is =
     let bytes : List ℕ = data_bytes d in
-    let at : FormAt (variant_of d) bytes 0 (length bytes) d = data_back bytes 0 d [] kept (sym (append-nil bytes)) in
+    let end : 0 + length bytes ≡ length bytes = omega arith in
+    let at : FormAt (variant_of d) bytes 0 (length bytes) d = subst (λ (j : ℕ). FormAt (variant_of d) bytes 0 j d) end (data_back bytes 0 d [] kept (sym (append-nil bytes))) in
     data_in-found (form_of type (length bytes)) bytes d (subst (λ (f : Form). FormAt f bytes 0 (length bytes) d) (sym form_is) at)
 
 -- data is of the form that it stands in
@@ -220,8 +223,25 @@ form_any type size other some more =
     let b : (other == 0) ≡ false = grind arith in
     rw (a, b) refl
 
+not_empty : (none opt a ns cname soa ptr mx txt aaaa srv : Bool) → none ≡ false
+    → (if opt then form.Opaque else if none then form.Empty else if a then form.A else if ns then form.Ns else if cname then form.Cname else if soa then form.Soa else if ptr then form.Ptr else if mx then form.Mx else if txt then form.Txt else if aaaa then form.Aaaa else if srv then form.Srv else form.Opaque) ≡ form.Empty → ⊥
+not_empty none true a ns cname soa ptr mx txt aaaa srv some is = absurd cc
+not_empty true false a ns cname soa ptr mx txt aaaa srv some is = absurd cc
+not_empty false false true ns cname soa ptr mx txt aaaa srv some is = absurd cc
+not_empty false false false true cname soa ptr mx txt aaaa srv some is = absurd cc
+not_empty false false false false true soa ptr mx txt aaaa srv some is = absurd cc
+not_empty false false false false false true ptr mx txt aaaa srv some is = absurd cc
+not_empty false false false false false false true mx txt aaaa srv some is = absurd cc
+not_empty false false false false false false false true txt aaaa srv some is = absurd cc
+not_empty false false false false false false false false true aaaa srv some is = absurd cc
+not_empty false false false false false false false false false true srv some is = absurd cc
+not_empty false false false false false false false false false false true some is = absurd cc
+not_empty false false false false false false false false false false false some is = absurd cc
+
 form_full : (type size : ℕ) → 0 < size → form_of type size ≡ form.Empty → ⊥
-form_full type size some is = search
+form_full type size some is =
+    let full : (size == 0) ≡ false = grind arith in
+    not_empty (size == 0) (type == OPT) (type == record_type.A) (type == NS) (type == CNAME) (type == SOA) (type == PTR) (type == MX) (type == TXT) (type == AAAA) (type == SRV) full is
 
 -- what holds of data when it is written
 pub record IsWhole (type : ℕ) (d : Data) : Type 0 where
