@@ -1,5 +1,6 @@
 #!/usr/bin/env python3
-"""Runs the built program on the cases in checks/cases/*.txt, and on the real files and streams that no data file can name.
+"""Runs the built program on the cases in checks/cases/*.txt, and on the real files and streams that no data file can name. The cases
+of updates are tried over a journal in a file too, and the program is started once more on what is left of it.
 
 A file of cases is read line by line. An empty line, and one that begins with #, says nothing. Every other line is a key, a
 colon, and behind one space its value:
@@ -44,6 +45,7 @@ TOP = Path(__file__).resolve().parent.parent
 PROGRAM = TOP / "crates" / "dns_program" / "out" / "dns_program"
 BOUND = 60  # seconds
 WORDS = "events example.com. --zone=@zone"
+KEPT = ("updates.txt", "update_serials.txt")  # the files whose cases are tried over a journal too
 UNESCAPED = {"n": b"\n", "r": b"\r", "t": b"\t", "\\": b"\\"}
 
 
@@ -160,16 +162,34 @@ def ran(words, **streams):
 def tried(case):
     """What is wrong with a case, or none."""
     with tempfile.TemporaryDirectory() as folder:
-        zone = Path(folder) / "zone"
-        zone.write_bytes(case.zone)
-        words = [word.replace("@zone", str(zone)).replace("@top", str(TOP)) for word in case.words.split()] + case.more
-        status, output = ran(words, input=case.events)
+        words = words_in(folder, case)
+        return unlike(case.name, ran(words, input=case.events), (case.status, case.output))
+
+
+def kept(case):
+    """What is wrong with a case over a journal in a file, or with a run behind it that brings no events, or none."""
+    with tempfile.TemporaryDirectory() as folder:
+        words = [*words_in(folder, case), f"--journal={folder}/journal"]
+        first = unlike(f"{case.name}, over a journal", ran(words, input=case.events), (case.status, case.output))
+        again = unlike(f"{case.name}, when the journal is opened again", ran(words, input=b""), (0, [*case.output[-3:-1], "open 0"]))
+        return first or again
+
+
+def words_in(folder, case):
+    """The words of a case, whose zone text lies in a folder."""
+    zone = Path(folder) / "zone"
+    zone.write_bytes(case.zone)
+    return [word.replace("@zone", str(zone)).replace("@top", str(TOP)) for word in case.words.split()] + case.more
+
+
+def unlike(name, got, due):
+    """What is wrong with the status and the output of a run, or none."""
+    (status, output), (status_due, lines_due) = got, due
     lines = output.decode(errors="replace").split("\n")
-    is_due = len(lines) == len(case.output) + 1 and lines[-1] == "" and all(map(is_line, lines, case.output))
-    if status == case.status and is_due:
+    if status == status_due and len(lines) == len(lines_due) + 1 and lines[-1] == "" and all(map(is_line, lines, lines_due)):
         return None
-    due = "".join(line + "\n" for line in case.output)
-    return f"{case.name}\ndue, status {case.status}:\n{due}written, status {status}:\n{output.decode(errors='replace')}"
+    shown = "".join(line + "\n" for line in lines_due)
+    return f"{name}\ndue, status {status_due}:\n{shown}written, status {status}:\n{output.decode(errors='replace')}"
 
 
 # What data files cannot say: many pieces, long texts, and real files and streams.
@@ -268,13 +288,14 @@ def main():
     if not PROGRAM.exists():
         sys.exit("cases.py: the program is not built: run rt ci first")
     cases = [case for path in sorted((TOP / "checks" / "cases").glob("*.txt")) for case in cases_in(path)] + spread_cases()
+    journals = [case for path in KEPT for case in cases_in(TOP / "checks" / "cases" / path) if case.status == 0]
     with ThreadPoolExecutor(os.cpu_count()) as pool:
-        wrong = [one for one in pool.map(tried, cases) if one is not None]
+        wrong = [one for one in [*pool.map(tried, cases), *pool.map(kept, journals)] if one is not None]
     runs = list(real_runs())
     wrong += [f"{name}\ndue: {due}\ngot: {got}" for name, got, due in runs if got != due]
     for one in wrong[:10]:
         print(one if len(one) < 4_000 else one[:4_000] + " ..")
-    print(f"cases: {len(cases) + len(runs) - len(wrong)} passed, {len(wrong)} failed")
+    print(f"cases: {len(cases) + len(journals) + len(runs) - len(wrong)} passed, {len(wrong)} failed")
     sys.exit(1 if wrong else 0)
 
 

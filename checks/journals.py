@@ -5,7 +5,8 @@ the program answers when it goes on with them, and what is left when it is kille
 The cases are the datagrams of those of updates.py, cut into up to four runs of the program over one file; the zone text is handed
 to the first run alone. After each run every row is compared: its id, its client, its serial, its stamp and its bytes. A killed run
 has to leave a front of the rows that were due, which ends with a whole batch, or nothing; the program goes on with it, and where a
-line of its replies was out, all rows are there. Then files that are no journal, or a damaged one, are refused and left as they are.
+line of its replies was out, all rows are there. A run that makes the tables, opens a zone and settles an update is stopped before each
+of its calls that change a file, in turn. Then files that are no journal, or a damaged one, are refused and left as they are.
 
   journals.py [COUNT [KILLS [SEED]]]  that many cases and killed runs, or 60 and 200; the same ones for the same seed
 
@@ -27,12 +28,17 @@ except ImportError:
     sys.exit(0)
 
 import connections
+import traced
 import updates
+import wire
 from update_model import A, ANY, IN, SOA, Record, Server, name_bytes, number, record_bytes, serial_of
 
+TOP = Path(__file__).resolve().parent.parent
 COUNT, KILLS, SEED = 60, 200, 2136
 BOUND = 60  # seconds
 BATCHES = 60  # updates of a run that is killed
+MOST_CALLS = 10_000  # calls of a run that is stopped
+UPDATE = wire.update(("example.com.", "SOA", "IN"), [], ["serialtest.example.com. 3600 IN A 192.0.2.55"])
 COLUMNS = "SELECT id, client_id, soa_serial, timestamp, record FROM records ORDER BY id"
 ORIGIN = (b"example", b"com")
 ZONE = "example.com. 60 IN SOA ns.example.com. host.example.com. 7 1 1 1 1\nexample.com. 60 IN NS ns.example.com.\n"
@@ -180,6 +186,58 @@ def killed(wait, events):
     return None
 
 
+def left(journal):
+    """The version and the rows of a file, without stamps: -1 and none where it has no tables."""
+    if not journal.exists() or not journal.read_bytes() or is_half_made(journal):
+        return -1, []
+    database = sqlite3.connect(journal)
+    try:
+        tables = {name for (name,) in database.execute("SELECT name FROM sqlite_master WHERE type = 'table'")}
+        version = database.execute("SELECT version FROM tdns_schema").fetchall() if "tdns_schema" in tables else [(-1,)]
+    finally:
+        database.close()
+    return version[0][0], [(row[0], row[1], row[2], row[4]) for row in stored(journal)]
+
+
+def stopped(count, whole):
+    """What is wrong with what is left of a run that is stopped before its call of this number that changes a file, and whether it was: it
+    makes the tables, opens the zone of eight rows, and settles one update. None where nothing is wrong."""
+    zone = TOP / "examples" / "example.com.zone"
+    with tempfile.TemporaryDirectory() as folder:
+        journal, given, told = (Path(folder, name) for name in ("journal", "given", "told"))
+        given.write_text(f"D 0 7f000001 5300 {UPDATE.hex()}\n", encoding="ascii")
+        command = [updates.PROGRAM, "events", "example.com.", "--update", f"--journal={journal}", f"--zone={zone}"]
+        with given.open("rb") as text, told.open("wb") as output:
+            status = traced.stopped_before(count, command, stdin=text, stdout=output)
+        version, rows = left(journal)
+        place = f"stopped before call {count}"
+        if (version, len(rows)) not in [(-1, 0), (1, 0), (1, 8), (1, 9)] or whole and rows != whole[: len(rows)]:
+            return f"{place}: version {version}, {len(rows)} rows", rows, False
+        if told.stat().st_size and len(rows) != 9:
+            return f"{place}: replies were out, and {len(rows)} rows are left", rows, False
+        length = len(rows) or 8
+        got = run(["events", "example.com.", "--update"], journal, [], zone)
+        if got != (0, f"serial {length - 1}\njournal_len {length}\nopen 0\n"):
+            return f"{place}: with {len(rows)} rows the program goes on with status {got[0]}: {got[1]}", rows, False
+        return None, rows, status == 0
+
+
+def stops():
+    """How many calls there are before which a run may be stopped, and what is wrong with what is left at some of them."""
+    if not traced.is_there():
+        print("journals: programs cannot be traced here, so none is stopped at its calls")
+        return 0, []
+    wrong, whole, is_over = [], stopped(MOST_CALLS, [])[1], False
+    count = 0
+    while not is_over and count < MOST_CALLS and not wrong:
+        count += 1
+        fault, _, is_over = stopped(count, whole)
+        wrong += [fault] if fault else []
+    if not wrong and (count < 10 or not is_over):
+        wrong.append(f"a run was stopped before {count} of its calls, and is none that ends")
+    return count, wrong
+
+
 def duration(events):
     """How long a whole run takes, in seconds."""
     with tempfile.TemporaryDirectory() as folder:
@@ -227,6 +285,12 @@ def cut_row(journal, zone):
     spoil(journal, "UPDATE records SET record = substr(record, 1, length(record) - 1) WHERE id = 3")
 
 
+def cut_row_of_eight(journal, zone):
+    zone.write_bytes((TOP / "examples" / "example.com.zone").read_bytes())
+    begin(journal, zone)
+    spoil(journal, "UPDATE records SET record = substr(record, 1, length(record) - 1) WHERE id = 5")
+
+
 def missing_row(journal, zone):
     begin(journal, zone)
     spoil(journal, "DELETE FROM records WHERE id = 2")
@@ -258,6 +322,7 @@ REFUSALS = [
     (foreign_table, 8, "keeper fault"),
     (later_version, 8, "keeper fault"),
     (cut_row, 5, "journal row 3: row is no record"),
+    (cut_row_of_eight, 5, "journal row 5: row is no record"),
     (missing_row, 5, "journal row 3: row out of place"),
     (no_snapshot, 5, "journal row 1: row out of place"),
     (no_soa, 5, "journal row 1: not one SOA"),
@@ -317,10 +382,12 @@ def main():
     events, chance = changing_events(), random.Random(seed)
     whole = duration(events)
     wrong += [one for one in (killed(chance.uniform(0, whole * 1.1), events) for _ in range(kills)) if one]
+    calls, faults = stops()
+    wrong += faults
     wrong += [one for one in [*(refused(*refusal) for refusal in REFUSALS), taken()] if one]
     for one in wrong[:3]:
         print(one)
-    print(f"journals: {count + kills + len(REFUSALS) + 1 - len(wrong)} passed, {len(wrong)} failed")
+    print(f"journals: {count + kills + calls + len(REFUSALS) + 1 - len(wrong)} passed, {len(wrong)} failed")
     sys.exit(bool(wrong))
 
 

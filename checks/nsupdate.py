@@ -44,6 +44,7 @@ SENT = [
     ("a message without records", "zone example.com.\nsend\n", 0, "0000 0\n"),
     ("a name that is in use", "zone example.com.\nprereq yxdomain new.example.com.\nsend\n", 1, "0001 0\n"),
     ("a name that is not", "zone example.com.\nprereq yxdomain none.example.com.\nsend\n", 1, "0001 3\n"),
+    ("a name that owns nothing, above a wildcard", "zone example.com.\nprereq yxdomain wild.example.com.\nsend\n", 4660, "1234 3\n"),
     ("a name that is to be in no use and is", "zone example.com.\nprereq nxdomain www.example.com.\nsend\n", 1, "0001 6\n"),
     ("a name that is in no use", "zone example.com.\nprereq nxdomain none.example.com.\nsend\n", 1, "0001 0\n"),
     ("a set that is there", "zone example.com.\nprereq yxrrset www.example.com. A\nsend\n", 1, "0001 0\n"),
@@ -97,6 +98,16 @@ LINES = [
     ("update delete a.example.com. 60 NS n.example.com.", None, "a.example.com. 0 NONE NS n.example.com."),
 ]
 
+# messages byte by byte (RFC 1035 4.1, RFC 2136 2), with the id 4660: what adds a record, and what asks for a name that is in use
+NAME_BYTES = "076578616d706c6503636f6d00"
+WRITTEN = [
+    (
+        "add serialtest.example.com. 3600 A 192.0.2.55",
+        f"123428000001000000010000{NAME_BYTES}000600010a73657269616c74657374{NAME_BYTES}0001000100000e100004c0000237",
+    ),
+    ("prereq yxdomain wild.example.com.", f"123428000001000100000000{NAME_BYTES}000600010477696c64{NAME_BYTES}00ff00ff000000000000"),
+]
+
 # scripts that both clients read, with each kind of line
 COMMON = (
     """zone example.com.
@@ -144,6 +155,11 @@ FAULTY = [
     ("add a. 60 NOTYPE x\n", "1: Type"),
     ("add a. 60 A 192.0.2\n", "1: Data"),
     ("add a. 60 TXT \"x\n", "1: Quote"),
+    ("add $TTL x y\n", "1: Directive"),
+    ("add ( $TTL x )\n", "1: Directive"),
+    ("\t\nadd ( $ORIGIN a..b )\n", "2: Directive"),
+    ("add ( $INCLUDE f )\n", "1: Directive"),
+    ("add ( \"$TTL\" 60 A 192.0.2.1 )\n", "1: Name"),
     ("zone example.com.\nadd a.example.com. 60 A 192.0.2.1\n", "2: Unsent"),
     ("zone example.com.\nadd a.example.com. 60 A 192.0.2.1\nsend\n\nprereq yxdomain a.\ndelete a.", "5: Unsent"),
 ]
@@ -285,6 +301,11 @@ def messages():
         with plain(answering(lambda message: framed(reply_to(message)))) as server:
             got = sent_to(server.port, f"zone example.com.\n{line}\nsend\n", 4660)
             yield line, (got, server.ended()), ((0, "1234 0\n"), [due])
+    for line, digits in WRITTEN:
+        reply = bytes.fromhex(f"1234a8000001000000000000{NAME_BYTES}00060001")
+        with plain(answering(lambda message: framed(reply))) as server:
+            got = sent_to(server.port, f"zone example.com.\n{line}\nsend\n", 4660)
+            yield f"{line}, byte by byte", (got, server.ended()), ((0, "1234 0\n"), [bytes.fromhex(digits)])
     many = [f"{'prereq yxdomain' if place % 2 else 'delete'} n{place}.example.com." for place in range(200)]
     due = wire.update(
         ZONE,

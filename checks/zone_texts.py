@@ -187,32 +187,50 @@ def string_of(word):
 SIZES = {"address": 4, "long address": 16, "short": 2, "long": 4, "time": 4}
 
 
-def taken(field, data):
-    """The bytes of a field at the front of data, a name in small letters, and the bytes behind it. No name holds a pointer
-    (RFC 3597 4)."""
-    end = 1 + data[0] if field == "string" and data else SIZES.get(field, 1)
+def labels_at(data, place):
+    """The labels that begin at a place of data, each with its length, up to the byte of 0, and the place behind them. A pointer
+    points at a place before that at which the labels began (RFC 1035 4.1.4)."""
+    found, end = b"", place
+    while end < len(data):
+        size = data[end]
+        if size == 0:
+            return found + b"\0", end + 1
+        if size >= 192 and end + 1 < len(data):
+            to = 256 * (size - 192) + data[end + 1]
+            if to >= place:
+                break
+            return found + labels_at(data, to)[0], end + 2
+        if size >= 64 or end + size >= len(data):
+            break
+        found += data[end : end + 1 + size]
+        end += 1 + size
+    raise Refused("Data")
+
+
+def taken(field, data, place):
+    """The bytes of a field at a place of data, a name in small letters and without pointers, and the place behind it."""
     if field == "name":
-        end = 0
-        while end < len(data) and 0 < data[end] < 64:
-            end += 1 + data[end]
-        end += 1
-        if end > 255 or data[end - 1 : end] != b"\0":
+        found, end = labels_at(data, place)
+        if len(found) > 255:
             raise Refused("Data")
+        # A length byte is below the capitals.
+        return found.lower(), end
+    end = place + (1 + data[place] if field == "string" and place < len(data) else SIZES.get(field, 1))
     if len(data) < end:
         raise Refused("Data")
-    # A length byte is below the capitals.
-    return data[:end].lower() if field == "name" else data[:end], data[end:]
+    return data[place:end], end
 
 
 def bytes_of(number, data):
-    """The bytes in general form, read as data of their type where it has a form of its own (RFC 3597 5)."""
+    """The bytes in general form, read as data of their type where it has a form of its own (RFC 3597 5): as in a message whose first
+    byte is the first of the data."""
     if number not in TYPES.values():
         return data
-    found, form = b"", list(FORMS.get(number, []))
-    while form or (number not in FORMS and data):
-        field, data = taken(form.pop(0) if form else "string", data)
+    found, place, form = b"", 0, list(FORMS.get(number, []))
+    while form or (number not in FORMS and place < len(data)):
+        field, place = taken(form.pop(0) if form else "string", data, place)
         found += field
-    if data:
+    if place < len(data):
         raise Refused("Data")
     return found
 
@@ -440,7 +458,10 @@ KNOWN = [
     *(rb"TYPE12 \# 2 0142", rb"TYPE12 \# 3 404200", rb"TYPE15 \# 5 4142014200", rb"TYPE15 \# 2 4142", rb"TYPE15 \# 4 0001c000"),
     *(rb"TYPE33 \# 9 414243444546014200", rb"TYPE33 \# 8 000100010001c000", rb"TYPE16 \# 4 03416263", rb"TYPE16 \# 3 034162"),
     *(rb"TYPE16 \# 1 00", rb"TYPE16 \# 2 0061", rb"TYPE6 \# 29 014100014200 " + b"00" * 20 + b" 000000", rb"TYPE6 \# 22 " + b"00" * 22),
-    *(rb"TYPE6 \# 23 00c000" + b"00" * 20, rb"TYPE6 \# 21 " + b"00" * 21),
+    *(rb"TYPE6 \# 23 00c000" + b"00" * 20, rb"TYPE6 \# 21 " + b"00" * 21, rb"TYPE6 \# 25 014200c000" + b"00" * 20),
+    *(rb"TYPE6 \# 27 0142000143c000" + b"00" * 20, rb"TYPE6 \# 25 014200c003" + b"00" * 20, rb"TYPE15 \# 4 0141c000"),
+    *(rb"TYPE15 \# 4 0000c000", rb"TYPE15 \# 4 0000c001", rb"TYPE15 \# 4 0000c002", rb"TYPE15 \# 6 00000142c000"),
+    *(rb"TYPE15 \# 6 00000142c002", rb"TYPE33 \# 8 014200000000c000", rb"TYPE33 \# 8 014200000000c006", rb"TYPE33 \# 7 014200000000c0"),
 ]
 WIRE_NAMES = [[], [b"a"], [b"A", b"z"], [b"b", b"Z"], [b"*", b"a.B"], [b"@[`{"], [b"L" * 63] * 3 + [b"l" * 61], [b"\0\xff"]]
 FAULTY_FRONTS = [b"CH", b"IN IN", b"1 1", b"1 IN 1", b'"IN"', b'"1"', b"CLASS1", b"1 CH", b"1IN"]
@@ -532,7 +553,7 @@ class Texts:
         data = b"".join(self.field(field) for field in form)
         if self.often(0.3 if self.faulty else 0):
             place = self.chance.randrange(len(data) + 1)
-            more = self.chance.choice([b"", b"", b"\0", b"a", b"\xc0\x00", b"\xc0\x0b", b"\xc0\x0c", b"\x40", b"\x80"])
+            more = self.chance.choice([b"", b"", b"\0", b"a", b"\xc0\x00", b"\xc0\x01", b"\xc0\x0b", b"\xc0\x0c", b"\x40", b"\x80"])
             data = data[:place] + more + self.chance.choice([data[place:], data[place + 1 :], b""])
         return data or b"\0"
 

@@ -5,7 +5,7 @@ use Rattle.dns_name.specs.NameBuffer.{cut_labels, labels_of}
 use Rattle.dns_name.specs.NameText.{name_of}
 use Rattle.dns_presentation.specs.DataText.{word_number, word_short, word_seconds, word_name, only_word, only_name, only_seconds, a_of, aaaa_of, mx_of, srv_of, times_of, soa_of, txt_of, general_of, name_data_of, form_data_of, data_of, numbered_type, type_of}
 use Rattle.dns_presentation.specs.Entries.{time_of, record_with, typed_record, record_of, directive_of, words_entry, entry_of}
-use Rattle.dns_presentation.specs.TypedData.{first_name, typed_data}
+use Rattle.dns_presentation.specs.TypedData.{typed_data}
 use Rattle.dns_presentation.specs.Values.{number_of, number_up_to, seconds_of, name_in, string_of, address_from, segments_number, wide_address_of}
 use Rattle.dns_zone.specs.ZoneText.{placed, finished, zone_of}
 use Rattle.dns_zone.specs.declared.zone_text.ZoneTextFault.{ZoneTextFault}
@@ -14,7 +14,7 @@ use Rattle.dns_command.specs.Example.{example_text}
 
 -- it is read without a fault, as the definitions compute
 is_read : is_err (zone_of origin_name example_text) ≡ false
-unfolding cut_labels labels_of name_of word_number word_short word_seconds word_name only_word only_name only_seconds a_of aaaa_of mx_of srv_of times_of soa_of txt_of general_of name_data_of form_data_of data_of numbered_type type_of time_of record_with typed_record record_of directive_of words_entry entry_of first_name typed_data number_of number_up_to seconds_of name_in string_of address_from segments_number wide_address_of placed finished
+unfolding cut_labels labels_of name_of word_number word_short word_seconds word_name only_word only_name only_seconds a_of aaaa_of mx_of srv_of times_of soa_of txt_of general_of name_data_of form_data_of data_of numbered_type type_of time_of record_with typed_record record_of directive_of words_entry entry_of typed_data number_of number_up_to seconds_of name_in string_of address_from segments_number wide_address_of placed finished
 is_read = refl
 
 -- so no fault is told

@@ -22,7 +22,9 @@ pub fn body(alloc: Global, fields: &str, answer: &mut String) -> Result<(), Fail
 
 /// A body of pieces of these lengths, parted by blanks, with the numbers of its calls that fail; `*COUNT` stands for so many pieces
 /// of one byte.
-pub fn body_of(alloc: Global, lengths: &str, failing: &str) -> Result<MemoryBody, Fail> {
+pub fn body_of(alloc: Global, lengths: &str, failing: &str) -> Result<MemoryBody, Fail>
+    ensures { IfOk result (λ body. body.faults ≡ 0) }
+{
     let mut pieces = LinkedList::new(alloc);
     for word in lengths.split(' ') {
         match word.split_once('*') {

@@ -1,18 +1,19 @@
 //! Clients over QUIC, and the streams that the other side opens.
 
-ghost use Rattle.std.specs.Prelude.{IfOk};
+ghost use Rattle.std.specs.Prelude.{◌≡◌, IfOk};
 ghost use Rattle.dns_quic.specs.Memory.{AreFresh};
 
 use crate::halves::{send_of, taking};
 use crate::quic::put_received;
 use crate::steps::{Steps, all_steps};
-use crate::words::{numbers, put, put_bytes, say, show, two};
-use dns_io::{Ip, Peer};
+use crate::words::{bytes_of, numbers, put, put_bytes, say, show, two};
+use dns_io::{Ip, Octets, Peer};
+use dns_name::Name;
 use dns_quic::{
     MemoryRecv, MemorySend, MemoryStreams, QuicClientStream, QuicStream, QuicStreams, StreamCall,
 };
 use dns_transport::NetError;
-use dns_wire::Message;
+use dns_wire::{Data, Message, Record};
 use std::alloc::Global;
 use std::collections::LinkedList;
 use std::test::Fail;
@@ -29,7 +30,34 @@ pub fn query(alloc: Global) -> Result<Message, Fail> {
     Ok(Message::from_vec(alloc, QUERY)?)
 }
 
-/// One stream on which the reply comes, with the numbers of the calls of its sending half that fail, and of its receiving half.
+/// The query with an additional record whose data takes as many bytes as a message may have.
+pub fn long_query(alloc: Global) -> Result<Message, Fail> {
+    let mut message = query(alloc)?;
+    let bytes = vec![in alloc; 7u8; 65535]?;
+    message.additional.push(Record {
+        name: Name::root(alloc),
+        rtype: 65280,
+        class: 1,
+        ttl: 0,
+        rdata: Data::Opaque(Octets::from_vec(bytes)),
+    })?;
+    Ok(message)
+}
+
+/// What comes on a stream: the reply, with the numbers of the reads that fail; or these bytes, behind `of `.
+fn coming(alloc: Global, words: &str) -> Result<MemoryRecv, Fail>
+    ensures { IfOk result (λ recv. recv.faults ≡ 0) }
+{
+    match words.split_once("of ") {
+        Some((_, digits)) => {
+            let bytes = bytes_of(alloc, digits)?;
+            taking(alloc, bytes.as_slice(), 7, "")
+        }
+        None => taking(alloc, REPLY, 7, words),
+    }
+}
+
+/// One stream, with the numbers of the calls of its sending half that fail, and what comes on it.
 fn streams_of(
     alloc: Global,
     sends: &str,
@@ -38,7 +66,7 @@ fn streams_of(
     ensures { IfOk result AreFresh }
 {
     let send = send_of(alloc, 0, sends)?;
-    let recv = taking(alloc, REPLY, 7, reads)?;
+    let recv = coming(alloc, reads)?;
     let mut streams = LinkedList::new(alloc);
     streams.push_back((send, recv))?;
     Ok(streams)
@@ -66,7 +94,7 @@ fn client_of(
     Ok(builder.build(opener, address, String::from_str(alloc, "ns.example.com")?))
 }
 
-/// What is done with a client: `FAILING SENDS|FAILING READS|FAILING OPENINGS|LATE OPENINGS|STEPS`.
+/// What is done with a client: `FAILING SENDS|WHAT COMES|FAILING OPENINGS|LATE OPENINGS|STEPS`.
 pub fn quic_client(alloc: Global, fields: &str, answer: &mut String) -> Result<(), Fail> {
     let (setup, steps) = fields.rsplit_once('|').unwrap_or((fields, ""));
     let (sends, rest) = two(setup);
@@ -90,6 +118,10 @@ impl Steps for QuicClientStream<MemoryStreams> {
             }
             "ask" => {
                 let query = query(alloc)?;
+                put_received(alloc, self.send_message(alloc, &query), answer)
+            }
+            "long" => {
+                let query = long_query(alloc)?;
                 put_received(alloc, self.send_message(alloc, &query), answer)
             }
             "poll" => put(answer, self.poll_next()),

@@ -1,10 +1,10 @@
 //! Clients over HTTP, on a link in memory.
 
-ghost use Rattle.std.specs.Prelude.{IfOk};
+ghost use Rattle.std.specs.Prelude.{◌≡◌, IfOk};
 ghost use Rattle.dns_net.specs.Memory.{AreFresh};
 
-use crate::bodies::reply_in_pieces;
-use crate::clients::query;
+use crate::bodies::{body_of, reply_in_pieces};
+use crate::clients::{long_query, query};
 use crate::header_objects::Refuses;
 use crate::multicast::peer_of;
 use crate::quic::put_received;
@@ -34,8 +34,18 @@ fn head_of(alloc: Global, status: u16, fields: &str) -> Result<Parts, Fail> {
     Ok(head)
 }
 
-/// A response with this status and head, and the reply in pieces of 20 bytes, with the number of the call of its body that fails; none
-/// where the status is no number.
+/// The body of a response: the reply in pieces of 20 bytes, with the number of its call that fails; or pieces of these lengths, behind
+/// `of `.
+fn response_body(alloc: Global, words: &str) -> Result<MemoryBody, Fail>
+    ensures { IfOk result (λ body. body.faults ≡ 0) }
+{
+    match words.split_once("of ") {
+        Some((_, lengths)) => body_of(alloc, lengths, ""),
+        None => reply_in_pieces(alloc, 20, words),
+    }
+}
+
+/// A response with this status, head and body; none where the status is no number.
 fn responses_of(
     alloc: Global,
     status: &str,
@@ -43,17 +53,17 @@ fn responses_of(
 ) -> Result<LinkedList<Response<MemoryBody>>, Fail>
     ensures { IfOk result AreFresh }
 {
-    let (head, failing) = fields.rsplit_once('|').unwrap_or((fields, ""));
+    let (head, body) = fields.rsplit_once('|').unwrap_or((fields, ""));
     let mut responses = LinkedList::new(alloc);
     if let Ok(status) = status.parse() {
         let head = head_of(alloc, status, head)?;
-        let body = reply_in_pieces(alloc, 20, failing)?;
+        let body = response_body(alloc, body)?;
         responses.push_back(Response::from_parts(head, body))?;
     }
     Ok(responses)
 }
 
-/// A link: `STATUS|CONTENT-TYPE|CONTENT-LENGTH|FAILING CALL OF THE BODY|FAILING EXCHANGES|LATE EXCHANGES`.
+/// A link: `STATUS|CONTENT-TYPE|CONTENT-LENGTH|BODY|FAILING EXCHANGES|LATE EXCHANGES`.
 fn link_of(alloc: Global, setup: &str) -> Result<MemoryLink, Fail> {
     let (setup, late) = setup.rsplit_once('|').unwrap_or((setup, ""));
     let (setup, failing) = setup.rsplit_once('|').unwrap_or((setup, ""));
@@ -91,6 +101,10 @@ pub fn https_client(alloc: Global, fields: &str, answer: &mut String) -> Result<
         let told = match word {
             "send" => say(answer, client.send_message(alloc, &query), "a message"),
             "ask" => put_received(alloc, client.send_message(alloc, &query), answer),
+            "long" => {
+                let query = long_query(alloc)?;
+                put_received(alloc, client.send_message(alloc, &query), answer)
+            }
             "poll" => put(answer, client.poll_next()),
             "is_shut" => put(answer, client.is_shutdown()),
             "shut" => {
@@ -128,6 +142,10 @@ pub fn h3_client(alloc: Global, fields: &str, answer: &mut String) -> Result<(),
         let told = match word {
             "send" => say(answer, client.send_message(alloc, &query), "a message"),
             "ask" => put_received(alloc, client.send_message(alloc, &query), answer),
+            "long" => {
+                let query = long_query(alloc)?;
+                put_received(alloc, client.send_message(alloc, &query), answer)
+            }
             "poll" => put(answer, client.poll_next()),
             "show" => show(answer, &client),
             "shut" => {

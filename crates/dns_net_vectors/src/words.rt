@@ -28,7 +28,25 @@ pub fn numbers(alloc: Global, words: &str) -> Result<Vec<u64>, Fail> {
 
 /// The bytes of hex digits.
 pub fn bytes_of(alloc: Global, digits: &str) -> Result<Vec<u8>, Fail> {
-    Ok(hex::decode(alloc, digits)?)
+    let mut bytes = Vec::new(alloc);
+    let mut high = 0u8;
+    for (place, digit) in digits.as_bytes().iter().enumerate() {
+        let low = value_of(*digit);
+        if place % 2 == 1 {
+            bytes.push(high.wrapping_mul(16) | low)?;
+        }
+        high = low;
+    }
+    Ok(bytes)
+}
+
+/// The value of a hex digit.
+fn value_of(digit: u8) -> u8 {
+    match digit {
+        b'0'..=b'9' => digit - b'0',
+        b'a'..=b'f' => digit - b'a' + 10,
+        _ => 0,
+    }
 }
 
 /// Adds a value, as it is debugged.

@@ -3,5 +3,5 @@ pub mod Searches
 pub mod Parts
 pub mod Addresses
 pub mod NameRooms
+pub mod NamesInData
 pub mod TypedData
-pub mod TypedRecords

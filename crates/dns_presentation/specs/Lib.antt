@@ -3,6 +3,7 @@ pub mod Words
 pub mod LogicalLines
 pub mod Values
 pub mod NameRooms
+pub mod NamesInData
 pub mod TypedData
 pub mod DataText
 pub mod Entries

@@ -123,8 +123,8 @@ fn words_entry(
     }
 }
 
-/// Whether a word begins with the dollar sign of a directive.
-fn is_directive(word: &Word<'_>) -> bool
+/// Whether a word begins with the dollar sign of a directive, out of quotes.
+pub fn is_directive(word: &Word<'_>) -> bool
     ensures { result ≡ is_directive word.now }
 {
     if word.is_quoted() {

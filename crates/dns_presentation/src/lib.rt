@@ -8,12 +8,13 @@ pub mod laws;
 mod lines;
 mod logical_line;
 mod names;
+mod numbers;
 mod typed_data;
 mod values;
 mod words;
 
 pub use data_text::{WrittenType, type_of};
-pub use entry::{Context, Entry, entry_of, stated_ttl};
+pub use entry::{Context, Entry, entry_of, is_directive, stated_ttl};
 pub use fault::{EntryFault, EntryKind};
 pub use lines::split_line;
 pub use logical_line::LogicalLine;

@@ -1,10 +1,8 @@
 -- Type and data are read as themselves.
 use Rattle.std.proofs.Common.{◌≡◌, ℕ, ◌^◌, ◌<◌, ◌≤◌, Bool, true, false, ◌==◌, nat_lt, List, [], ◌∷◌, length, Some, refl, sym, subst, arith}
 use Rattle.std.specs.Fmt.{decimal}
-use Rattle.std.specs.Str.{bytes_eq}
 use Rattle.std.specs.List.{AllZip}
 use Rattle.std.proofs.lemmas.Bool.Decides.{Decides-eqb}
-use Rattle.std.proofs.lemmas.Slice.Eq.{bytes_eq-Decides}
 use Rattle.hex.specs.Hex.{encode_lower}
 use Rattle.dns_name.specs.Name.{IsName, fold_of}
 use Rattle.dns_wire.specs.declared.rdata.Data.{Data}
@@ -126,9 +124,7 @@ data_txt texts some each bytes short = record {
 
 typed_back : (number : ℕ) (bytes : List ℕ) → form_of number (length bytes) ≡ form.Opaque → in_small_letters (typed_data number bytes) ≡ Some (Opaque bytes)
 unfolding typed_data
-typed_back number bytes is =
-    let same : bytes_eq bytes bytes ≡ true = (bytes_eq-Decides bytes bytes).1 refl in
-    rw (is, same) refl
+typed_back number bytes is = rw is refl
 
 sized_back : (number : ℕ) (bytes : List ℕ) → form_of number (length bytes) ≡ form.Opaque → 0 < length bytes → AreBytes bytes → sized_bytes number (length bytes) (encode_lower bytes) ≡ Some (Opaque bytes)
 sized_back number bytes is some each =

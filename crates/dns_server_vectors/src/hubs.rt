@@ -1,6 +1,6 @@
 //! Hubs in memory, and ports at which messages arrive.
 
-ghost use Rattle.std.specs.Prelude.{IfOk, All};
+ghost use Rattle.std.specs.Prelude.{◌≤◌, length, IfOk, All};
 ghost use Rattle.dns_ports.specs.Memory.{IsUnusedUdp, IsUnusedTcp};
 
 use crate::words::{bytes_of, hex_of, numbers_of, two};
@@ -10,14 +10,17 @@ use dns_ports::{Accepted, MemoryHub, MemoryTcp, MemoryUdp};
 use std::alloc::Global;
 use std::test::Fail;
 
+/// A connection over objects in memory.
+type Connection = Accepted<MemorySource, MemorySink, MemoryClock>;
+
 /// The other end.
 pub const PEER: Peer = Peer {
     ip: Ip::V4(0x7f00_0001),
     port: 5300,
 };
 
-/// A hub of which these openings fail: `OPENINGS HUB`. It has a `socket HEX` at which this message arrives, `listeners HEX HEX` to each of which
-/// a connection comes that brings one, or nothing.
+/// A hub of which these openings fail: `OPENINGS HUB`. It has a `socket HEX` at which this message arrives, a `failing` socket,
+/// `listeners HEX HEX` to each of which a connection comes that brings one, or nothing.
 pub fn hub_of(alloc: Global, words: &str) -> Result<MemoryHub, Fail> {
     let (openings, words) = two(words);
     let (kind, messages) = two(words);
@@ -31,10 +34,11 @@ fn sockets(alloc: Global, kind: &str, message: &str) -> Result<Vec<MemoryUdp>, F
     ensures { IfOk result (λ sockets. All IsUnusedUdp sockets.items) }
 {
     let mut sockets = Vec::new(alloc);
-    if kind != "socket" {
-        return Ok(sockets);
+    match kind {
+        "socket" => sockets.push(socket(alloc, message)?)?,
+        "failing" => sockets.push(failing_socket(alloc, message)?)?,
+        _ => {}
     }
-    sockets.push(socket(alloc, message)?)?;
     Ok(sockets)
 }
 
@@ -67,18 +71,60 @@ pub fn socket(alloc: Global, digits: &str) -> Result<MemoryUdp, Fail>
     Ok(MemoryUdp::new(alloc, arriving, Vec::new(alloc), Vec::new(alloc)))
 }
 
+/// A socket at which two messages arrive, and of which these receives and these answers fail: `RECEIVES ANSWERS HEX HEX`.
+pub fn failing_socket(alloc: Global, words: &str) -> Result<MemoryUdp, Fail>
+    ensures { IfOk result IsUnusedUdp }
+{
+    let (receives, rest) = two(words);
+    let (answers, messages) = two(rest);
+    let (first, second) = two(messages);
+    let first = datagram(alloc, first)?;
+    let second = datagram(alloc, second)?;
+    let arriving = vec![in alloc; (first, PEER, 5), (second, PEER, 6)]?;
+    let receives = numbers_of(alloc, receives)?;
+    Ok(MemoryUdp::new(alloc, arriving, receives, numbers_of(alloc, answers)?))
+}
+
+/// The bytes of a datagram.
+fn datagram(alloc: Global, digits: &str) -> Result<Octets, Fail>
+    ensures { IfOk result (λ bytes. length bytes ≤ 65535) }
+{
+    let bytes = bytes_of(alloc, digits)?;
+    if bytes.len() > 65_535 {
+        return Err(Fail::from("too long"));
+    }
+    Ok(Octets::from_vec(bytes))
+}
+
 /// A listener to which a connection comes that brings these bytes, so many in a read.
 pub fn listener(alloc: Global, step: usize, digits: &str) -> Result<MemoryTcp, Fail>
     ensures { IfOk result IsUnusedTcp }
 {
+    let connection = connection(alloc, step, digits)?;
+    Ok(MemoryTcp::new(alloc, vec![in alloc; connection]?, Vec::new(alloc)))
+}
+
+/// A listener to which two connections come that bring these bytes, and of which these accepts fail: `ACCEPTS HEX HEX`.
+pub fn failing_listener(alloc: Global, words: &str) -> Result<MemoryTcp, Fail>
+    ensures { IfOk result IsUnusedTcp }
+{
+    let (accepts, rest) = two(words);
+    let (first, second) = two(rest);
+    let first = connection(alloc, 9, first)?;
+    let second = connection(alloc, 9, second)?;
+    let coming = vec![in alloc; first, second]?;
+    Ok(MemoryTcp::new(alloc, coming, numbers_of(alloc, accepts)?))
+}
+
+/// A connection that brings these bytes, so many in a read.
+fn connection(alloc: Global, step: usize, digits: &str) -> Result<Connection, Fail> {
     let bytes = Octets::from_vec(bytes_of(alloc, digits)?);
-    let connection = Accepted {
+    Ok(Accepted {
         input: MemorySource::new(bytes, step.max(1), Vec::new(alloc)),
         output: MemorySink::new(alloc, 1000, Vec::new(alloc)),
         time: MemoryClock::new(Vec::new(alloc)),
         peer: PEER,
-    };
-    Ok(MemoryTcp::new(alloc, vec![in alloc; connection]?, Vec::new(alloc)))
+    })
 }
 
 /// How many sockets and listeners there are, and what they took, but for so many bytes at the front of a message.

@@ -6,6 +6,7 @@
 mod asks;
 mod books;
 mod connections;
+mod drawn;
 mod four;
 mod gates;
 mod gateway;
@@ -70,6 +71,8 @@ fn answer_to<R: Threads + Wait + Sync>(
         "four" => four::four(rt, alloc, given),
         "seats" => two_seats::seats(rt, alloc, given),
         "workers" => threads::workers(rt, alloc, given),
+        "failing_calls" => threads::failing_calls(rt, alloc, given),
+        "failing_accepts" => threads::failing_accepts(rt, alloc, given),
         "at_once" => two_listeners::at_once(rt, alloc),
         _ => settled_by_one(alloc, kind, given),
     }
@@ -89,6 +92,8 @@ fn settled_by_one(alloc: Global, kind: &str, given: &str) -> Result<String, Fail
         "limit" => limits::limit(alloc, given),
         "response" => responses::response(alloc, given),
         "lists" => servers::lists(alloc, given),
+        "stopped" => servers::stopped(alloc, given),
+        "drawn" => drawn::drawn(alloc, given),
         _ => gateway::answer_to(alloc, kind, given),
     }
 }

@@ -1,6 +1,6 @@
 //! What no line of the program shows: a server that is handed several lists of events, and one that was stopped.
 
-use crate::words::{bytes_of, hex_of, number, put_answer, two};
+use crate::words::{bytes_of, first_call, hex_of, number, put_answer, two};
 use crate::zones::book;
 use dns_book::Book;
 use dns_io::{Ip, Octets, Peer};
@@ -16,6 +16,41 @@ pub fn lists(alloc: Global, given: &str) -> Result<String, Fail> {
     let mut answers = String::new(alloc);
     put_lists(alloc, &mut server, given, &mut answers)?;
     Ok(answers)
+}
+
+/// What a server answers behind a list that ends with a stop, to a list without events and then to another one: `LIST / LIST`, as above.
+pub fn stopped(alloc: Global, given: &str) -> Result<String, Fail> {
+    let (first, last) = first_call(given);
+    let mut server = Server::new(alloc, book(alloc, "one no 0 0")?);
+    let mut outs = Vec::new(alloc);
+    let mut answers = String::new(alloc);
+    put_answer(&mut answers, served(alloc, &mut server, first, &mut outs)?)?;
+    let events = events_of(alloc, last)?;
+    put_answer(
+        &mut answers,
+        asked_again(alloc, &mut server, &events, &mut outs),
+    )?;
+    Ok(answers)
+}
+
+/// What a server answers to a list without events, and to one more, where it answered that it was stopped.
+fn asked_again(
+    alloc: Global,
+    server: &mut Server<Book<MemoryKeeper>>,
+    events: &Vec<Event>,
+    outs: &mut Vec<Out>,
+) -> &'static str {
+    let none = Vec::new(alloc);
+    if !server.valid_events(&none) {
+        return "not valid";
+    }
+    match server.run_events(&none, outs) {
+        Err(RunFault::Stopped) => match server.run_events(events, outs) {
+            Err(RunFault::Stopped) => "stopped / stopped",
+            _ => "stopped / served",
+        },
+        _ => "served",
+    }
 }
 
 fn put_lists(
@@ -59,7 +94,7 @@ fn events_of(alloc: Global, list: &str) -> Result<Vec<Event>, Fail> {
     Ok(events)
 }
 
-/// `accepted AT LIMIT`, `bytes AT HEX` or `stop AT`, of connection 1; or nothing.
+/// `accepted AT LIMIT` or `bytes AT HEX` of connection 1, `tick AT` or `stop AT`; or nothing.
 fn put_event(alloc: Global, words: &str, events: &mut Vec<Event>) -> Result<(), Fail> {
     let (kind, rest) = two(words);
     let (at, rest) = two(rest);
@@ -67,6 +102,7 @@ fn put_event(alloc: Global, words: &str, events: &mut Vec<Event>) -> Result<(), 
     match kind {
         "accepted" => events.push(accepted(at, number(rest)))?,
         "bytes" => events.push(bytes(alloc, at, rest)?)?,
+        "tick" => events.push(Event::Tick { at })?,
         "stop" => events.push(Event::Stop { at })?,
         _ => {}
     }

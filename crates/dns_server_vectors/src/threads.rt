@@ -1,6 +1,6 @@
 //! A server of threads, with two seats.
 
-use crate::hubs::{listener, put_taken, socket};
+use crate::hubs::{failing_listener, failing_socket, listener, put_taken, socket};
 use crate::words::two;
 use crate::zones::book;
 use dns_book::AccessControl;
@@ -15,9 +15,9 @@ use std::thread::Threads;
 /// A server of sockets in memory and of these listeners.
 pub type Server<T> = ThreadServer<MemoryKeeper, MemoryUdp, T>;
 
-/// A server with two seats, over a zone of one record.
+/// A server with two seats, over a zone of seven records.
 pub fn server<T: TcpPort + Drop>(alloc: Global) -> Result<Server<T>, Fail> {
-    let book = book(alloc, "one no 0 0")?;
+    let book = book(alloc, "seven no 0 0")?;
     match ThreadServer::new(alloc, book, AccessControl::new(alloc), 2) {
         Ok(server) => Ok(server),
         Err(_) => Err(Fail::from("no server")),
@@ -93,6 +93,51 @@ fn put_served<R: Threads + Wait + Sync>(
     let is_shut_down = server.shutdown_gracefully(rt).is_ok();
     write!(answers, " / {stops} {is_shut_down}")?;
     Ok(())
+}
+
+/// How the worker of a socket ends at which two messages arrive and of which calls fail, and what the socket took:
+/// `RECEIVES ANSWERS MESSAGE MESSAGE`.
+pub fn failing_calls<R: Threads + Wait + Sync>(
+    rt: &R,
+    alloc: Global,
+    given: &str,
+) -> Result<String, Fail> {
+    let mut server = server(alloc)?;
+    if is_refused(&mut server, failing_socket(alloc, given)?) {
+        return Err(Fail::from("no socket"));
+    }
+    ended(rt, alloc, &mut server)
+}
+
+/// The same of a listener to which two connections come: `ACCEPTS FRAME FRAME`.
+pub fn failing_accepts<R: Threads + Wait + Sync>(
+    rt: &R,
+    alloc: Global,
+    given: &str,
+) -> Result<String, Fail> {
+    let mut server = server(alloc)?;
+    register(&mut server, failing_listener(alloc, given)?)?;
+    ended(rt, alloc, &mut server)
+}
+
+fn ended<R: Threads + Wait + Sync>(
+    rt: &R,
+    alloc: Global,
+    server: &mut Server<MemoryTcp>,
+) -> Result<String, Fail> {
+    let mut answers = match server.block_until_done(rt) {
+        Ok(()) => "well".to_string(alloc)?,
+        Err(fault) => format!(in alloc; "{fault}")?,
+    };
+    answers.push_str(" / ")?;
+    put_taken(
+        alloc,
+        &server.sockets(),
+        &server.listeners(),
+        0,
+        &mut answers,
+    )?;
+    Ok(answers)
 }
 
 /// Stops a second token; whether the server's own is stopped then.

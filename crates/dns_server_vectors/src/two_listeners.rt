@@ -7,12 +7,13 @@ use std::sync::Wait;
 use std::test::Fail;
 use std::thread::Threads;
 
-/// A query without a question, behind its length, in two halves.
-const FRONT: &[u8] = b"\0\x0c\0\x01\x01\0\0";
+/// The query for www.example.com A behind its length, in two halves.
+const FRONT: &[u8] = b"\0\x21\x12\x34\x01\0\0\x01\0\0\0\0\0\0\x03www\x07";
 
-const REST: &[u8] = b"\0\0\0\0\0\0\0";
+const REST: &[u8] = b"example\x03com\0\0\x01\0\x01";
 
-const WHOLE: &[u8] = b"\0\x0c\0\x01\x01\0\0\0\0\0\0\0\0\0";
+const WHOLE: &[u8] =
+    b"\0\x21\x12\x34\x01\0\0\x01\0\0\0\0\0\0\x03www\x07example\x03com\0\0\x01\0\x01";
 
 /// Registers both: the first connection brings the half of a message, and the rest when the second has a reply; the second brings a
 /// message, and another when the first has its reply.

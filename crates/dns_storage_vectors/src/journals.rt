@@ -4,10 +4,10 @@
 ghost use Rattle.std.specs.Prelude.{IfOk};
 ghost use Rattle.dns_wire.specs.WireFormat.{IsShort, AreShort};
 
-use crate::words::parted_at;
+use crate::words::{bytes_of, parted_at};
 use dns_journal::{Journal, KeepFault, Keeper, PersistenceError, RecoveryKind, Row};
 use dns_name::{Name, ProtoError};
-use dns_wire::{Data, Record, Records};
+use dns_wire::{Data, Record, Records, read_record};
 use sqlite::{Alter, Connection, MemStore};
 use std::alloc::Global;
 use std::fmt::Debug;
@@ -88,6 +88,7 @@ fn change(
     match kind {
         "up" => put(&journal.schema_up(), told),
         "add" => put(&add(alloc, journal, words)?, told),
+        "one" => put(&one(alloc, journal, words)?, told),
         "append" => put(&append(alloc, journal)?, told),
         "insert" => put(&insert(alloc, journal, words)?, told),
         _ => Err(Fail::from("no such call")),
@@ -178,6 +179,25 @@ fn add(
 ) -> Result<Result<(), PersistenceError>, Fail> {
     let one = record(alloc, address.parse().unwrap_or(0))?;
     Ok(journal.insert_record(8, 0, &one))
+}
+
+/// Adds the record that these bytes are, with a serial at a moment: `SERIAL MOMENT HEX`.
+fn one(
+    alloc: Global,
+    journal: &mut Journal<MemStore>,
+    words: &str,
+) -> Result<Result<(), PersistenceError>, Fail> {
+    let (serial, words) = parted_at(words, " ");
+    let (moment, digits) = parted_at(words, " ");
+    let bytes = bytes_of(alloc, digits)?;
+    let Some((one, _end)) = read_record(alloc, bytes.as_slice(), 0)? else {
+        return Err(Fail::from("no record"));
+    };
+    Ok(journal.insert_record(
+        serial.parse().unwrap_or(0),
+        moment.parse::<u64>().unwrap_or(0) % 0x8000_0000_0000,
+        &one,
+    ))
 }
 
 /// Appends two records of client 7, with the serial 9, at a moment.

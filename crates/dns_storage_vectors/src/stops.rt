@@ -57,13 +57,22 @@ fn lived_on(
         db: Fuse::new(Memory::new(alloc), calls),
     };
     match Connection::open_files(alloc, files, Options::new(7)) {
-        Ok(conn) => {
-            let mut journal = Journal::new(alloc, conn)?;
-            let done = lived(&mut journal, eight, one);
-            Ok((done, journal.into_conn().into_store().close()))
-        }
+        Ok(conn) => match Journal::new(alloc, conn) {
+            Ok(journal) => Ok(lived_through(journal, eight, one)),
+            Err(_error) => Err(Fail::from("no journal")),
+        },
         Err((_error, left)) => Ok((0, left.into_files())),
     }
+}
+
+/// How many steps of a journal's life are done, and its files.
+fn lived_through(
+    mut journal: Journal<FileStore<Fuse<Memory>>>,
+    eight: &Records,
+    one: &Record,
+) -> (u32, Files<Fuse<Memory>>) {
+    let done = lived(&mut journal, eight, one);
+    (done, journal.into_conn().into_store().close())
 }
 
 /// How many steps of a journal's life are done: its tables, a batch of eight records, one of one.

@@ -33,6 +33,29 @@ fn pictured(letter: char) -> char {
     }
 }
 
+/// The bytes of hex digits.
+pub fn bytes_of(alloc: Global, digits: &str) -> Result<Vec<u8>, Fail> {
+    let mut bytes = Vec::new(alloc);
+    let mut high = 0u8;
+    for (place, digit) in digits.as_bytes().iter().enumerate() {
+        let low = value_of(*digit);
+        if place % 2 == 1 {
+            bytes.push(high.wrapping_mul(16) | low)?;
+        }
+        high = low;
+    }
+    Ok(bytes)
+}
+
+/// The value of a hex digit.
+fn value_of(digit: u8) -> u8 {
+    match digit {
+        b'0'..=b'9' => digit - b'0',
+        b'a'..=b'f' => digit - b'a' + 10,
+        _ => 0,
+    }
+}
+
 /// The hex digits of bytes.
 pub fn hex_of(alloc: Global, bytes: &[u8]) -> Result<String, Fail> {
     Ok(hex::encode(alloc, bytes)?)

@@ -8,12 +8,11 @@ use Rattle.dns_presentation.specs.declared.entry.Entry.{Entry}
 use Rattle.dns_presentation.specs.declared.entry.Entry.TheVariants as entry
 use Rattle.dns_presentation.specs.Words.{Word}
 use Rattle.dns_presentation.specs.LogicalLines.{LogicalLine, logical_lines}
-use Rattle.dns_presentation.specs.Entries.{◌>>=◌, begins_dollar, stated_ttl, entry_of}
+use Rattle.dns_presentation.specs.Entries.{◌>>=◌, is_directive, stated_ttl, entry_of}
 use Rattle.dns_zone.specs.declared.zone_text.ZoneTextKind.{ZoneTextKind}
 use Rattle.dns_zone.specs.declared.zone_text.ZoneTextFault.{ZoneTextFault}
 use Rattle.dns_zone.specs.declared.zone_text.ZoneTextFault.TheVariants.{Refused, OutOfMemory}
 use Rattle.dns_zone.specs.ZoneText.{kind_of}
-use Rattle.dns_update_script.specs.Words.{from_word}
 
 -- where an entry stands alone: below this origin, with this TTL to fall back on, if there is one
 abbrev pub alone : List (List ℕ) → Option ℕ → Context
@@ -63,13 +62,18 @@ entered directive lacks (Ok (entry.Record r stated)) = timed lacks r
 entered directive lacks (Ok other) = Err kind.Directive
 entered directive lacks (Err wrong) = Err (first_wrong directive lacks wrong)
 
--- the record of a logical line, which is a directive where its first byte, blanks aside, is a dollar sign
-abbrev pub line_entry : Bool → List (List ℕ) → Option ℕ → LogicalLine → Result Record EntryKind
-line_entry directive origin ttl line = entered directive (lacks_ttl ttl line.words) (entry_of (alone origin ttl) line)
+-- the first of these words begins a directive
+abbrev pub begins_directive : List Word → Bool
+begins_directive [] = false
+begins_directive (word ∷ words) = is_directive word
+
+-- the record of a logical line
+abbrev pub line_entry : List (List ℕ) → Option ℕ → LogicalLine → Result Record EntryKind
+line_entry origin ttl line = entered (begins_directive line.words) (lacks_ttl ttl line.words) (entry_of (alone origin ttl) line)
 
 -- the record of a text's one logical line
 unfoldable pub text_entry : List (List ℕ) → Option ℕ → List ℕ → Result Record EntryKind
-text_entry origin ttl text = only_line (logical_lines 1 text) >>= λ line. line_entry (begins_dollar (from_word text)) origin ttl line
+text_entry origin ttl text = only_line (logical_lines 1 text) >>= λ line. line_entry origin ttl line
 
 -- with the kinds of a zone's text
 abbrev pub in_zone_text : Result Record EntryKind → Result Record ZoneTextKind

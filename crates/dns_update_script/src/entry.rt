@@ -3,15 +3,13 @@
 ghost use Rattle.std.specs.Prelude.{◌≡◌, Ok, IfOk, IfErr};
 ghost use Rattle.dns_name.specs.Name.{fold_of};
 ghost use Rattle.dns_zone.specs.ZoneText.{kind_of};
-ghost use Rattle.dns_presentation.specs.Entries.{begins_dollar, ReadsAs};
-ghost use Rattle.dns_update_script.specs.Words.{from_word};
-ghost use Rattle.dns_update_script.specs.Entry.{alone, broken, states_none, lacks_ttl, timed, first_wrong, line_entry, text_entry, entry_in, TellsEntry};
+ghost use Rattle.dns_presentation.specs.Entries.{ReadsAs};
+ghost use Rattle.dns_update_script.specs.Entry.{alone, broken, begins_directive, states_none, lacks_ttl, timed, first_wrong, line_entry, text_entry, entry_in, TellsEntry};
 
-use crate::words::from_word;
 use dns_io::OutOfMemory;
 use dns_name::Name;
 use dns_presentation::{
-    Context, Entry, EntryFault, EntryKind, LogicalLine, Word, entry_of, stated_ttl,
+    Context, Entry, EntryFault, EntryKind, LogicalLine, Word, entry_of, is_directive, stated_ttl,
 };
 use dns_wire::Record;
 use dns_zone::{ZoneTextFault, ZoneTextKind};
@@ -58,7 +56,7 @@ fn text_entry(
         return Err(EntryFault::Refused(EntryKind::Directive));
     };
     match rest {
-        [] => line_entry(alloc, is_directive(text), origin, ttl, &line),
+        [] => line_entry(alloc, origin, ttl, &line),
         [_, ..] => Err(EntryFault::Refused(broken(&line))),
     }
 }
@@ -76,26 +74,26 @@ fn broken(line: &LogicalLine<'_>) -> EntryKind
     EntryKind::Directive
 }
 
-/// Whether a text begins with the dollar sign of a directive, blanks aside.
-fn is_directive(text: &[u8]) -> bool
-    ensures { result ≡ begins_dollar (from_word text.now) }
+/// Whether words begin with that of a directive.
+fn begins_directive(words: &[Word<'_>]) -> bool
+    ensures { result ≡ begins_directive words.now }
 {
-    match from_word(text) {
+    match words {
         [] => false,
-        [byte, ..] => *byte == b'$',
+        [word, ..] => is_directive(word),
     }
 }
 
 /// The record of a logical line.
 fn line_entry(
     alloc: Global,
-    directive: bool,
     origin: Name,
     ttl: Option<u32>,
     line: &LogicalLine<'_>,
 ) -> Result<Record, EntryFault>
-    ensures { ReadsAs (λ r. r) result (line_entry directive origin ttl line.now) }
+    ensures { ReadsAs (λ r. r) result (line_entry origin ttl line.now) }
 {
+    let directive = begins_directive(line.words());
     let lacks = lacks_ttl(ttl, line.words())?;
     let context = alone(origin, ttl);
     match entry_of(alloc, &context, line) {

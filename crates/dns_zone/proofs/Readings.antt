@@ -28,8 +28,8 @@ use Rattle.dns_zone.specs.Contexts.{IsFolded}
 use Rattle.dns_presentation.specs.Words.{Word}
 use Rattle.dns_presentation.specs.declared.data_text.WrittenType.{WrittenType}
 use Rattle.dns_presentation.specs.Values.{◌>>=◌, plain_text, folded, ends_in_dot, name_under, name_in, string_of, address_from, wide_address_of}
-use Rattle.dns_presentation.specs.TypedData.{IsTypedData, typed_data}
-use Rattle.dns_presentation.proofs.TypedData.{typed_data-is}
+use Rattle.dns_presentation.specs.TypedData.{typed_data}
+use Rattle.dns_presentation.proofs.TypedData.{IsWhole, typed_data-whole}
 use Rattle.dns_update.proofs.Folded.{fold_record-fold_record, length_folded, form_folded}
 use Rattle.dns_presentation.specs.DataText.{word_number, word_short, word_name, only_word, only_name, a_of, aaaa_of, mx_of, srv_of, times_of, soa_of, is_too_long, strings_from, txt_of, joined, in_small_letters, sized_bytes, is_general, general_of, name_data_of, form_data_of, data_of, is_meta_type, named_type, number_behind_type, numbered_type, typed, type_of}
 
@@ -393,16 +393,14 @@ some_below : (size : ℕ) → nat_lt 0 size ≡ true → 0 < size
 some_below size is = grind arith
 
 -- data in the general form, whose names are made small
-IsTyped-small : (number : ℕ) (bytes : List ℕ) (rdata : Data) → is_meta number ≡ false → 0 < length bytes → length bytes ≤ 65535 → IsTypedData number bytes rdata → IsTyped (number, fold_data rdata)
-IsTyped-small number bytes rdata plain some short typed =
+IsTyped-small : (number : ℕ) (rdata : Data) → is_meta number ≡ false → IsWhole number rdata → IsTyped (number, fold_data rdata)
+IsTyped-small number rdata plain whole =
     let one : Record = record { name = []; rtype = number; class = 1; ttl = 0; rdata = rdata } in
-    let same : length (data_bytes rdata) ≡ length bytes = ap length typed.is in
-    let small : length (data_bytes (fold_data rdata)) ≡ length bytes = length_folded rdata ∙ same in
     record {
       plain = plain;
-      form = form_folded one (subst (λ size. form_of number size ≡ variant_of rdata) (sym same) typed.form);
-      filled = omega (arith, small, some);
-      short = omega (arith, small, short);
+      form = form_folded one whole.form;
+      filled = omega (arith, length_folded rdata, whole.filled);
+      short = omega (arith, length_folded rdata, whole.short);
       names = ap (λ (r : Record). r.rdata) (fold_record-fold_record one);
     }
 
@@ -415,8 +413,8 @@ IsTyped-sized_bytes number size digits rdata plain short is =
           let same : length bytes.0 ≡ size = (Decides-eqb (length bytes.0) size).0 parts.0 in
           let some : 0 < length bytes.0 = omega (arith, same, some_below size parts.1) in
           let found = taken (typed_data number bytes.0) (λ found. Some (fold_data found)) rdata whole.1 in
-          let typed = typed_data-is number bytes.0 found.0 found.1 in
-          subst (λ rdata. IsTyped (number, rdata)) (some_same _ _ found.2) (IsTyped-small number bytes.0 found.0 plain some (omega (arith, same, short)) typed)
+          let read = typed_data-whole number bytes.0 found.0 some (omega (arith, same, short)) found.1 in
+          subst (λ rdata. IsTyped (number, rdata)) (some_same _ _ found.2) (IsTyped-small number found.0 plain read)
       | inr none ↦ absurd (no_value none.1)
     ]
 

@@ -2,7 +2,8 @@
 
 use crate::gateway::book::{PEER, book};
 use crate::gateway::echo::Echo;
-use crate::gateway::words::{bytes_of, numbers, put_bytes, two};
+use crate::gateway::words::{numbers, put_bytes, two};
+use crate::words::bytes_of;
 use dns_io::Octets;
 use dns_net::{MemoryRecv, MemorySend, NetError, QuicStream};
 use dns_server_core::{AccessControl, RequestHandler, Settled};

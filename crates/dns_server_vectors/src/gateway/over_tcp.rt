@@ -1,7 +1,8 @@
 //! One query on a connection, byte by byte (RFC 1035 4.2.2).
 
 use crate::gateway::book::{PEER, book};
-use crate::gateway::words::{bytes_of, numbers, put_bytes, two};
+use crate::gateway::words::{numbers, put_bytes, two};
+use crate::words::bytes_of;
 use dns_edges::{MemoryClock, MemorySink, MemorySource};
 use dns_io::Octets;
 use dns_requests::{ServeFault, serve_connection};

@@ -19,11 +19,6 @@ pub fn numbers(alloc: Global, words: &str) -> Result<Vec<u64>, Fail> {
     Ok(numbers)
 }
 
-/// The bytes of hex digits.
-pub fn bytes_of(alloc: Global, digits: &str) -> Result<Vec<u8>, Fail> {
-    Ok(hex::decode(alloc, digits)?)
-}
-
 /// Adds the hex digits of bytes.
 pub fn put_bytes(answer: &mut String, bytes: &[u8]) -> Result<(), Fail> {
     for byte in bytes {
