@@ -16,7 +16,8 @@ options of serve and events:
        [--zone=PATH] [--journal=PATH] [--update] [--deny=IP/PREFIX]... [--allow=IP/PREFIX]...
 
 serve answers what comes by UDP and by TCP at these addresses, at least one of them, until its standard input ends. Then
-it writes its two closing lines. IP is 8 hex digits (IPv4) or 32 (IPv6): 7f000001 is 127.0.0.1, 00000000 every address.
+it writes its two closing lines. IP:PORT is 127.0.0.1:53 or [::1]:53; 0.0.0.0:53 is every IPv4 address, [::]:53 every address.
+In the place of an IP may stand its 8 hex digits (IPv4) or 32 (IPv6), as in what events reads and writes: 7f000001:53.
   --workers=  how many connections are served at once, 1 to 64; 16 where it does not stand. Others wait.
   --limit=    for how many milliseconds a connection may stay without a whole message; 5000 where it does not stand, 0 for
               any time.
@@ -38,7 +39,8 @@ is what they stand for, and no zone text is read. Without it the journal is in m
 --update lets updates in (RFC 2136), from whoever is let in. An update that passes comes into the journal before it is
 answered. Without --update it is Refused.
 
---deny= and --allow= name networks: the addresses that have the first PREFIX bits of IP, at most 32 or 128 of them.
+--deny= and --allow= name networks, as 192.0.2.0/24 or 2001:db8::/32: the addresses that have the first PREFIX bits of IP, at
+most 32 or 128 of them.
 Within the sender's own address family, a sender in an allowed network is let in; else one in a denied network is
 shut out; else it is let in, unless there are allowed networks and no denied ones. Who is shut out gets Refused.
 
@@ -51,7 +53,7 @@ An event line is one of these, with one space between words:
   S AT                     the server stops, and no line follows
 AT is a moment in milliseconds, not below that of the line before; CONN the connection's number, greater than those
 accepted before; LIMIT for how many milliseconds it may stay without a whole message, or 0. AT and LIMIT are below
-2^47. IP and PORT are the other end, IP as in the options. HEX is at most 65535 bytes, two hex digits each, or - for none. On a
+2^47. IP and PORT are the other end, IP in 8 or 32 hex digits. HEX is at most 65535 bytes, two hex digits each, or - for none. On a
 connection each message stands behind the two bytes of its length. Empty lines and lines that begin with # are passed over.
 
 The output of events has a line for each reply, P IP PORT HEX or C CONN HEX. That of load has in their place
@@ -80,6 +82,6 @@ Exit status, and the one line that is written in place of the output:
   10                            memory ran out
   11  port fault                an address could not be listened at, or receiving at it failed
 
-example: dns serve example.com. --zone=examples/example.com.zone --udp=7f000001:5300 --tcp=7f000001:5300
+example: dns serve example.com. --zone=examples/example.com.zone --udp=127.0.0.1:5300 --tcp=127.0.0.1:5300
          and at another terminal: dig @127.0.0.1 -p 5300 www.example.com
 ";

@@ -4,7 +4,7 @@
 use dns_edges::{FileSource, Sink, Writing};
 use dns_io::{Ip, OutOfMemory, Peer};
 use dns_update_client::{HELP, UpdateStatus, VERSION, after_writing, nsupdate, settings_of};
-use dns_words::{Action, action_of, put_text, unread_words};
+use dns_words::{Action, action_of, hex_words, put_text, unread_words};
 use std::env;
 use std::io::{self, BufWriter, Cursor, Read};
 use std::net::{IpAddr, Ipv4Addr, Ipv6Addr, Net, SocketAddr, TcpStream};
@@ -35,7 +35,7 @@ fn main(rt: HostRuntime) -> ExitCode {
     status.exit_code()
 }
 
-/// The words of the command line, without the program's name.
+/// The words of the command line, without the program's name, with their addresses in hex digits.
 fn words_in(rt: &HostRuntime) -> Result<Vec<String>, OutOfMemory> {
     let all = match env::args(rt) {
         Ok(all) => all,
@@ -45,7 +45,7 @@ fn words_in(rt: &HostRuntime) -> Result<Vec<String>, OutOfMemory> {
     for word in all.skip(1) {
         words.push(word)?;
     }
-    Ok(words)
+    hex_words(rt.alloc(), words)
 }
 
 /// Sends what standard input says to the server that the words name. The connection is made when the script was read, so that the

@@ -11,7 +11,7 @@ use dns_io::OutOfMemory;
 use dns_journal::{ClosedJournal, FileJournal, PersistenceError};
 use dns_keeper::{Keeper, MemoryKeeper};
 use dns_ports::SocketHub;
-use dns_words::{Action, action_of, put_text, unread_words};
+use dns_words::{Action, action_of, hex_words, put_text, unread_words};
 use std::fs::{self, File};
 use std::io::{self, BufWriter, Write};
 use std::net::{Net, TcpListener, TcpStream};
@@ -51,7 +51,7 @@ fn main(rt: HostRuntime) -> ExitCode {
     status.exit_code()
 }
 
-/// The words of the command line, without the program's name.
+/// The words of the command line, without the program's name, with their addresses in hex digits.
 fn words_in(rt: &HostRuntime) -> Result<Vec<String>, OutOfMemory> {
     let all = match env::args(rt) {
         Ok(all) => all,
@@ -61,7 +61,7 @@ fn words_in(rt: &HostRuntime) -> Result<Vec<String>, OutOfMemory> {
     for word in all.skip(1) {
         words.push(word)?;
     }
-    Ok(words)
+    hex_words(rt.alloc(), words)
 }
 
 /// What the words ask for. The journal's file is opened, or made.

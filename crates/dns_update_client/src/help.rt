@@ -13,7 +13,8 @@ usage: dns_nsupdate --server=IP:PORT --id=N
 The script is read from standard input, to its end. Then a connection is made to the server, by TCP; each message of the script is
 sent in turn, and the next one only when the reply has come. At the end a line ID CODE is written for each: its id in four hex
 digits, and the code of the reply in decimal, 0 for NoError.
-  --server=  the server's address and port. IP is 8 hex digits (IPv4) or 32 (IPv6): 7f000001 is 127.0.0.1.
+  --server=  the server's address and port, as 127.0.0.1:53 or [::1]:53. In the place of an IP may stand its 8 hex digits (IPv4) or 32
+             (IPv6): 7f000001:53.
   --id=      the id of the first message, below 65536. Those of the others count on from it, and 0 follows 65535.
 
 A line of the script is one of these, its words parted by spaces and tabs:
@@ -45,5 +46,5 @@ Exit status, and the one line that is written in place of the output:
   23  not reply             what came is no reply to an update
   24  proto                 a message has more than 65535 bytes, or what came is no message
 
-example: printf 'zone example.com.\\nadd new.example.com. 60 A 192.0.2.55\\nsend\\n' | dns_nsupdate --server=7f000001:5300 --id=1
+example: printf 'zone example.com.\\nadd new.example.com. 60 A 192.0.2.55\\nsend\\n' | dns_nsupdate --server=127.0.0.1:5300 --id=1
 ";

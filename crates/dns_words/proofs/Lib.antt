@@ -2,3 +2,4 @@ mod Decimals
 mod Stripping
 pub mod TextsRead
 pub mod TextsWritten
+mod Addresses

@@ -6,8 +6,10 @@ mod actions;
 mod keys;
 mod texts;
 mod values;
+mod written;
 
 pub use actions::{Action, action_of, unread_words};
 pub use keys::{behind, first_behind};
 pub use texts::{put_line, put_text};
 pub use values::{address_of, bytes_of, decimal_of, digits_below, first_place, ip_of, peer_of};
+pub use written::{hex_word, hex_words};
