@@ -1,3 +1,4 @@
+use Rattle.std.proofs.Common.{◌≡◌, refl}
 use Rattle.dns_journal.proofs.Inserting.{puts_as_ok, puts_as_err, appends}
 use Rattle.dns_journal.proofs.inserts.JournalKeeper.append.Goals as goal
 
