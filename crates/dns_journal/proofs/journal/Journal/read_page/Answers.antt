@@ -53,4 +53,4 @@ returns-in-Err-clause-stays g c =
 
 pub returns-in-Err-clause-read : goal.returns-in-Err-clause-read
 returns-in-Err-clause-read g c =
-    reads_row g.S.Store c.args.self.now c.keep_fault.new.self c.args.id _ tt (λ _. tt) (returns-in-Err-clause-stays g c) (rw (← c.self.view_is) (counts_by _ _ c.keep_fault.result c.keep_fault.ensures.cause c.keep_fault.ensures.uncounted))
+    reads_row g.S.Store c.args.self.now c.keep_fault.new.self c.args.id _ tt (λ _. tt) (returns-in-Err-clause-stays g c) (rw (← c.self.view_is) (counts_by _ _ c.keep_fault.result c.keep_fault.ensures.later c.keep_fault.ensures.cause c.keep_fault.ensures.uncounted))

@@ -17,7 +17,11 @@ returns g c = record {
         | in-Ok-Some w ↦
             let e = rw (to_z-of_z w64 c.args.row_id c.ranges.row_id, w.in-Ok-Some.field-0-is) at w.in-Ok-Some.ensures in
             rw w.result-is (selects_row g.S.Store old new id e.stays w.in-Ok-Some.row e.read.found e.shown e.other e.read.cause w.found.result w.found.ensures.ok w.found.ensures.fits w.found.ensures.err)
-        | in-Err-Failed w ↦ rw w.result-is (selects_failed g.S.Store old new id w.in-Err-Failed.ensures.stays w.in-Err-Failed.ensures.other w.in-Err-Failed.ensures.read.cause)
-        | in-Err-OutOfMemory w ↦ rw w.result-is (selects_wants g.S.Store old new id w.in-Err-OutOfMemory.ensures.stays w.in-Err-OutOfMemory.ensures.other w.in-Err-OutOfMemory.ensures.read.cause)
+        | in-Err-Failed w ↦
+            let e = rw w.in-Err-Failed.field-0-is at w.in-Err-Failed.ensures in
+            rw w.result-is (selects_failed g.S.Store old new id e.stays e.other e.read.cause)
+        | in-Err-OutOfMemory w ↦
+            let e = rw w.in-Err-OutOfMemory.field-0-is at w.in-Err-OutOfMemory.ensures in
+            rw w.result-is (selects_wants g.S.Store old new id e.stays e.other e.read.cause)
       ];
 }
