@@ -1,5 +1,5 @@
 -- What a reading call does to a journal, by what it asked of the connection.
-use Rattle.std.proofs.Common.{◌≡◌, ◌≤◌, ℕ, ℤ, Bool, true, false, pos, neg_ℤ, ◌^◌, List, Option, Some, None, Result, Ok, Err, IfOk, refl, sym, subst, arith}
+use Rattle.std.proofs.Common.{◌≡◌, ◌≤◌, ℕ, ℤ, Bool, true, false, pos, neg_ℤ, ◌^◌, Option, Result, Err, IfOk, refl, sym, subst, arith}
 use Rattle.sqlite.specs.Store.{Ghosts}
 use Rattle.sqlite.specs.Held.{Held, state}
 use Rattle.sqlite.specs.State.{State, HasCleanDisk}
@@ -8,7 +8,7 @@ use Rattle.dns_io.specs.Told.{one_more}
 use Rattle.dns_keeper.specs.declared.row.Row.{Row}
 use Rattle.dns_keeper.specs.declared.keeper.KeepFault.{KeepFault}
 use Rattle.dns_keeper.specs.declared.keeper.KeepFault.TheVariants.{Failed, OutOfMemory}
-use Rattle.dns_keeper.specs.Keeping.{IsRowFrom, IsFirstRow, CountsBy, HasCause}
+use Rattle.dns_keeper.specs.Keeping.{IsRowFrom, IsFirstRow, HasCause}
 use Rattle.dns_keeper.specs.Calls.{ReadsRow}
 use Rattle.dns_journal.specs.Told.{View, told_rows, Stays, IsReady}
 use Rattle.dns_journal.specs.Keepers.{journal_keeper}

@@ -1,10 +1,9 @@
 -- What an insert does to a journal, by how it ends.
-use Rattle.std.proofs.Common.{◌≡◌, ◌≢◌, ◌≤◌, ◌<◌, ◌==◌, ◌⊎◌, ℕ, ℤ, pos, Bool, true, false, OnOk, List, [], ◌∷◌, length, map, Option, Some, None, Result, Ok, Err, IsTrue, inl, inr, refl, sym, ap, subst, ◌∙◌, arith, append-nil, zero, suc}
-use Rattle.std.proofs.lemmas.Bool.{cases_Bool}
+use Rattle.std.proofs.Common.{◌≡◌, ◌≢◌, ◌≤◌, ◌<◌, ◌⊎◌, ℕ, ℤ, pos, true, false, OnOk, List, [], ◌∷◌, length, map, Option, Some, None, Result, Ok, Err, inl, inr, refl, sym, ap, subst, ◌∙◌, arith, append-nil}
 use Rattle.sqlite.specs.declared.error.Error.{Error}
 use Rattle.sqlite.specs.Store.{Ghosts}
 use Rattle.sqlite.specs.Held.{Held, state}
-use Rattle.sqlite.specs.State.{State, HasCleanDisk}
+use Rattle.sqlite.specs.State.{HasCleanDisk}
 use Rattle.sqlite_trees.specs.View.{doubt}
 use Rattle.dns_io.specs.Told.{Keeps, one_more}
 use Rattle.dns_wire.specs.declared.record.Record.{Record}
@@ -15,11 +14,11 @@ use Rattle.dns_keeper.specs.declared.row.Row.{Row}
 use Rattle.dns_keeper.specs.declared.keeper.KeepFault.{KeepFault}
 use Rattle.dns_keeper.specs.Keeping.{IsStampFor, GrowsByBatch, HasCause}
 use Rattle.dns_keeper.specs.Crash.{IsGrownFrom}
-use Rattle.dns_keeper.specs.Calls.{Appends, ReadsRow}
+use Rattle.dns_keeper.specs.Calls.{Appends}
 use Rattle.dns_journal.specs.declared.error.PersistenceError.{PersistenceError}
 use Rattle.dns_journal.specs.declared.error.PersistenceError.TheVariants.{Sqlite, OutOfMemory}
 use Rattle.dns_journal.specs.Counting.{CountsAs}
-use Rattle.dns_journal.specs.Told.{View, told_rows, Stays, IsUnready, IsReady, Refuses}
+use Rattle.dns_journal.specs.Told.{View, told_rows, Stays, IsReady}
 use Rattle.dns_journal.specs.Crash.{MayLeave, Leaves, LeavesTrees}
 use Rattle.dns_journal.specs.Records.{RefusesBatch}
 use Rattle.dns_journal.specs.Stored.{KeepsDatabase, LeavesBatch}

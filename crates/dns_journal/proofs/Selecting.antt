@@ -1,10 +1,9 @@
 -- What a call that reads a record does, by what came of asking for its row.
-use Rattle.std.proofs.Common.{◌≡◌, ◌≢◌, ℕ, ℤ, Option, Some, None, Result, Ok, Err, IfOk, IfErr, IfSome, FitsSigned, IsErrOf, w64, refl, sym, subst}
+use Rattle.std.proofs.Common.{◌≡◌, ◌≢◌, ℕ, ℤ, Option, Some, None, Result, Ok, Err, IfOk, IfErr, IfSome, FitsSigned, IsErrOf, w64, refl, subst}
 use Rattle.sqlite.specs.Store.{Ghosts}
 use Rattle.sqlite.specs.Held.{state}
 use Rattle.dns_wire.specs.declared.record.Record.{Record}
 use Rattle.dns_keeper.specs.declared.row.Row.{Row}
-use Rattle.dns_keeper.specs.declared.keeper.KeepFault.{KeepFault}
 use Rattle.dns_keeper.specs.declared.keeper.KeepFault.TheVariants as keep
 use Rattle.dns_keeper.specs.Keeping.{IsRowFrom, HasCause}
 use Rattle.dns_journal.specs.declared.error.PersistenceError.{PersistenceError}

@@ -1,5 +1,5 @@
 use Rattle.std.proofs.Common.{Ok, Err}
-use Rattle.dns_keeper.specs.declared.keeper.KeepFault.TheVariants.{Failed, OutOfMemory}
+use Rattle.dns_keeper.specs.declared.keeper.KeepFault.TheVariants.{Failed}
 use Rattle.dns_journal.proofs.Inserting.{puts_as_ok, puts_as_err, appends}
 use Rattle.dns_journal.proofs.inserts.JournalKeeper.append.Goals as goal
 

@@ -3,7 +3,7 @@ use Rattle.std.proofs.lemmas.Int.{to_z-of_z}
 use Rattle.sqlite.specs.Held.{state}
 use Rattle.dns_journal.specs.declared.error.PersistenceError.TheVariants.{OutOfMemory}
 use Rattle.dns_journal.specs.Selects.{SelectsAll}
-use Rattle.dns_journal.proofs.Iterating.{begins, goes_on, ends, ends_full, breaks, wants, all_unready}
+use Rattle.dns_journal.proofs.Iterating.{begins, goes_on, ends, ends_full, breaks, wants}
 use Rattle.dns_journal.proofs.Asking.{is_current}
 use Rattle.dns_journal.proofs.journal.Journal.iter.Goals as goal
 

@@ -1,9 +1,7 @@
-use Rattle.std.proofs.Common.{◌≡◌, true, pos, refl, sym, subst, arith, rules, w64, to_z, of_z}
+use Rattle.std.proofs.Common.{◌≡◌, true, sym, subst, arith, rules, w64, to_z, of_z}
 use Rattle.std.proofs.lemmas.Int.{to_z-of_z}
 use Rattle.sqlite.specs.Held.{state}
 use Rattle.sqlite.specs.Effect.{Database}
-use Rattle.sqlite.specs.State.{HasCleanDisk}
-use Rattle.dns_sqlite.specs.Statements.{HasTables}
 use Rattle.dns_sqlite.specs.Reads.{HasPage}
 use Rattle.dns_journal.specs.Told.{IsReady}
 use Rattle.dns_journal.specs.Stored.{ShowsRow}

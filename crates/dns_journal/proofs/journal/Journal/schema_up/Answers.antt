@@ -1,6 +1,5 @@
 use Rattle.std.proofs.Common.{◌⊎◌, [], arith, inl, inr, sym, subst}
 use Rattle.sqlite.specs.Held.{state}
-use Rattle.sqlite.specs.State.{HasCleanDisk}
 use Rattle.dns_sqlite.specs.Versions.{BecomesNewJournal}
 use Rattle.dns_journal.specs.Crash.{LeftAs, LeavesTrees}
 use Rattle.dns_journal.proofs.Opening.{before, tells_none, new_journal}
