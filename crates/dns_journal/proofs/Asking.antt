@@ -1,5 +1,5 @@
 -- What a reading call does to a journal, by what it asked of the connection.
-use Rattle.std.proofs.Common.{◌≡◌, ℕ, ℤ, Bool, true, false, pos, neg_ℤ, ◌^◌, List, Option, Some, None, Result, Ok, Err, IfOk, refl, sym, subst, arith}
+use Rattle.std.proofs.Common.{◌≡◌, ◌≤◌, ℕ, ℤ, Bool, true, false, pos, neg_ℤ, ◌^◌, Option, Result, Err, IfOk, refl, sym, subst, arith}
 use Rattle.sqlite.specs.Store.{Ghosts}
 use Rattle.sqlite.specs.Held.{Held, state}
 use Rattle.sqlite.specs.State.{State, HasCleanDisk}
@@ -8,7 +8,7 @@ use Rattle.dns_io.specs.Told.{one_more}
 use Rattle.dns_keeper.specs.declared.row.Row.{Row}
 use Rattle.dns_keeper.specs.declared.keeper.KeepFault.{KeepFault}
 use Rattle.dns_keeper.specs.declared.keeper.KeepFault.TheVariants.{Failed, OutOfMemory}
-use Rattle.dns_keeper.specs.Keeping.{IsRowFrom, IsFirstRow, CountsBy, HasCause}
+use Rattle.dns_keeper.specs.Keeping.{IsRowFrom, IsFirstRow, HasCause}
 use Rattle.dns_keeper.specs.Calls.{ReadsRow}
 use Rattle.dns_journal.specs.Told.{View, told_rows, Stays, IsReady}
 use Rattle.dns_journal.specs.Keepers.{journal_keeper}
@@ -48,6 +48,9 @@ module _ {S : Type 0} (g : Ghosts S) where
     cause = cause;
   }
 
+  pub stays_is : (old new : View S) → Stays old new → new ≡ record old { faults = new.faults }
+  stays_is old new stays = rw (stays.conn, stays.version, stays.ready) refl
+
   -- only a fault was counted, if anything
   pub was_read_stays : (old new : View S) → Stays old new → WasRead g old new
   was_read_stays old new stays =
@@ -60,9 +63,9 @@ pub is_current : (ready : Bool) (version : ℤ) (s : State) → ready ≡ true �
 is_current false version s is ready = absurd (cc)
 is_current true version s is ready = ready.0
 
-pub counted_once : (before now : ℕ) → now ≡ one_more before → HasCause {T = Option Row} before now (Err Failed)
-counted_once before now is = record { later = omega (arith, is); counts = omega (arith, is) }
+pub counted_once : (before now : ℕ) → before ≤ now → now ≡ one_more before → HasCause {T = Option Row} before now (Err Failed)
+counted_once before now later is = record { later = later; counts = omega (arith, is) }
 
-pub counts_by : {T : Type 0} (before now : ℕ) (fault : KeepFault) → (fault ≡ Failed → now ≡ one_more before) → (fault ≡ OutOfMemory → now ≡ before) → HasCause {T = T} before now (Err fault)
-counts_by before now Failed rose calm = let is = rose refl in record { later = omega (arith, is); counts = omega (arith, is) }
-counts_by before now OutOfMemory rose calm = let is = calm refl in record { later = omega (arith, is); counts = is }
+pub counts_by : {T : Type 0} (before now : ℕ) (fault : KeepFault) → before ≤ now → (fault ≡ Failed → now ≡ one_more before) → (fault ≡ OutOfMemory → now ≡ before) → HasCause {T = T} before now (Err fault)
+counts_by before now Failed later rose calm = let is = rose refl in record { later = later; counts = omega (arith, is) }
+counts_by before now OutOfMemory later rose calm = record { later = later; counts = calm refl }

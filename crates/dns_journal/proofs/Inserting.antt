@@ -1,10 +1,9 @@
 -- What an insert does to a journal, by how it ends.
-use Rattle.std.proofs.Common.{◌≡◌, ◌≢◌, ◌≤◌, ◌<◌, ◌==◌, ◌⊎◌, ℕ, ℤ, pos, Bool, true, false, OnOk, List, [], ◌∷◌, length, map, Option, Some, None, Result, Ok, Err, IsTrue, inl, inr, refl, sym, ap, subst, ◌∙◌, arith, append-nil, zero, suc}
-use Rattle.std.proofs.lemmas.Bool.{cases_Bool}
+use Rattle.std.proofs.Common.{◌≡◌, ◌≢◌, ◌≤◌, ◌<◌, ◌⊎◌, ℕ, ℤ, pos, true, false, OnOk, List, [], ◌∷◌, length, map, Option, Some, None, Result, Ok, Err, inl, inr, refl, sym, ap, subst, ◌∙◌, arith, append-nil}
 use Rattle.sqlite.specs.declared.error.Error.{Error}
 use Rattle.sqlite.specs.Store.{Ghosts}
 use Rattle.sqlite.specs.Held.{Held, state}
-use Rattle.sqlite.specs.State.{State, HasCleanDisk}
+use Rattle.sqlite.specs.State.{HasCleanDisk}
 use Rattle.sqlite_trees.specs.View.{doubt}
 use Rattle.dns_io.specs.Told.{Keeps, one_more}
 use Rattle.dns_wire.specs.declared.record.Record.{Record}
@@ -15,11 +14,11 @@ use Rattle.dns_keeper.specs.declared.row.Row.{Row}
 use Rattle.dns_keeper.specs.declared.keeper.KeepFault.{KeepFault}
 use Rattle.dns_keeper.specs.Keeping.{IsStampFor, GrowsByBatch, HasCause}
 use Rattle.dns_keeper.specs.Crash.{IsGrownFrom}
-use Rattle.dns_keeper.specs.Calls.{Appends, ReadsRow}
+use Rattle.dns_keeper.specs.Calls.{Appends}
 use Rattle.dns_journal.specs.declared.error.PersistenceError.{PersistenceError}
-use Rattle.dns_journal.specs.declared.error.PersistenceError.TheVariants.{Sqlite}
+use Rattle.dns_journal.specs.declared.error.PersistenceError.TheVariants.{Sqlite, OutOfMemory}
 use Rattle.dns_journal.specs.Counting.{CountsAs}
-use Rattle.dns_journal.specs.Told.{View, told_rows, Stays, IsUnready, IsReady, Refuses}
+use Rattle.dns_journal.specs.Told.{View, told_rows, Stays, IsReady}
 use Rattle.dns_journal.specs.Crash.{MayLeave, Leaves, LeavesTrees}
 use Rattle.dns_journal.specs.Records.{RefusesBatch}
 use Rattle.dns_journal.specs.Stored.{KeepsDatabase, LeavesBatch}
@@ -29,13 +28,13 @@ use Rattle.dns_journal.proofs.Telling.{grows_told, keeps_told, leaves_batch, lef
 use Rattle.dns_journal.proofs.Iterating.{keeps_same, not_unready}
 use Rattle.dns_journal.proofs.Reading.{told_ascends}
 
-pub no_records : (records : List Record) → (length (map record_bytes records) == 0) ≡ true → records ≡ []
-no_records [] e = refl
-no_records (r ∷ rs) e = absurd (cc)
+pub some_records : (records : List Record) → 0 < length (map record_bytes records) → 0 < length records
+some_records [] some = absurd (omega (arith, some))
+some_records (r ∷ rs) some = omega arith
 
-pub some_records : (records : List Record) → (length (map record_bytes records) == 0) ≡ false → 0 < length records
-some_records [] e = absurd (cc)
-some_records (r ∷ rs) e = omega arith
+pub refuses_by : (records : List Record) (e : PersistenceError) → (e ≡ Sqlite) ⊎ (e ≡ OutOfMemory) → RefusesBatch records e
+refuses_by records e (inl is) = subst (RefusesBatch records) (sym is) tt
+refuses_by records e (inr is) = subst (RefusesBatch records) (sym is) tt
 
 grows_none : (told : Option (List Row)) (client serial moment : ℕ) → GrowsByBatch told told client serial moment []
 grows_none None client serial moment = tt
@@ -77,15 +76,15 @@ module _ {S : Type 0} (g : Ghosts S) (client serial moment : ℕ) where
   stays_counted old new is = subst (Stays old) (sym is) (record { conn = refl; version = refl; ready = refl })
 
   -- the calls of the journal do not go to the connection
-  pub inserts_unready : (records : List Record) (old new : View S) → old.is_ready ≡ false → new ≡ record old { faults = one_more old.faults } → Inserts g old new client serial moment records (Err Sqlite)
-  inserts_unready records old new unready counted = record {
+  pub inserts_unready : (records : List Record) (old new : View S) → old.is_ready ≡ false → new ≡ record old { faults = one_more old.faults } → old.faults ≤ new.faults → Inserts g old new client serial moment records (Err Sqlite)
+  inserts_unready records old new unready counted later = record {
     put = puts_refused records old new Sqlite (stays_counted old new counted) (λ _ ready. absurd (let it : true ≡ false = sym ready ∙ unready in cc));
     short = tt;
     named = tt;
     written = λ ready _. absurd (let it : true ≡ false = sym ready ∙ unready in cc);
     other = λ _. record { named = refl; counted = counted };
     cause = record {
-      later = subst (λ (j : View S). old.faults ≤ j.faults) (sym counted) (omega arith);
+      later = later;
       counts = subst (λ (j : View S). one_more old.faults ≤ j.faults) (sym counted) (omega arith);
     };
   }
@@ -130,10 +129,10 @@ module _ {S : Type 0} (g : Ghosts S) (client serial moment : ℕ) where
   -- ---- a batch was handed to the connection
 
   module _ (records : List Record) (some : 0 < length records) (stamp : List ℕ) (stamped : IsStampFor moment records stamp) (old new : Held S) (version : ℤ) (faults count : ℕ) (ready : IsReady true version (state g old)) where
-    before : View S
+    abbrev pub before : View S
     before = record { conn = old; version = version; is_ready = true; faults = faults }
 
-    after : View S
+    abbrev pub after : View S
     after = record { conn = new; version = version; is_ready = true; faults = count }
 
     none_left : {X : Type 0} → records ≡ [] → X

@@ -1,5 +1,5 @@
 -- How far the records of a journal are read.
-use Rattle.std.proofs.Common.{◌≡◌, ◌+ℤ◌, ◌-◌, ◌^◌, ◌++◌, ◌≤◌, ℤ, pos, neg_ℤ, List, [], ◌∷◌, true, false, Option, Some, None, Ok, Err, inl, inr, refl, sym, ap, subst, ◌∙◌, arith, append_assoc, append-nil, if◌then◌else◌}
+use Rattle.std.proofs.Common.{◌≡◌, ◌+ℤ◌, ◌-◌, ◌^◌, ◌++◌, ◌≤◌, ℤ, pos, neg_ℤ, List, [], ◌∷◌, true, false, Option, Some, None, Result, Ok, Err, inl, inr, refl, sym, ap, subst, ◌∙◌, arith, append_assoc, append-nil, if◌then◌else◌}
 use Rattle.std.specs.Int.Signed.{le_z}
 use Rattle.std.proofs.lemmas.Int.{ints}
 use Rattle.std.proofs.lemmas.Bool.{cases_Bool, and_parts}
@@ -13,7 +13,8 @@ use Rattle.dns_keeper.specs.Rows.{first_from, is_below_first, is_ascending}
 use Rattle.dns_keeper.specs.Keeping.{TellsAscending}
 use Rattle.dns_io.specs.Told.{one_more}
 use Rattle.dns_journal.specs.declared.error.PersistenceError.{PersistenceError}
-use Rattle.dns_journal.specs.declared.error.PersistenceError.TheVariants.{Sqlite, OutOfMemory}
+use Rattle.dns_journal.specs.declared.error.PersistenceError.TheVariants.{Recovery, Sqlite, OutOfMemory}
+use Rattle.dns_journal.specs.declared.error.RecoveryKind.TheVariants.{NoRecord}
 use Rattle.dns_journal.specs.Counting.{CountsAs}
 use Rattle.dns_journal.specs.Selects.{WasRead, Selects, SelectsAll}
 use Rattle.dns_journal.specs.Told.{View, rows_of, told_rows, IsUnready}
@@ -276,8 +277,8 @@ not_unready j current ready (inl other) = absurd (other current)
 not_unready j current ready (inr none) = absurd (let it : true ≡ false = sym ready ∙ none in cc)
 
 -- the calls of the journal do not go to the connection
-pub all_unready : {S : Type 0} (g : Ghosts S) (old new : View S) → old.is_ready ≡ false → new ≡ record old { faults = one_more old.faults } → SelectsAll g old new (Err Sqlite)
-all_unready g old new unready counted = subst (λ j. SelectsAll g old j (Err Sqlite)) (sym counted) (record {
+pub all_unready : {S : Type 0} (g : Ghosts S) (old new : View S) → old.is_ready ≡ false → new ≡ record old { faults = one_more old.faults } → old.faults ≤ new.faults → SelectsAll g old new (Err Sqlite)
+all_unready g old new unready counted later = subst (λ j. SelectsAll g old j (Err Sqlite)) (sym counted) (record {
   records = tt;
   recovery = λ is. absurd (cc);
   shown = tt;
@@ -285,7 +286,7 @@ all_unready g old new unready counted = subst (λ j. SelectsAll g old j (Err Sql
   read = record { kept = keeps_same (told_rows g old); untouched = λ clean live. (live, refl); left = λ clean db may. may; falls = omega arith; mode = λ alone. alone; version = refl; ready = refl };
   named = tt;
   other = λ _. record { named = refl; counted = refl };
-  cause = record { later = omega arith; counts = omega arith };
+  cause = record { later = subst (λ j. old.faults ≤ j.faults) counted later; counts = omega arith };
 })
 
 module _ {S : Type 0} (g : Ghosts S) (first mid now : View S) (from : ℤ) (records : List Record) (was : Read g first mid from records) (current : first.version ≡ pos 1) (ready : first.is_ready ≡ true) where
@@ -325,14 +326,17 @@ module _ {S : Type 0} (g : Ghosts S) (first mid now : View S) (from : ℤ) (reco
   pub breaks : (e : PersistenceError) → Selects g mid now from (Err e) → SelectsAll g first now (Err e)
   breaks e last = record {
     records = tt;
-    recovery = λ is. tells_no_record (told_rows g now) from (last.recovery is);
+    recovery = λ is. tells_no_record (told_rows g now) from (last.recovery (ap (λ x. Err x) (same is)));
     shown = tt;
-    spoiled = λ is. stored_no_record (state g first.conn) (state g mid.conn) (state g now.conn) from records last.read.falls was.shown (last.spoiled is);
+    spoiled = λ is. stored_no_record (state g first.conn) (state g mid.conn) (state g now.conn) from records last.read.falls was.shown (last.spoiled (ap (λ x. Err x) (same is)));
     read = was_read_then g first mid now was.was last.read;
     named = last.named;
     other = not_unready first current ready;
     cause = record { later = let calm = was.counted in let rises = last.cause.later in omega (arith, calm, rises); counts = subst (λ n. CountsAs n now.faults e) was.counted last.cause.counts };
   }
+    where
+      same : ◌≡◌ {A = Result (List Record) PersistenceError} (Err e) (Err (Recovery NoRecord)) → e ≡ Recovery NoRecord
+      same is = cc
 
   -- memory was wanting
   pub wants : SelectsAll g first mid (Err OutOfMemory)

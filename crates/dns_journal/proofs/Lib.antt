@@ -6,5 +6,6 @@ pub mod Reading
 pub mod RecordsRead
 pub mod Iterating
 pub mod SentJournal
+pub mod Selecting
 pub mod Asking
 pub mod Inserting

@@ -1,5 +1,6 @@
 -- Why no version was told, and what a new journal tells.
-use Rattle.std.proofs.Common.{◌≡◌, ◌≢◌, ℤ, pos, Bool, true, false, if◌then◌else◌, ◌&&◌, [], inl, inr, refl, ap, subst, IsTrue}
+use Rattle.std.proofs.Common.{◌≡◌, ◌≢◌, ℤ, pos, Bool, true, false, if◌then◌else◌, ◌&&◌, List, [], ◌∷◌, Option, Some, None, is_some, int_eq, inl, inr, refl, ap, subst, arith, IsTrue, to_z, of_z, w64}
+use Rattle.sqlite.specs.Order.{Row, column}
 use Rattle.std.proofs.lemmas.Bool.{and_parts, cases_Bool}
 use Rattle.sqlite_trees.proofs.Doubt.{no_doubt}
 use Rattle.sqlite.specs.Effect.{Database, IsDatabase}
@@ -7,7 +8,7 @@ use Rattle.sqlite.specs.declared.error.Error.{Error}
 use Rattle.sqlite.specs.State.{State, HasCleanDisk}
 use Rattle.dns_sqlite.specs.declared.version.VersionFault.{VersionFault}
 use Rattle.dns_sqlite.specs.declared.version.VersionFault.TheVariants.{NoVersion, Refused}
-use Rattle.dns_sqlite.specs.Versions.{LacksVersion, FitsTables, IsVersion, IsBefore, IsNewJournal, BecomesNewJournal, IsRefusal, no_memory}
+use Rattle.dns_sqlite.specs.Versions.{IsAtVersion, LacksVersion, FitsTables, IsVersion, number_of, known, version_of, IsBefore, IsNewJournal, BecomesNewJournal, IsRefusal, no_memory}
 use Rattle.dns_sqlite.specs.Shapes.{IsStart}
 use Rattle.dns_journal.specs.declared.error.PersistenceError.TheVariants.{Sqlite, OutOfMemory}
 use Rattle.dns_journal.specs.Told.{TellsOnly, rows_in, IsReady, FitsConnection, TakesCalls}
@@ -54,3 +55,28 @@ fits_new s made = λ clean live _. (made clean).made.1
 pub ready_if : (ready : Bool) (version : ℤ) (s : State) → (IsTrue ready → TakesCalls version s) → IsReady ready version s
 ready_if false version s takes = tt
 ready_if true version s takes = let it = takes refl in (it.current, it.alone, λ _ _. it.tables)
+
+-- ---- a version is the same number in 64 bits
+
+known_bits : (o : Option ℤ) (n : ℤ) → known o ≡ Some n → to_z w64 (of_z w64 n) ≡ n
+known_bits None n e = absurd (cc)
+known_bits (Some m) n e = elim (cases_Bool (int_eq m (pos 0))) [
+  | inl zero ↦ let same : Some m ≡ Some n = rw zero at e in let it : m ≡ pos 0 = grind arith in let is : n ≡ pos 0 = cc in rw is refl
+  | inr other ↦ elim (cases_Bool (int_eq m (pos 1))) [
+    | inl one ↦ let same : Some m ≡ Some n = rw (other, one) at e in let it : m ≡ pos 1 = grind arith in let is : n ≡ pos 1 = cc in rw is refl
+    | inr none ↦ absurd (let it : None ≡ Some n = rw (other, none) at e in cc)
+  ]
+]
+
+version_bits : (rows : List Row) (n : ℤ) → version_of rows ≡ Some n → to_z w64 (of_z w64 n) ≡ n
+version_bits [] n e = absurd (cc)
+version_bits (r ∷ s ∷ more) n e = absurd (cc)
+version_bits (r ∷ []) n e = go (number_of (column r 0)) (number_of (column r 1)) e
+  where
+    go : (id version : Option ℤ) → (if is_some id then known version else None) ≡ Some n → to_z w64 (of_z w64 n) ≡ n
+    go None version e = absurd (cc)
+    go (Some id) version e = known_bits version n e
+
+pub in_bits : (n : ℤ) (d : Database) → IsAtVersion n d → to_z w64 (of_z w64 n) ≡ n
+in_bits n d (inl it) = rw it.0 refl
+in_bits n d (inr it) = version_bits it.1 n it.3

@@ -1,8 +1,8 @@
 use Rattle.dns_journal.specs.HostFiles.{host_told, host_may_leave}
 use Rattle.dns_journal.proofs.file_journal.FileJournalKeeper.append.Goals as goal
 
-pub returns-clause-appended : goal.returns-clause-appended
+pub returns : goal.returns
 unfolding host_told host_may_leave
-returns-clause-appended c =
+returns c =
     let all = c.append.ensures.appended in
-    record { ok = all.ok; err = all.err; ascending = all.ascending; alone = all.alone; left = all.left; cause = all.cause }
+    record { appended = record { ok = all.ok; err = all.err; ascending = all.ascending; alone = all.alone; left = all.left; cause = all.cause } }

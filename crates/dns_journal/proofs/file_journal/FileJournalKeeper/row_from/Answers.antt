@@ -3,8 +3,8 @@ use Rattle.std.proofs.lemmas.Int.{to_z-of_z}
 use Rattle.dns_journal.specs.HostFiles.{host_told, host_may_leave}
 use Rattle.dns_journal.proofs.file_journal.FileJournalKeeper.row_from.Goals as goal
 
-pub returns-clause-read : goal.returns-clause-read
+pub returns : goal.returns
 unfolding host_told host_may_leave
-returns-clause-read c =
+returns c =
     let all = rw (to_z-of_z w64 c.args.id c.ranges.id) at c.row_from.ensures.read in
-    record { found = all.found; first = all.first; ascending = all.ascending; kept = all.kept; left = all.left; cause = all.cause }
+    record { read = record { found = all.found; first = all.first; ascending = all.ascending; kept = all.kept; left = all.left; cause = all.cause } }

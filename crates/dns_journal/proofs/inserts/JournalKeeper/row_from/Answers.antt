@@ -1,4 +1,4 @@
-use Rattle.std.proofs.Common.{◌≡◌, ◌∙◌, true, pos, w64, Some, Ok, refl, sym, ap, subst, rules}
+use Rattle.std.proofs.Common.{◌≡◌, ◌∙◌, true, w64, Some, Ok, refl, sym, ap, subst, rules}
 use Rattle.std.proofs.lemmas.Int.{to_z-of_z}
 use Rattle.sqlite.specs.Held.{state}
 use Rattle.dns_journal.specs.Told.{View}
@@ -7,9 +7,8 @@ use Rattle.dns_journal.specs.Selects.{WasRead}
 use Rattle.dns_journal.specs.Stored.{ShowsRow}
 use Rattle.dns_journal.proofs.Reading.{row_told, first_row_told}
 use Rattle.dns_journal.proofs.Pages.{shows_row}
-use Rattle.dns_journal.proofs.Iterating.{was_read_none, not_unready}
-use Rattle.dns_journal.proofs.Asking.{was_read_stays, reads_row, counted_once, is_current}
-use Rattle.dns_journal.proofs.Inserting.{stays_counted}
+use Rattle.dns_journal.proofs.Iterating.{was_read_none}
+use Rattle.dns_journal.proofs.Asking.{reads_row}
 use Rattle.dns_journal.proofs.inserts.JournalKeeper.row_from.Goals as goal
 
 pub read_page-requires : goal.read_page-requires

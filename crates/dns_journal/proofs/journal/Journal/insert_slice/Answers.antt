@@ -1,9 +1,74 @@
-use Rattle.std.proofs.Common.{◌≡◌, ◌≢◌, ◌∙◌, ◌<◌, length, map, true, false, pos, refl, sym, ap, subst, rules, arith}
+use Rattle.std.proofs.Common.{◌≡◌, ◌∙◌, ◌<◌, length, map, true, Err, refl, sym, subst, rules, arith}
 use Rattle.sqlite.specs.Held.{state}
+use Rattle.sqlite.specs.State.{HasCleanDisk}
 use Rattle.dns_wire.specs.WireFormat.{record_bytes}
+use Rattle.dns_sqlite.specs.Statements.{HasTables}
+use Rattle.dns_sqlite.proofs.Streams.{not_none}
 use Rattle.dns_keeper.specs.Keeping.{IsStampFor}
-use Rattle.dns_journal.specs.Told.{IsReady}
+use Rattle.dns_journal.specs.Told.{View, IsReady}
+use Rattle.dns_journal.specs.Inserts.{Inserts}
 use Rattle.dns_journal.proofs.Telling.{stamp_for, ready_grown, fits_grown, ready_kept, fits_kept}
 use Rattle.dns_journal.proofs.Pages.{holds_none}
-use Rattle.dns_journal.proofs.Inserting.{inserts_unready, inserts_unwritten, inserts_none, inserts_batch, inserts_no_batch, no_records, some_records}
+use Rattle.dns_journal.proofs.Asking.{stays_is}
+use Rattle.dns_journal.proofs.Inserting.{inserts_batch, inserts_no_batch, some_records, refuses_by}
 use Rattle.dns_journal.proofs.journal.Journal.insert_slice.Goals as goal
+
+pub invariant_of-self : goal.invariant_of-self
+invariant_of-self g c =
+    let old = state g.S.Store c.self.inside.conn in
+    let new = state g.S.Store c.insert_batch.new.conn in
+    let version = c.self.inside.version in
+    let done = c.in-Ok.ensures.done in
+    let is : c.self.inside.ready ≡ true = search rules in
+    let ready : IsReady true version old = subst (λ b. IsReady b version old) is c.self.invariant.ready in
+    let has : HasCleanDisk new → HasTables old.now = λ clean. ready.2 (omega (arith, done.falls, clean)) (done.opened clean) in
+    record {
+      ready = subst (λ b. IsReady b version new) (sym is) (ready_grown version old new ready done.alone (λ clean live. (done.made clean (has clean)).grown.schema));
+      page = λ clean. holds_none c.empty.result _ c.empty.ensures;
+      fits = λ clean live.
+          fits_grown version c.args.client c.args.soa_serial c.as_str.result.now c.as_slice.result.now old.now new.now (has clean) (c.self.invariant.fits (omega (arith, done.falls, clean)) (done.opened clean)) (done.made clean (has clean)).grown;
+    }
+
+pub invariant_of-self-in-Err : goal.invariant_of-self-in-Err
+invariant_of-self-in-Err g c =
+    let old = state g.S.Store c.self.inside.conn in
+    let new = state g.S.Store c.insert_batch.new.conn in
+    let failed = c.in-Err.ensures.done in
+    record {
+      ready = ready_kept c.self.inside.ready c.self.inside.version old new c.self.invariant.ready (λ _. failed.alone) failed.falls (λ clean live. let k = failed.kept clean live in (k.0, k.1));
+      page = λ clean. holds_none c.empty.result _ c.empty.ensures;
+      fits = fits_kept c.self.inside.version old new c.self.invariant.fits failed.falls (λ clean live. let k = failed.kept clean live in (k.0, k.1));
+    }
+
+pub returns-in-Ok : goal.returns-in-Ok
+returns-in-Ok g c =
+    let records = c.args.records.now in
+    let is : c.self.inside.ready ≡ true = search rules in
+    let ready : IsReady true c.self.inside.version (state g.S.Store c.self.inside.conn) = subst (λ b. IsReady b c.self.inside.version (state g.S.Store c.self.inside.conn)) is c.self.invariant.ready in
+    let stamped : IsStampFor c.args.moment records c.as_str.result.now = stamp_for c.args.moment records c.as_str.result.now (rw c.as_str.ensures.value c.in_ok-stamp.ensures) in
+    let encoded = c.in_ok-all.ensures.ok in
+    let items : c.as_slice.result.now ≡ map record_bytes records = c.as_slice.ensures.value ∙ encoded.0 in
+    let some : 0 < length c.in_ok-all.all.items = omega (arith, c.in_ok-all.all.ok, not_none c.in_ok-all.all.len (sym c.is_empty.ensures ∙ c.if-is_empty.false)) in
+    let it =
+    inserts_batch g.S.Store c.args.client c.args.soa_serial c.args.moment records (some_records records (rw encoded.0 at some)) c.as_str.result.now stamped c.self.inside.conn c.insert_batch.new.conn c.self.inside.version c.self.inside.faults c.self.inside.faults ready _ encoded.1
+    (rw items at c.in-Ok.ensures.done) refl in
+    record { inserted = rw (← c.self.view_is, is) it }
+
+pub returns : goal.returns
+returns g c =
+    let records = c.args.records.now in
+    let is : c.self.inside.ready ≡ true = search rules in
+    let ready : IsReady true c.self.inside.version (state g.S.Store c.self.inside.conn) = subst (λ b. IsReady b c.self.inside.version (state g.S.Store c.self.inside.conn)) is c.self.invariant.ready in
+    let stamped : IsStampFor c.args.moment records c.as_str.result.now = stamp_for c.args.moment records c.as_str.result.now (rw c.as_str.ensures.value c.in_ok-stamp.ensures) in
+    let encoded = c.in_ok-all.ensures.ok in
+    let items : c.as_slice.result.now ≡ map record_bytes records = c.as_slice.ensures.value ∙ encoded.0 in
+    let some : 0 < length c.in_ok-all.all.items = omega (arith, c.in_ok-all.all.ok, not_none c.in_ok-all.all.len (sym c.is_empty.ensures ∙ c.if-is_empty.false)) in
+    let old : View g.row.S.Denot = record { conn = c.self.inside.conn; version = c.self.inside.version; is_ready = c.self.inside.ready; faults = c.self.inside.faults } in
+    let mid : View g.row.S.Denot = record { conn = c.insert_batch.new.conn; version = c.self.inside.version; is_ready = c.self.inside.ready; faults = c.self.inside.faults } in
+    let made =
+    inserts_no_batch g.S.Store c.args.client c.args.soa_serial c.args.moment records (some_records records (rw encoded.0 at some)) c.as_str.result.now stamped c.self.inside.conn c.insert_batch.new.conn c.self.inside.version c.self.inside.faults c.blame.new.self.faults ready c.in-Err.error c.blame.result encoded.1
+    (rw items at c.in-Err.ensures.done) (refuses_by records c.blame.result c.blame.ensures.named) c.blame.ensures.later c.blame.ensures.counts in
+    let it : Inserts g.S.Store old (record mid { faults = c.blame.new.self.faults }) c.args.client c.args.soa_serial c.args.moment records (Err c.blame.result) = rw is made in
+    record {
+      inserted = rw (← c.self.view_is) (subst (λ j. Inserts g.S.Store old j c.args.client c.args.soa_serial c.args.moment records (Err c.blame.result)) (sym (stays_is g.S.Store mid c.blame.new.self c.blame.ensures.kept)) it);
+    }

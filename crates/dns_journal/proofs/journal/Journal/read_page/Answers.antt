@@ -1,9 +1,7 @@
-use Rattle.std.proofs.Common.{◌≡◌, true, pos, refl, sym, subst, arith, rules, w64, to_z, of_z}
+use Rattle.std.proofs.Common.{◌≡◌, true, sym, subst, arith, rules, w64, to_z, of_z}
 use Rattle.std.proofs.lemmas.Int.{to_z-of_z}
 use Rattle.sqlite.specs.Held.{state}
 use Rattle.sqlite.specs.Effect.{Database}
-use Rattle.sqlite.specs.State.{HasCleanDisk}
-use Rattle.dns_sqlite.specs.Statements.{HasTables}
 use Rattle.dns_sqlite.specs.Reads.{HasPage}
 use Rattle.dns_journal.specs.Told.{IsReady}
 use Rattle.dns_journal.specs.Stored.{ShowsRow}
@@ -53,4 +51,4 @@ returns-in-Err-clause-stays g c =
 
 pub returns-in-Err-clause-read : goal.returns-in-Err-clause-read
 returns-in-Err-clause-read g c =
-    reads_row g.S.Store c.args.self.now c.keep_fault.new.self c.args.id _ tt (λ _. tt) (returns-in-Err-clause-stays g c) (rw (← c.self.view_is) (counts_by _ _ c.keep_fault.result c.keep_fault.ensures.cause c.keep_fault.ensures.uncounted))
+    reads_row g.S.Store c.args.self.now c.keep_fault.new.self c.args.id _ tt (λ _. tt) (returns-in-Err-clause-stays g c) (rw (← c.self.view_is) (counts_by _ _ c.keep_fault.result c.keep_fault.ensures.later c.keep_fault.ensures.cause c.keep_fault.ensures.uncounted))
