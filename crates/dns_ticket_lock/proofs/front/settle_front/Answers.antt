@@ -1,5 +1,5 @@
 -- Messages behind those of which nothing came.
-use Rattle.std.proofs.Common.{◌≡◌, ◌∷◌, ◌+◌, ◌-◌, ℕ, List, length, true, refl, sym, ap, subst, ◌∙◌, arith}
+use Rattle.std.proofs.Common.{◌≡◌, ◌∷◌, ◌+◌, ◌-◌, ℕ, length, true, refl, sym, ap, subst, ◌∙◌, arith}
 use Rattle.dns_book.specs.declared.ask.Ask.{Ask}
 use Rattle.dns_book.specs.Book.{Settles}
 use Rattle.dns_book.specs.Into.{SettlesInto}
