@@ -1,16 +1,16 @@
 -- From read to read, and how it ends.
-use Rattle.std.proofs.Common.{◌≡◌, ◌≢◌, ◌∙◌, ◌+◌, ◌≤◌, ℕ, List, length, map, take, refl, sym, ap, subst, arith, length-append}
+use Rattle.std.proofs.Common.{◌≡◌, ◌≢◌, ◌∙◌, ◌+◌, ◌++◌, ◌≤◌, ℕ, List, length, map, take, refl, sym, ap, subst, arith, length-append}
 use Rattle.std.proofs.lemmas.List.{length-take-le}
 use Rattle.std.proofs.lemmas.Result.{err_from_is_err_and}
 use Rattle.dns_io.proofs.ToldContents.{Keeps-same, Keeps-more}
-use Rattle.dns_io.specs.declared.peer.Protocol.TheVariants.{Tcp}
 use Rattle.dns_book.specs.declared.ask.Ask.{Ask}
 use Rattle.dns_frames.specs.Frames.{frames}
-use Rattle.dns_requests.specs.Arrivals.{ask_at, opened}
+use Rattle.dns_requests.specs.Arrivals.{ask_at}
 use Rattle.dns_requests.specs.Ends.{Parts, Terms}
 use Rattle.dns_server_core.specs.Connections.{Connection}
 use Rattle.dns_server_core.specs.FrameRuns.{Adds, Halts}
-use Rattle.dns_server_core.specs.Steps.{with_piece}
+use Rattle.dns_server_core.specs.Steps.{HearsPiece, with_piece}
+use Rattle.dns_server_core.specs.declared.session.Heard.TheVariants.{InTime}
 use Rattle.dns_server_core.proofs.LongerRuns.{Halts-none}
 use Rattle.dns_requests.proofs.MoreArrivals.{ask_stays}
 use Rattle.dns_requests.proofs.Going.{Going, Going-begun, Heard-more, Heard-answered, ends_answering, ends_cut_off, ends_late, ends_reading, ends_served, ends_writing}
@@ -89,8 +89,9 @@ returns-in_err-messages-clause-ends g c =
     let some : length piece ≢ 0 = subst (λ (n : ℕ). n ≢ 0) (sym size) c.if-count-eq0.false in
     let new = c.hear.new.self in
     let p = err_from_is_err_and c.from_residual-in_err-messages.result c.from_residual-in_err-messages.ensures.1 in
+    let in_time = subst (λ (l : List ℕ). HearsPiece c.loop-turn.session at l InTime c.hear.new.self) c.split_at.ensures.front (rw c.in-InTime.is at c.in_ok-heard.ensures.ok) in
     let heard = Heard-more serves g.T.RequestHandler.skips g.R.Source.source g.W.Sink.sink g.C.Clock.clock terms before now c.loop-turn._turn c.loop-turn.session c.loop-turn.taken c.receive.new.source c.now-at.new.self at piece c.hear.new.self
-    c.loop-turn.invariant.going c.in_ok-count.ensures.ok some c.now-at.ensures.next (rw c.in-InTime.is at c.in_ok-heard.ensures.ok) in
+    c.loop-turn.invariant.going c.in_ok-count.ensures.ok some c.now-at.ensures.next in_time in
     let halts = subst (λ (x : Ask). Halts serves g.T.RequestHandler.skips c.loop-turn.handler (map (λ (m : List ℕ). record x { at = at; bytes = m }) (frames new.rest).messages) c.answer.new.handler) c.loop-turn.invariant.ask c.in_err-messages.ensures.err in
     rw (p.1, p.2)
     (ends_answering serves g.T.RequestHandler.skips g.R.Source.source g.W.Sink.sink g.C.Clock.clock terms before now c.loop-turn._turn c.loop-turn.session c.loop-turn.taken
@@ -106,8 +107,9 @@ returns-in_err-send-clause-ends g c =
     let piece = take c.in_ok-count.count c.receive.new.room in
     let size : length piece ≡ c.in_ok-count.count = length-take-le c.in_ok-count.count c.receive.new.room c.in_ok-count.ensures.count in
     let some : length piece ≢ 0 = subst (λ (n : ℕ). n ≢ 0) (sym size) c.if-count-eq0.false in
+    let in_time = subst (λ (l : List ℕ). HearsPiece c.loop-turn.session at l InTime c.hear.new.self) c.split_at.ensures.front (rw c.in-InTime.is at c.in_ok-heard.ensures.ok) in
     let heard = Heard-more serves g.T.RequestHandler.skips g.R.Source.source g.W.Sink.sink g.C.Clock.clock terms before now c.loop-turn._turn c.loop-turn.session c.loop-turn.taken c.receive.new.source c.now-at.new.self at piece c.hear.new.self
-    c.loop-turn.invariant.going c.in_ok-count.ensures.ok some c.now-at.ensures.next (rw c.in-InTime.is at c.in_ok-heard.ensures.ok) in
+    c.loop-turn.invariant.going c.in_ok-count.ensures.ok some c.now-at.ensures.next in_time in
     let new = c.hear.new.self in
     let replies = c.answer.new.replies.items in
     let adds = subst (λ (x : Ask). Adds serves c.loop-turn.handler (map (λ (m : List ℕ). record x { at = at; bytes = m }) (frames new.rest).messages) c.answer.new.handler c.loop-turn.replies.items replies) c.loop-turn.invariant.ask c.in_ok-messages.ensures.ok in
@@ -124,9 +126,11 @@ returns-clause-ends g c =
 
 pub overflow_add-taken : goal.overflow_add-taken
 overflow_add-taken g c =
-    let piece = take c.in_ok-count.count c.receive.new.room in
-    let rest = ap length (ap (λ (k : Connection). k.rest) (rw c.in-InTime.is at c.in_ok-heard.ensures.ok).1) in
-    omega (arith, c.loop-turn.invariant.going.fits, c.in_ok-messages.ensures.shorter, rest, length-append c.loop-turn.session.rest piece, c.in_ok-count.ensures.ok.most, c.loop-turn-test.true, c.requires.reads)
+    let piece = c.split_at.result.0.now in
+    let rest : length c.hear.new.self.rest ≡ length (c.loop-turn.session.rest ++ piece) = ap (λ (k : Connection). length k.rest) (rw c.in-InTime.is at c.in_ok-heard.ensures.ok).1 in
+    let most : length piece ≤ 4096 = subst (λ (l : List ℕ). length l ≤ 4096) (sym c.split_at.ensures.front) c.in_ok-count.ensures.ok.most in
+    let size : length c.hear.new.self.rest ≤ length c.loop-turn.session.rest + 4096 = omega (arith, rest, length-append c.loop-turn.session.rest piece, most) in
+    omega (arith, c.loop-turn.invariant.going.fits, c.in_ok-messages.ensures.shorter, size, c.loop-turn-test.true, c.requires.reads)
 
 pub loop-turn-preserved : goal.loop-turn-preserved
 loop-turn-preserved g c =
@@ -138,8 +142,9 @@ loop-turn-preserved g c =
     let piece = take c.in_ok-count.count c.receive.new.room in
     let size : length piece ≡ c.in_ok-count.count = length-take-le c.in_ok-count.count c.receive.new.room c.in_ok-count.ensures.count in
     let some : length piece ≢ 0 = subst (λ (n : ℕ). n ≢ 0) (sym size) c.if-count-eq0.false in
+    let in_time = subst (λ (l : List ℕ). HearsPiece c.loop-turn.session at l InTime c.hear.new.self) c.split_at.ensures.front (rw c.in-InTime.is at c.in_ok-heard.ensures.ok) in
     let heard = Heard-more serves g.T.RequestHandler.skips g.R.Source.source g.W.Sink.sink g.C.Clock.clock terms before now c.loop-turn._turn c.loop-turn.session c.loop-turn.taken c.receive.new.source c.now-at.new.self at piece c.hear.new.self
-    c.loop-turn.invariant.going c.in_ok-count.ensures.ok some c.now-at.ensures.next (rw c.in-InTime.is at c.in_ok-heard.ensures.ok) in
+    c.loop-turn.invariant.going c.in_ok-count.ensures.ok some c.now-at.ensures.next in_time in
     let new = c.hear.new.self in
     let replies = c.answer.new.replies.items in
     let adds = subst (λ (x : Ask). Adds serves c.loop-turn.handler (map (λ (m : List ℕ). record x { at = at; bytes = m }) (frames new.rest).messages) c.answer.new.handler c.loop-turn.replies.items replies) c.loop-turn.invariant.ask c.in_ok-messages.ensures.ok in
