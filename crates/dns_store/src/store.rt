@@ -78,7 +78,8 @@ impl<K: Keeper> Store<K> {
 
     /// The zone that the rows stand for.
     pub fn zone(&self) -> &Zone
-        ensures { result.now ≡ self.now.zone }
+        ensures is { result.now ≡ self.now.zone }
+        ensures stored { IsStored K.keeper self.now }
     {
         &self.zone
     }

@@ -1,4 +1,5 @@
 use Rattle.std.proofs.Common.{◌≡◌, ℕ, ◌+◌, ◌-◌, ◌<◌, length, false, Some, None, Err, refl, sym, ap, ◌∙◌, subst, arith}
+use Rattle.dns_zone_map.specs.Zone.{Contents}
 use Rattle.dns_update.specs.Change.{batch_of}
 use Rattle.dns_book.specs.Book.{SeenOf, seen, Ends}
 use Rattle.dns_book.specs.Outcome.{Journals}
@@ -42,4 +43,4 @@ returns-clause-is g c =
     (seen c.journal.new.self c.self.inside.allow_update c.count_change.new.counts)) c.self.view_is
     (journals_grown g.K.Keeper.keeper store c.journal.new.self c.self.inside.allow_update c.self.inside.counts c.args.ask.now _ c.in-Ok.batch
     (c.row_count.result - c.len-count.result + 1) c.len-count.result c.len-records.result c.count_change.new.counts some c.in-Ok.ensures.is c.in-Ok.ensures.batch.records c.in-Ok.ensures.batch.modified
-    first counted c.len-records.ensures c.count_change.ensures)
+    first counted (c.len-records.ensures ∙ ap (λ (z : Contents). length z.records) c.zone.ensures.is) c.count_change.ensures)

@@ -21,7 +21,7 @@ returns-then-branch-clause-left g c =
     let before : SeenOf g.row.K.Denot = seen c.self.inside.store c.self.inside.allow_update c.self.inside.counts in
     let after : SeenOf g.row.K.Denot = seen c.self.inside.store c.self.inside.allow_update c.answer.new.counts in
     let done : IsTrue c.in_ok-answer.field-0 = c.if-branch.true in
-    let answered = rw c.zone.ensures at (c.in_ok-answer.ensures.ok c.self.inside.allow_update done) in
+    let answered = rw c.zone.ensures.is at (c.in_ok-answer.ensures.ok c.self.inside.allow_update done) in
     subst (λ (b : SeenOf g.row.K.Denot). SettlesInto (λ (settled : Settled). SettlesLeaving g.K.Keeper.keeper c.args.access.now b c.args.ask.now settled after) c.args.is_framed c.args.out.now.items c.answer.new.out.items c.told.result) c.self.view_is
     (into_in_place g.K.Keeper.keeper c.args.access.now before c.args.ask.now c.args.is_framed c.args.out.now.items c.answer.new.out.items c.told.result c.answer.new.counts after
     c.self.invariant.0 c.self.invariant.0 answered refl c.told.ensures)
