@@ -392,7 +392,7 @@ def tried_crate(lib, name, anew):
     begun, found = time.time(), {}
     crate = lib.Crate(f"{TOP}/crates/{name}", str(TOP), {})
     crate.out = open(os.devnull, "w")
-    kept = kept_at(crate)
+    kept = kept_at(lib, crate)
     if kept and kept.is_file() and not anew:
         wrong = [it for it in edits_of(name, TOGETHER) if it.suffix == ".edit"]
         return f"{name}: {len(wrong)} wrong bodies, all refused here before", len(wrong), 0, len(edits_of(name, TOGETHER)) - len(wrong)
@@ -410,10 +410,13 @@ def tried_crate(lib, name, anew):
     return "\n".join(lines), len(wrong), len(bad), len(found) - len(wrong)
 
 
-def kept_at(crate):
+def kept_at(lib, crate):
     """Where it is kept that all wrong bodies of a crate were refused: by all that this rests on. None where no folder can be made."""
     room = Path(os.environ.get("WRONG_BODIES_KEPT") or Path.home() / ".cache" / "dns-wrong-bodies")
     told = hashlib.sha256(f"{crate.stamp()} {kit.version()}".encode())
+    for dep in crate.below():
+        # (a library's format holds the sum of its files)
+        told.update(f"{dep.name} {lib.sum_of(dep.rlib + '/format')}".encode())
     for file in [Path(__file__), Path(kit.__file__), *edits_of(crate.name, TOGETHER)]:
         told.update(repr((file.name, file.read_bytes())).encode())
     try:
