@@ -1,3 +1,4 @@
+use Rattle.std.proofs.Common.{rules}
 use Rattle.dns_keeper.proofs.Ascending.{ascending_grown}
 use Rattle.dns_keeper.proofs.memory.MemoryKeeperKeeper.append.Goals as goal
 
@@ -7,11 +8,11 @@ invariant_of-self-in-Ok c =
 
 pub returns-in_ok-append-in-Ok-clause-appended : goal.returns-in_ok-append-in-Ok-clause-appended
 returns-in_ok-append-in-Ok-clause-appended c = record {
-  ok = rw c.in_ok-append-in-Ok.ensures.items (rw c.deref.ensures.value at c.in-Ok.ensures.ok);
+  ok = search rules;
   err = tt;
   ascending =
       ascending_grown c.self.inside.rows.items _ _ _ _ _ _ c.self.invariant (rw c.deref.ensures.value at c.in-Ok.ensures.ok) c.in_ok-append-in-Ok.ensures.items;
   alone = λ _ _ none. absurd none;
   left = λ _ none. absurd none;
-  cause = record { later = omega; counts = refl };
+  cause = record { later = search rules; counts = search rules };
 }
