@@ -1,6 +1,7 @@
 //! Listeners whose connections wait for one another: two connections, each of which reads on only when the other has got a reply.
 
-ghost use Rattle.std.specs.Prelude.{◌≤◌, length, None};
+ghost use Rattle.std.specs.Prelude.{◌<◌, ◌≤◌, length, None};
+ghost use Rattle.dns_ports.specs.Ports.{TakesBack};
 
 use crate::hubs::PEER;
 use dns_edges::{MemoryClock, Sink, Source};
@@ -157,7 +158,11 @@ impl TcpPort for GatedListener {
         Ok(Some(connection))
     }
 
-    fn done(&mut self, connection: Accepted<GatedInput, GatedOutput, MemoryClock>) {
+    fn done(&mut self, connection: Accepted<GatedInput, GatedOutput, MemoryClock>)
+        requires { 0 < self.old.lent }
+        ensures told { TakesBack (record { left = None; accepted = None; ended = None; lent = self.old.lent; faults = 0 })
+            (record { left = None; accepted = None; ended = None; lent = self.new.lent; faults = 0 }) connection }
+    {
         let _ended = connection;
         self.lent -= 1;
     }
