@@ -22,6 +22,5 @@ pub trait Files {
     fn read_file(&mut self, path: &str) -> Result<Option<Octets>, KeepFault>
         ensures found { IfOk result (IsTextAt (files self.new) path.now) }
         ensures kept { Keeps (files self.old) (files self.new) }
-        ensures cause { HasCause (faults self.old) (faults self.new) result }
-        ensures uncounted { IsErrOf result KeepFault.OutOfMemory → faults self.new ≡ faults self.old };
+        ensures cause { HasCause (faults self.old) (faults self.new) result };
 }

@@ -59,7 +59,6 @@ impl Files for MemoryFiles {
         ensures found { IfOk result (λ found. found ≡ text_at self.new.files path.now) }
         ensures kept { self.new.files ≡ self.old.files }
         ensures cause { HasCause self.old.faults self.new.faults result }
-        ensures uncounted { IsErrOf result KeepFault.OutOfMemory → self.new.faults ≡ self.old.faults }
         ensures next { ReadsNext self.old path.now result self.new }
     {
         self.reads = self.reads.saturating_add(1);

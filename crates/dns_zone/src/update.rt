@@ -9,9 +9,8 @@ ghost use Rattle.dns_update.specs.Change.{batch_of, serial_after, applied};
 ghost use Rattle.dns_update.specs.Verdict.{prescan, verdict_of};
 ghost use Rattle.dns_zone_map.specs.Zone.{IsZone};
 ghost use Rattle.dns_update.specs.Replay.{IsJournalledAsIs};
-ghost use Rattle.dns_zone.specs.Updates.{zone_after, IsBatchOf, Journals, LeavesBatchOf};
-ghost use Rattle.dns_keeper.specs.Keeping.{GrowsByBatch, HasCause};
-ghost use Rattle.dns_keeper.specs.Crash.{LeavesTold};
+ghost use Rattle.dns_zone.specs.Updates.{zone_after, IsBatchOf, GrowsBy, Journals, LeavesJournalled, LeavesBatchOf};
+ghost use Rattle.dns_keeper.specs.Keeping.{HasCause};
 ghost use Rattle.dns_io.specs.Told.{Keeps};
 ghost use Rattle.dns_zone_map.specs.Mapped.{contents};
 
@@ -54,16 +53,15 @@ impl Zone {
         requires passes { prescan self.old.origin updates.now ≡ Passes }
         requires back { AllByRecursion ReadsBack updates.now }
         ensures batch { IfOk result (IsBatchOf self.old updates.now) }
-        ensures done { IfOk result (λ batch. Journals (K.rows keeper.old) (K.rows keeper.new) client moment self.old batch self.new) }
+        ensures done { IfOk result (λ batch. Journals K.keeper keeper.old keeper.new client moment self.old batch self.new) }
         ensures idle { IfOk result (λ batch. length batch.records ≡ 0 → keeper.new ≡ keeper.old) }
         ensures zone { IsZone self.old.origin self.old.records }
         ensures journalled { IfOk result (λ batch. AllByRecursion (IsJournalledAsIs self.old.origin) batch.records) }
         ensures err { OnErr result (self.new ≡ self.old) }
-        ensures kept { OnErr result (Keeps (K.rows keeper.old) (K.rows keeper.new)) }
-        ensures alone { IfOk result (λ batch. 0 < length batch.records → LeavesTold (K.rows keeper.new) (K.may_leave keeper.new)) }
-        ensures left { LeavesBatchOf self.old updates.now (K.rows keeper.old) client moment (K.may_leave keeper.old) (K.may_leave keeper.new) }
-        ensures cause { HasCause (K.faults keeper.old) (K.faults keeper.new) result }
-        ensures uncounted { IsErrOf result KeepFault.OutOfMemory → K.faults keeper.new ≡ K.faults keeper.old }
+        ensures kept { OnErr result (Keeps (K.keeper.told keeper.old).rows (K.keeper.told keeper.new).rows) }
+        ensures alone { IfOk result (LeavesJournalled K.keeper keeper.new) }
+        ensures left { LeavesBatchOf K.keeper keeper.old keeper.new client moment self.old updates.now }
+        ensures cause { HasCause (K.keeper.told keeper.old).faults (K.keeper.told keeper.new).faults result }
         ensures some { IsErrOf result KeepFault.Failed → 0 < length (batch_of self.old.origin self.old.records updates.now) }
     {
         self.map.begin(alloc)?;
@@ -128,14 +126,13 @@ fn journalled<K: Keeper>(
     ensures origin { map.new.origin ≡ map.old.origin }
     ensures before { map.new.before ≡ map.old.before }
     ensures zone { OnOk result (IsZone map.new.origin map.new.records) }
-    ensures grown { IfOk result (λ batch. 0 < length batch.records → GrowsByBatch (K.rows keeper.old) (K.rows keeper.new) client batch.serial moment batch.records) }
+    ensures grown { IfOk result (λ batch. 0 < length batch.records → GrowsBy K.keeper keeper.old keeper.new client moment batch) }
     ensures idle { IfOk result (λ batch. length batch.records ≡ 0 → keeper.new ≡ keeper.old) }
     ensures journalled { IfOk result (λ batch. AllByRecursion (IsJournalledAsIs map.old.origin) batch.records) }
-    ensures kept { OnErr result (Keeps (K.rows keeper.old) (K.rows keeper.new)) }
-    ensures alone { IfOk result (λ batch. 0 < length batch.records → LeavesTold (K.rows keeper.new) (K.may_leave keeper.new)) }
-    ensures left { LeavesBatchOf (contents map.old) updates.now (K.rows keeper.old) client moment (K.may_leave keeper.old) (K.may_leave keeper.new) }
-    ensures cause { HasCause (K.faults keeper.old) (K.faults keeper.new) result }
-    ensures uncounted { IsErrOf result KeepFault.OutOfMemory → K.faults keeper.new ≡ K.faults keeper.old }
+    ensures kept { OnErr result (Keeps (K.keeper.told keeper.old).rows (K.keeper.told keeper.new).rows) }
+    ensures alone { IfOk result (LeavesJournalled K.keeper keeper.new) }
+    ensures left { LeavesBatchOf K.keeper keeper.old keeper.new client moment (contents map.old) updates.now }
+    ensures cause { HasCause (K.keeper.told keeper.old).faults (K.keeper.told keeper.new).faults result }
     ensures some { IsErrOf result KeepFault.Failed → 0 < length (batch_of map.old.origin map.old.records updates.now) }
 {
     let batch = update(alloc, map, updates.as_slice())?;
