@@ -4,7 +4,7 @@ use Rattle.dns_io.specs.declared.peer.Protocol.{Protocol}
 use Rattle.dns_wire.specs.declared.message.Message.{Message}
 use Rattle.dns_wire.specs.declared.record.Record.{Record}
 use Rattle.dns_wire.specs.declared.reply.Reply.{Reply}
-use Rattle.dns_keeper.specs.declared.row.Row.{Row}
+use Rattle.dns_keeper.specs.Keeping.{KeeperOf}
 use Rattle.dns_zone_map.specs.Zone.{Contents}
 use Rattle.dns_update.specs.declared.verdict.Verdict.{Verdict}
 use Rattle.dns_update.specs.declared.verdict.Verdict.TheVariants.{Fails, Passes}
@@ -54,23 +54,23 @@ given_ready zone protocol ok broken outcome None true ready other some owes e f 
 given_ready zone protocol ok broken outcome (Some change) true ready other some owes e f = subst (λ (r : Reply). IsReady protocol r change.failed) (sym f) other
 
 -- the keeper fails only where there is a batch
-pub failed_some : {K : Type 0} (rows : K → Option (List Row)) (faults : K → ℕ) (before : SeenOf K) (ask : Ask) (batch : List Record) (fails : Bool) (receipt : Option Receipt) (ended : SeenOf K)
-    → Ends rows faults before ask batch fails receipt ended → fails ≡ true → 0 < length batch
-failed_some rows faults before ask batch _ _ _ (idle none) e = absurd cc
-failed_some rows faults before ask batch _ _ _ (journalled some keeper grown later) e = some
-failed_some rows faults before ask batch _ _ _ (failed some keeper kept later rose) e = some
+pub failed_some : {K : Type 0} (keeper : KeeperOf K) (before : SeenOf K) (ask : Ask) (batch : List Record) (fails : Bool) (receipt : Option Receipt) (ended : SeenOf K)
+    → Ends keeper before ask batch fails receipt ended → fails ≡ true → 0 < length batch
+failed_some keeper before ask batch _ _ _ (idle none) e = absurd cc
+failed_some keeper before ask batch _ _ _ (journalled some held grown later) e = some
+failed_some keeper before ask batch _ _ _ (failed some held kept later rose) e = some
 
 -- what is owed where the journal failed or not
 abbrev pub owed_if : Contents → Bool → Decision → Bool → Reply
 owed_if zone allow_update d fails = reply_of (record { zone = zone; allow_update = allow_update; failed = fails }) d
 
-pub Settles-carried : {K : Type 0} (rows : K → Option (List Row)) (faults : K → ℕ) (access : Access) (before : SeenOf K) (ask : Ask) (found : Option Decision) (d : Decision) (outcome : Outcome) (settled : Settled) (after : SeenOf K)
-    → IsKept rows before → IsKept rows after → Decides before.zone access ask found → found ≡ Some d → IsOutcome before.zone before.allow_update ask.protocol d outcome
-    → CarriesOut rows faults before ask outcome settled after → Settles rows faults access before ask settled after
-Settles-carried rows faults access before ask found d outcome settled after stood kept decided is come done =
+pub Settles-carried : {K : Type 0} (keeper : KeeperOf K) (access : Access) (before : SeenOf K) (ask : Ask) (found : Option Decision) (d : Decision) (outcome : Outcome) (settled : Settled) (after : SeenOf K)
+    → IsKept keeper before → IsKept keeper after → Decides before.zone access ask found → found ≡ Some d → IsOutcome before.zone before.allow_update ask.protocol d outcome
+    → CarriesOut keeper before ask outcome settled after → Settles keeper access before ask settled after
+Settles-carried keeper access before ask found d outcome settled after stood kept decided is come done =
     let grounds : Grounds = grounds_of before done.failed in
     let given = given_of outcome outcome.change done.failed in
-    let some = failed_some rows faults before ask (batch_in before.zone (updates_in outcome.change)) done.failed settled.receipt done.ended done.ends in
+    let some = failed_some keeper before ask (batch_in before.zone (updates_in outcome.change)) done.failed settled.receipt done.ended done.ends in
     let ready : IsReady ask.protocol (reply_of grounds d) given =
     given_ready before.zone ask.protocol _ _ outcome outcome.change done.failed come.reply come.failed some (owed_if before.zone before.allow_update d) refl refl in
     let told : recorded outcome.asked given.replied done.ended.counts ≡ counts_after grounds (Some d) settled.reply done.ended.counts =
@@ -87,24 +87,24 @@ Settles-carried rows faults access before ask found d outcome settled after stoo
         written = subst (λ (b : Option (List ℕ)). IsWritten ask.protocol (Some (reply_of grounds d)) b) (sym done.reply) ready.written;
       };
       ended = done.ended;
-      ends = subst (λ (batch : List Record). Ends rows faults before ask batch done.failed settled.receipt done.ended) come.batch done.ends;
+      ends = subst (λ (batch : List Record). Ends keeper before ask batch done.failed settled.receipt done.ended) come.batch done.ends;
       counted = done.counted ∙ ap (λ (c : List (List ℕ)). record done.ended { counts = c }) told;
       length = done.length;
       kept = kept;
     }
 
 -- it is settled by the decision that was made
-pub carried_by : {K : Type 0} (rows : K → Option (List Row)) (faults : K → ℕ) (access : Access) (before : SeenOf K) (ask : Ask) (found : Option Decision) (d : Decision) (outcome : Outcome) (settled : Settled) (after : SeenOf K)
-    (stood : IsKept rows before) (kept : IsKept rows after) (decided : Decides before.zone access ask found) (is : found ≡ Some d) (come : IsOutcome before.zone before.allow_update ask.protocol d outcome)
-    (done : CarriesOut rows faults before ask outcome settled after) → (Settles-carried rows faults access before ask found d outcome settled after stood kept decided is come done).reply.decision ≡ Some d
+pub carried_by : {K : Type 0} (keeper : KeeperOf K) (access : Access) (before : SeenOf K) (ask : Ask) (found : Option Decision) (d : Decision) (outcome : Outcome) (settled : Settled) (after : SeenOf K)
+    (stood : IsKept keeper before) (kept : IsKept keeper after) (decided : Decides before.zone access ask found) (is : found ≡ Some d) (come : IsOutcome before.zone before.allow_update ask.protocol d outcome)
+    (done : CarriesOut keeper before ask outcome settled after) → (Settles-carried keeper access before ask found d outcome settled after stood kept decided is come done).reply.decision ≡ Some d
 unfolding Settles-carried
-carried_by rows faults access before ask found d outcome settled after stood kept decided is come done = refl
+carried_by keeper access before ask found d outcome settled after stood kept decided is come done = refl
 
 -- a message that is owed no reply changes nothing
-pub Settles-silent : {K : Type 0} (rows : K → Option (List Row)) (faults : K → ℕ) (access : Access) (book : SeenOf K) (ask : Ask) (found : Option Decision) (settled : Settled)
-    → IsKept rows book → Decides book.zone access ask found → found ≡ None → settled ≡ record { reply = None; length = book.row_count; receipt = None } → Settles rows faults access book ask settled book
-Settles-silent rows faults access book ask found settled stood decided is e =
-    subst (λ (s : Settled). Settles rows faults access book ask s book) (sym e)
+pub Settles-silent : {K : Type 0} (keeper : KeeperOf K) (access : Access) (book : SeenOf K) (ask : Ask) (found : Option Decision) (settled : Settled)
+    → IsKept keeper book → Decides book.zone access ask found → found ≡ None → settled ≡ record { reply = None; length = book.row_count; receipt = None } → Settles keeper access book ask settled book
+Settles-silent keeper access book ask found settled stood decided is e =
+    subst (λ (s : Settled). Settles keeper access book ask s book) (sym e)
     (record {
       stood = stood;
       failed = false;
@@ -129,46 +129,46 @@ failed_ready protocol (Some change) updates reply servfail is so other =
     subst (λ (r : Reply). IsReady protocol r change.failed) (sym same) other
 
 -- an outcome without a change is carried out by its reply
-pub CarriesOut-none : {K : Type 0} (rows : K → Option (List Row)) (faults : K → ℕ) (book : SeenOf K) (ask : Ask) (outcome : Outcome) (settled : Settled) (after : SeenOf K)
+pub CarriesOut-none : {K : Type 0} (keeper : KeeperOf K) (book : SeenOf K) (ask : Ask) (outcome : Outcome) (settled : Settled) (after : SeenOf K)
     → outcome.change ≡ None → after ≡ record book { counts = recorded outcome.asked outcome.reply.replied book.counts } → settled ≡ record { reply = Some outcome.reply.bytes; length = book.row_count; receipt = None }
-    → CarriesOut rows faults book ask outcome settled after
-CarriesOut-none rows faults book ask outcome settled after none is e =
-    subst (λ (s : Settled). CarriesOut rows faults book ask outcome s after) (sym e)
+    → CarriesOut keeper book ask outcome settled after
+CarriesOut-none keeper book ask outcome settled after none is e =
+    subst (λ (s : Settled). CarriesOut keeper book ask outcome s after) (sym e)
     (record {
       failed = false;
       reply = refl;
       ended = book;
-      ends = subst (λ (c : Option Change). Ends rows faults book ask (batch_in book.zone (updates_in c)) false None book) (sym none) (idle refl);
+      ends = subst (λ (c : Option Change). Ends keeper book ask (batch_in book.zone (updates_in c)) false None book) (sym none) (idle refl);
       counted = is;
       length = ap (λ (b : SeenOf _). b.row_count) (sym is);
     })
 
 -- one with an update, by what becomes of its batch
-pub CarriesOut-done : {K : Type 0} (rows : K → Option (List Row)) (faults : K → ℕ) (book : SeenOf K) (ask : Ask) (outcome : Outcome) (change : Change) (receipt : Option Receipt) (ended : SeenOf K) (settled : Settled) (after : SeenOf K)
-    → outcome.change ≡ Some change → Ends rows faults book ask (batch_in book.zone (Some change.updates)) false receipt ended → after ≡ record ended { counts = recorded outcome.asked outcome.reply.replied ended.counts }
-    → settled ≡ record { reply = Some outcome.reply.bytes; length = ended.row_count; receipt = receipt } → CarriesOut rows faults book ask outcome settled after
-CarriesOut-done rows faults book ask outcome change receipt ended settled after some ends is e =
-    subst (λ (s : Settled). CarriesOut rows faults book ask outcome s after) (sym e)
+pub CarriesOut-done : {K : Type 0} (keeper : KeeperOf K) (book : SeenOf K) (ask : Ask) (outcome : Outcome) (change : Change) (receipt : Option Receipt) (ended : SeenOf K) (settled : Settled) (after : SeenOf K)
+    → outcome.change ≡ Some change → Ends keeper book ask (batch_in book.zone (Some change.updates)) false receipt ended → after ≡ record ended { counts = recorded outcome.asked outcome.reply.replied ended.counts }
+    → settled ≡ record { reply = Some outcome.reply.bytes; length = ended.row_count; receipt = receipt } → CarriesOut keeper book ask outcome settled after
+CarriesOut-done keeper book ask outcome change receipt ended settled after some ends is e =
+    subst (λ (s : Settled). CarriesOut keeper book ask outcome s after) (sym e)
     (record {
       failed = false;
       reply = refl;
       ended = ended;
-      ends = subst (λ (c : Option Change). Ends rows faults book ask (batch_in book.zone (updates_in c)) false receipt ended) (sym some) ends;
+      ends = subst (λ (c : Option Change). Ends keeper book ask (batch_in book.zone (updates_in c)) false receipt ended) (sym some) ends;
       counted = is;
       length = ap (λ (b : SeenOf _). b.row_count) (sym is);
     })
 
 -- or by the reply for a journal that fails
-pub CarriesOut-failed : {K : Type 0} (rows : K → Option (List Row)) (faults : K → ℕ) (book : SeenOf K) (ask : Ask) (outcome : Outcome) (change : Change) (ended : SeenOf K) (settled : Settled) (after : SeenOf K)
-    → outcome.change ≡ Some change → Ends rows faults book ask (batch_in book.zone (Some change.updates)) true None ended → after ≡ record ended { counts = recorded outcome.asked change.failed.replied ended.counts }
-    → settled ≡ record { reply = Some change.failed.bytes; length = ended.row_count; receipt = None } → CarriesOut rows faults book ask outcome settled after
-CarriesOut-failed rows faults book ask outcome change ended settled after some ends is e =
-    subst (λ (s : Settled). CarriesOut rows faults book ask outcome s after) (sym e)
+pub CarriesOut-failed : {K : Type 0} (keeper : KeeperOf K) (book : SeenOf K) (ask : Ask) (outcome : Outcome) (change : Change) (ended : SeenOf K) (settled : Settled) (after : SeenOf K)
+    → outcome.change ≡ Some change → Ends keeper book ask (batch_in book.zone (Some change.updates)) true None ended → after ≡ record ended { counts = recorded outcome.asked change.failed.replied ended.counts }
+    → settled ≡ record { reply = Some change.failed.bytes; length = ended.row_count; receipt = None } → CarriesOut keeper book ask outcome settled after
+CarriesOut-failed keeper book ask outcome change ended settled after some ends is e =
+    subst (λ (s : Settled). CarriesOut keeper book ask outcome s after) (sym e)
     (record {
       failed = true;
       reply = ap (λ (c : Option Change). Some (given_of outcome c true).bytes) (sym some);
       ended = ended;
-      ends = subst (λ (c : Option Change). Ends rows faults book ask (batch_in book.zone (updates_in c)) true None ended) (sym some) ends;
+      ends = subst (λ (c : Option Change). Ends keeper book ask (batch_in book.zone (updates_in c)) true None ended) (sym some) ends;
       counted = is ∙ ap (λ (c : Option Change). record ended { counts = recorded outcome.asked (given_of outcome c true).replied ended.counts }) (sym some);
       length = ap (λ (b : SeenOf _). b.row_count) (sym is);
     })

@@ -3,7 +3,7 @@ use Rattle.std.proofs.Common.{◌≡◌, ℕ, ◌≤◌, List, [], ◌++◌, len
 use Rattle.std.specs.Prelude.{IfSome, IsSome}
 use Rattle.std.proofs.lemmas.List.{append-nil}
 use Rattle.dns_io.specs.declared.fault.OutOfMemory.{OutOfMemory}
-use Rattle.dns_keeper.specs.declared.row.Row.{Row}
+use Rattle.dns_keeper.specs.Keeping.{KeeperOf}
 use Rattle.dns_counts.specs.Counters.{recorded}
 use Rattle.dns_book.specs.declared.ask.Ask.{Ask}
 use Rattle.dns_book.specs.declared.ask.Settled.{Settled}
@@ -77,33 +77,33 @@ some_reply (Some bytes) owed = refl
 pub is_replied : (P : Settled → Type 0) (framed : Bool) (before after : List ℕ) (into : SettledInto) → (i : SettlesInto P framed before after into) → into.is_owed ≡ true → IsSome i.settled.reply
 is_replied P framed before after into i owed = some_reply i.settled.reply (sym (ap (λ (t : SettledInto). t.is_owed) i.told) ∙ owed)
 
-module _ {K : Type 0} (rows : K → Option (List Row)) (faults : K → ℕ) (left : K → List Row → Type 0) (access : Access) (before : SeenOf K) (ask : Ask) (framed : Bool) (had has : List ℕ) (into : SettledInto) where
+module _ {K : Type 0} (keeper : KeeperOf K) (access : Access) (before : SeenOf K) (ask : Ask) (framed : Bool) (had has : List ℕ) (into : SettledInto) where
   -- a query that was answered in a buffer, and counted
-  pub into_in_place : (counted : List (List ℕ)) (after : SeenOf K) → IsKept rows before → IsKept rows after → IsAnswered before.zone before.allow_update access ask framed had has before.counts counted
+  pub into_in_place : (counted : List (List ℕ)) (after : SeenOf K) → IsKept keeper before → IsKept keeper after → IsAnswered before.zone before.allow_update access ask framed had has before.counts counted
       → after ≡ record before { counts = counted } → into ≡ record { is_owed = true; length = before.row_count; receipt = None }
-      → SettlesInto (λ s. SettlesLeaving rows faults left access before ask s after) framed had has into
+      → SettlesInto (λ s. SettlesLeaving keeper access before ask s after) framed had has into
   into_in_place counted after stood kept a same told =
       let outcome : Outcome = idle_outcome a.asked a.replied a.bytes in
       let counts : after ≡ record before { counts = recorded a.asked a.replied before.counts } = same ∙ ap (λ (cs : List (List ℕ)). record before { counts = cs }) a.counted in
       let settled : Settled = record { reply = Some a.bytes; length = before.row_count; receipt = None } in
-      let done : CarriesOut rows faults before ask outcome settled after = CarriesOut-none rows faults before ask outcome settled after refl counts refl in
-      let leaves : LeavesBy rows left before ask (batch_in before.zone (updates_in outcome.change)) settled.receipt after =
-      λ some now. inl (subst (λ (b : SeenOf K). left b.keeper some) counts now)
+      let done : CarriesOut keeper before ask outcome settled after = CarriesOut-none keeper before ask outcome settled after refl counts refl in
+      let leaves : LeavesBy keeper before ask (batch_in before.zone (updates_in outcome.change)) settled.receipt after =
+      λ some now. inl (subst (λ (b : SeenOf K). keeper.may_leave b.keeper some) counts now)
       in
       record {
         settled = settled;
-        is = SettlesLeaving-carried rows faults left access before ask (Some a.made.decision) a.made.decision outcome settled after stood kept a.made.decided refl a.made.is done leaves;
+        is = SettlesLeaving-carried keeper access before ask (Some a.made.decision) a.made.decision outcome settled after stood kept a.made.decided refl a.made.is done leaves;
         sent = a.sent;
         short = a.short;
         told = told;
       }
 
   -- a message that is owed no reply adds nothing
-  pub into_silent : IsKept rows before → Decides before.zone access ask None → had ≡ has → into ≡ record { is_owed = false; length = before.row_count; receipt = None }
-      → SettlesInto (λ s. SettlesLeaving rows faults left access before ask s before) framed had has into
+  pub into_silent : IsKept keeper before → Decides before.zone access ask None → had ≡ has → into ≡ record { is_owed = false; length = before.row_count; receipt = None }
+      → SettlesInto (λ s. SettlesLeaving keeper access before ask s before) framed had has into
   into_silent stood decided same told = record {
     settled = record { reply = None; length = before.row_count; receipt = None };
-    is = SettlesLeaving-silent rows faults left access before ask None _ stood decided refl refl;
+    is = SettlesLeaving-silent keeper access before ask None _ stood decided refl refl;
     sent = sym same ∙ sym (append-nil had);
     short = tt;
     told = told;

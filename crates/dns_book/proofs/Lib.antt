@@ -1,7 +1,6 @@
 pub mod Opened
 pub mod Growing
 pub mod Leaving
-pub mod LeavingOn
 pub mod Codes
 pub mod Carried
 pub mod Failing
@@ -13,4 +12,3 @@ pub mod Fronts
 pub mod InPlace
 pub mod Repeating
 pub mod IntoBuffer
-pub mod ReadRows

@@ -11,7 +11,7 @@ use Rattle.dns_wire.specs.Header.{header_of, header_bytes, unit}
 use Rattle.dns_wire.specs.MessageBytes.{counted}
 use Rattle.dns_wire.specs.Written.{Written, shortened}
 use Rattle.dns_wire.proofs.Heads.{not_short}
-use Rattle.dns_keeper.specs.declared.row.Row.{Row}
+use Rattle.dns_keeper.specs.Keeping.{KeeperOf}
 use Rattle.dns_zone_map.specs.Zone.{Contents}
 use Rattle.dns_update.specs.declared.verdict.Verdict.{Verdict}
 use Rattle.dns_update.specs.declared.verdict.Verdict.TheVariants.{Fails, Passes}
@@ -111,9 +111,9 @@ servfail_if book protocol (Some d) fails bytes other written some =
     some_and (header_of bytes) (λ h. h.code ≡ (reply_of (grounds_of book fails) d).code % 16) (λ h. (h.code ≡ 2) ↔ (fails ≡ true))
     (λ h. exact book.zone book.allow_update d fails h.code other some) (written_code (reply_of (grounds_of book fails) d) _ bytes written)
 
-pub Settles-servfail : {K : Type 0} (rows : K → Option (List Row)) (faults : K → ℕ) (access : Access) (before after : SeenOf K) (ask : Ask) (settled : Settled) (h : Header) (bytes : List ℕ)
-    → (is : Settles rows faults access before ask settled after) → header_of ask.bytes ≡ Some h → h.opcode ≡ 5 → settled.reply ≡ Some bytes → IsSomeAnd (header_of bytes) (λ r. (r.code ≡ 2) ↔ (is.failed ≡ true))
-Settles-servfail rows faults access before after ask settled h bytes is head update given =
+pub Settles-servfail : {K : Type 0} (keeper : KeeperOf K) (access : Access) (before after : SeenOf K) (ask : Ask) (settled : Settled) (h : Header) (bytes : List ℕ)
+    → (is : Settles keeper access before ask settled after) → header_of ask.bytes ≡ Some h → h.opcode ≡ 5 → settled.reply ≡ Some bytes → IsSomeAnd (header_of bytes) (λ r. (r.code ≡ 2) ↔ (is.failed ≡ true))
+Settles-servfail keeper access before after ask settled h bytes is head update given =
     servfail_if before ask.protocol is.reply.decision is.failed bytes (no_lookup_decided before.zone access ask h is.reply.decision head update is.reply.decided)
     (subst (λ (b : Option (List ℕ)). IsWritten ask.protocol (option_map (reply_of (grounds_of before is.failed)) is.reply.decision) b) given is.reply.written)
-    (Settles-some rows faults access before after ask settled is)
+    (Settles-some keeper access before after ask settled is)

@@ -1,18 +1,18 @@
 -- What contracts see of a book, and what settling a message does.
-use Rattle.std.specs.Prelude.{◌≡◌, ℕ, ◌+◌, ◌<◌, ◌≤◌, List, length, Option, Some, None, Bool, true, false, Ok}
+use Rattle.std.specs.Prelude.{◌≡◌, ℕ, ◌+◌, ◌<◌, ◌≤◌, List, length, Option, Some, None, Bool, true, false}
 use Rattle.dns_io.specs.Told.{Keeps, Rose}
 use Rattle.dns_wire.specs.declared.record.Record.{Record}
-use Rattle.dns_keeper.specs.declared.row.Row.{Row}
 use Rattle.dns_keeper.specs.Keeping.{KeeperOf, GrowsByBatch}
 use Rattle.dns_zone_map.specs.Zone.{Contents}
 use Rattle.dns_update.specs.Change.{serial_after_batch}
-use Rattle.dns_update.specs.Replay.{Replays}
+use Rattle.dns_store.specs.Store.{StoreOf, IsStored, zone_with}
 use Rattle.dns_book.specs.declared.ask.Ask.{Ask}
 use Rattle.dns_book.specs.declared.ask.Receipt.{Receipt}
 use Rattle.dns_book.specs.declared.ask.Settled.{Settled}
 use Rattle.dns_book.specs.Access.{Access}
 use Rattle.dns_book.specs.Owed.{Grounds, OwesBytes, batch_by}
-use Rattle.dns_book.specs.Counted.{counts_after, zone_with, counts_with}
+use Rattle.dns_book.specs.Counted.{counts_after, counts_with}
+pub use Rattle.dns_store.specs.Store.{HasRows, StandFor}
 
 -- the keeper of the rows, the zone that they stand for, whether updates are let in, the number of rows, and what was counted
 pub record SeenOf (K : Type 0) : Type 0 where
@@ -22,20 +22,18 @@ pub record SeenOf (K : Type 0) : Type 0 where
   pub row_count : ℕ
   pub counts : List (List ℕ)
 
--- n is the number of rows, where they are told
-abbrev pub HasRows : Option (List Row) → ℕ → Type 0
-HasRows None n = Unit {0}
-HasRows (Some rows) n = length rows ≡ n
+-- a book of this store
+abbrev pub seen : {K : Type 0} → StoreOf K → Bool → List (List ℕ) → SeenOf K
+seen store allow_update counts =
+    record { keeper = store.keeper; zone = store.zone; allow_update = allow_update; row_count = store.row_count; counts = counts }
 
--- the rows stand for this zone, where they are told
-abbrev pub StandFor : Option (List Row) → Contents → Type 0
-StandFor None zone = Unit {0}
-StandFor (Some rows) zone = Replays zone.origin rows (Ok zone.records)
+-- the store of a book
+abbrev pub stored_of : {K : Type 0} → SeenOf K → StoreOf K
+stored_of book = record { keeper = book.keeper; zone = book.zone; row_count = book.row_count }
 
 -- what always holds of a book: its rows are so many as it says, and its zone is what they stand for
-pub record IsKept {K : Type 0} (keeper : KeeperOf K) (book : SeenOf K) : Type 0 where
-  pub count : HasRows (keeper.told book.keeper).rows book.row_count
-  pub zone : StandFor (keeper.told book.keeper).rows book.zone
+abbrev pub IsKept : {K : Type 0} → KeeperOf K → SeenOf K → Type 0
+IsKept keeper book = IsStored keeper (stored_of book)
 
 -- what the reply to a message depends on, which this book settles
 abbrev pub grounds_of : {K : Type 0} → SeenOf K → Bool → Grounds
@@ -62,7 +60,7 @@ pub data Ends {K : Type 0} (keeper : KeeperOf K) (before : SeenOf K) (ask : Ask)
   idle : length batch ≡ 0 → Ends keeper before ask batch false None before
   journalled : 0 < length batch → (held : K)
       → GrowsByBatch (keeper.told before.keeper).rows (keeper.told held).rows ask.client
-          (serial_after_batch before.zone.origin before.zone.records batch) ask.at batch
+      (serial_after_batch before.zone.origin before.zone.records batch) ask.at batch
       → (keeper.told held).faults ≡ (keeper.told before.keeper).faults
       → Ends keeper before ask batch false (Some (receipt_of before ask batch)) (grown before held batch)
   failed : 0 < length batch → (held : K) → Keeps (keeper.told before.keeper).rows (keeper.told held).rows

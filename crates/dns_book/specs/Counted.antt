@@ -10,9 +10,9 @@ use Rattle.dns_counts.specs.Counters.{no_counts, recorded, changed}
 use Rattle.dns_book.specs.declared.decision.Case.{Case}
 use Rattle.dns_book.specs.declared.decision.Case.TheVariants.{ShutOut, Malformed, UnsupportedVersion, NotImplemented, NotOneQuestion, Foreign, Query, Update}
 use Rattle.dns_book.specs.declared.decision.Decision.{Decision}
-use Rattle.dns_update.specs.Change.{serial_after_batch, applied}
 use Rattle.dns_update.specs.Modified.{modified_of}
 use Rattle.dns_book.specs.Owed.{Grounds, reply_of}
+pub use Rattle.dns_store.specs.Store.{zone_with}
 
 -- the type and class of the question that is counted: that of a query with exactly one
 abbrev pub counted_question : Case → Option (ℕ × ℕ)
@@ -42,10 +42,6 @@ abbrev pub counts_after : Grounds → Option Decision → Option (List ℕ) → 
 counts_after grounds (Some d) (Some bytes) before = recorded (asked_of d) (replied_of (reply_of grounds d) bytes) before
 counts_after grounds (Some d) None before = before
 counts_after grounds None bytes before = before
-
--- the zone after a batch
-abbrev pub zone_with : Contents → List Record → Contents
-zone_with zone batch = record { origin = zone.origin; records = applied zone.origin zone.records batch (serial_after_batch zone.origin zone.records batch) }
 
 -- the counts after a batch of this zone: how many of its records did what, and how many records the zone then has
 abbrev pub counts_with : Contents → List Record → List (List ℕ) → List (List ℕ)

@@ -11,4 +11,3 @@ pub mod Into
 pub mod Outcome
 pub mod ReplyCache
 pub mod Opening
-pub mod Recovering

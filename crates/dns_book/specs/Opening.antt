@@ -1,112 +1,31 @@
--- What opening a journal gives, and when it is refused.
-use Rattle.std.specs.Prelude.{◌≡◌, ◌≢◌, ◌≤◌, ℕ, ℤ, List, [], length, Option, Some, None, Bool, Result, Ok, Err}
-use Rattle.dns_name.specs.Name.{fold_of}
-use Rattle.dns_keeper.specs.declared.row.Row.{Row}
-use Rattle.dns_keeper.specs.declared.keeper.KeepFault.{KeepFault}
-use Rattle.dns_keeper.specs.Keeping.{KeeperTold, KeeperOf, GrowsByBatch, HasCause}
-use Rattle.dns_io.specs.Told.{Told, Keeps, Rose}
-use Rattle.dns_zone_map.specs.Zone.{Contents, serial_of}
-use Rattle.dns_update.specs.declared.replay_kind.ReplayKind.{ReplayKind}
-use Rattle.dns_update.specs.Replay.{opening_of, Replays}
-use Rattle.dns_book.specs.declared.opening.OpenKind.{OpenKind}
-use Rattle.dns_book.specs.declared.opening.OpenKind.TheVariants.{Recovery, KeeperFault, NoZone, OutOfMemory}
-use Rattle.dns_book.specs.Book.{SeenOf, IsKept}
+-- What opening the journal of a book gives: a store, beside what the book has of its own.
+use Rattle.std.specs.Prelude.{◌≡◌, ℕ, List, Option, Bool}
+use Rattle.dns_keeper.specs.Keeping.{KeeperTold, KeeperOf}
+use Rattle.dns_zone_map.specs.Zone.{Contents}
+use Rattle.dns_store.specs.Store.{StoreOf}
+use Rattle.dns_store.specs.Opening as store
+use Rattle.dns_book.specs.Book.{SeenOf, seen, stored_of}
 use Rattle.dns_book.specs.Counted.{counts_of_zone}
+pub use Rattle.dns_store.specs.Opening.{HadNoRow, HadRows, AreRefused, IsUnopened, RecoversNot, OpensNot, BeginsNot}
 
--- there was no row, where the rows are told afterwards
-abbrev pub HadNoRow : Option (List Row) → Option (List Row) → Type 0
-HadNoRow before after = Told (λ old new. old ≡ []) before after
+-- the book of a store to which nothing has happened: nothing is counted but the records of its zone
+abbrev pub fresh_of : {K : Type 0} → StoreOf K → Bool → SeenOf K
+fresh_of store allowed = seen store allowed (counts_of_zone store.zone.records)
 
--- there were rows, where they are told afterwards
-abbrev pub HadRows : Option (List Row) → Option (List Row) → Type 0
-HadRows before after = Told (λ old new. old ≢ []) before after
-
--- a journal without rows was begun with this zone, whose keeper told this before: one append of its opening, with the SOA's serial and
--- client 0; its rows stand for the zone, and no fault was counted
-pub record Begins {K : Type 0} (keeper : KeeperOf K) (before : KeeperTold) (zone : Contents) (allowed : Bool) (moment : ℕ) (book : SeenOf K)
-    : Type 0 where
-  pub empty : HadNoRow before.rows (keeper.told book.keeper).rows
-  pub grown : GrowsByBatch before.rows (keeper.told book.keeper).rows 0 (serial_of zone.records) moment (opening_of zone)
-  pub uncounted : (keeper.told book.keeper).faults ≡ before.faults
-  pub is : book.zone ≡ zone
-  pub allow_update : book.allow_update ≡ allowed
-  pub row_count : book.row_count ≡ length (opening_of zone)
-  pub counts : book.counts ≡ counts_of_zone zone.records
-  pub stands : IsKept keeper book
-
--- a journal was read back, whose keeper told this before: its zone, which has this origin, is what its rows stand for, and no fault was
--- counted
-pub record Recovers {K : Type 0} (keeper : KeeperOf K) (before : KeeperTold) (origin : List (List ℕ)) (allowed : Bool) (book : SeenOf K) : Type 0 where
-  pub kept : Keeps before.rows (keeper.told book.keeper).rows
-  pub uncounted : (keeper.told book.keeper).faults ≡ before.faults
-  pub named : book.zone.origin ≡ fold_of origin
+-- a book has such a store, it says whether updates are let in, and nothing is counted but the records of its zone
+pub record IsFresh {K : Type 0} (Opened : StoreOf K → Type 0) (allowed : Bool) (book : SeenOf K) : Type 0 where
+  pub store : Opened (stored_of book)
   pub allow_update : book.allow_update ≡ allowed
   pub counts : book.counts ≡ counts_of_zone book.zone.records
-  pub stands : IsKept keeper book
 
--- the rows are no zone's of this origin, where they are told: they end at this row, for this reason
-abbrev pub AreRefused : Option (List Row) → Option (List Row) → List (List ℕ) → ℤ → ReplayKind → Type 0
-AreRefused before after origin row kind = Told (λ old new. Replays (fold_of origin) old (Err (record { row = row; kind = kind }))) before after
+-- a journal without rows was begun with this zone, whose keeper told this before
+abbrev pub Begins : {K : Type 0} → KeeperOf K → KeeperTold → Contents → Bool → ℕ → SeenOf K → Type 0
+Begins keeper before zone allowed moment book = IsFresh (store.Begins keeper before zone moment) allowed book
 
--- what the count of faults of a keeper says of the cause for which its journal was not opened: it rose where the keeper failed, and
--- stood still where it did not
-abbrev pub CountsByKind : ℕ → ℕ → OpenKind → Type 0
-CountsByKind before now (Recovery row kind) = now ≡ before
-CountsByKind before now KeeperFault = Rose before now
-CountsByKind before now NoZone = now ≡ before
-CountsByKind before now OutOfMemory = now ≡ before
-
--- a journal was not opened for this cause, by what its keeper told before and after: no row changed, and the count of faults never falls
-pub record IsUnopened (before now : KeeperTold) (kind : OpenKind) : Type 0 where
-  pub kept : Keeps before.rows now.rows
-  pub later : before.faults ≤ now.faults
-  pub counts : CountsByKind before.faults now.faults kind
-
--- why a journal was not read back: its rows are no zone's, the keeper failed, or memory ran out
-abbrev pub IsUnread : Option (List Row) → Option (List Row) → List (List ℕ) → OpenKind → Type 0
-IsUnread before after origin (Recovery row kind) = AreRefused before after origin row kind
-IsUnread before after origin KeeperFault = Unit {0}
-IsUnread before after origin NoZone = ⊥
-IsUnread before after origin OutOfMemory = Unit {0}
-
--- a journal was not read back
-pub record RecoversNot (before now : KeeperTold) (origin : List (List ℕ)) (kind : OpenKind) : Type 0 where
-  pub unread : IsUnread before.rows now.rows origin kind
-  pub unopened : IsUnopened before now kind
+-- a journal was read back, whose keeper told this before
+abbrev pub Recovers : {K : Type 0} → KeeperOf K → KeeperTold → List (List ℕ) → Bool → SeenOf K → Type 0
+Recovers keeper before origin allowed book = IsFresh (store.Recovers keeper before origin) allowed book
 
 -- a journal was opened: one without rows was begun with the given zone, which has this origin, and one with rows was read back
-pub data Opens {K : Type 0} (keeper : KeeperOf K) (before : KeeperTold) (origin : List (List ℕ)) (given : Option Contents) (allowed : Bool) (moment : ℕ) (book : SeenOf K)
-    : Type 0 where
-  begun : (zone : Contents) → given ≡ Some zone → zone.origin ≡ fold_of origin → Begins keeper before zone allowed moment book
-      → Opens keeper before origin given allowed moment book
-  recovered : HadRows before.rows (keeper.told book.keeper).rows → Recovers keeper before origin allowed book
-      → Opens keeper before origin given allowed moment book
-
--- why a journal was not opened: its rows are no zone's, the keeper failed, it has no rows and no zone was given, or memory ran out
-abbrev pub IsUnfound : Option (List Row) → Option (List Row) → List (List ℕ) → Option Contents → OpenKind → Type 0
-IsUnfound before after origin given (Recovery row kind) = HadRows before after × AreRefused before after origin row kind
-IsUnfound before after origin given KeeperFault = Unit {0}
-IsUnfound before after origin given NoZone = HadNoRow before after × (given ≡ None)
-IsUnfound before after origin given OutOfMemory = Unit {0}
-
--- a journal was not opened
-pub record OpensNot (before now : KeeperTold) (origin : List (List ℕ)) (given : Option Contents) (kind : OpenKind) : Type 0 where
-  pub unfound : IsUnfound before.rows now.rows origin given kind
-  pub unopened : IsUnopened before now kind
-
--- a journal was not begun: no row changed, and the count of faults rose where the keeper failed, and only there
-pub record BeginsNot (before now : KeeperTold) (fault : KeepFault) : Type 0 where
-  pub kept : Keeps before.rows now.rows
-  pub cause : HasCause {Unit {0}} before.faults now.faults (Err fault)
-
--- why a journal without rows was not begun, with the zone that was given, if one was
-abbrev pub IsUnbegun : Option Contents → OpenKind → Type 0
-IsUnbegun given (Recovery row kind) = ⊥
-IsUnbegun given KeeperFault = Unit {0}
-IsUnbegun given NoZone = given ≡ None
-IsUnbegun given OutOfMemory = Unit {0}
-
--- a journal without rows was not begun
-pub record BeginsNotWith (before now : KeeperTold) (given : Option Contents) (kind : OpenKind) : Type 0 where
-  pub unbegun : IsUnbegun given kind
-  pub unopened : IsUnopened before now kind
+abbrev pub Opens : {K : Type 0} → KeeperOf K → KeeperTold → List (List ℕ) → Option Contents → Bool → ℕ → SeenOf K → Type 0
+Opens keeper before origin given allowed moment book = IsFresh (store.Opens keeper before origin given moment) allowed book

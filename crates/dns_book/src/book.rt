@@ -1,4 +1,4 @@
-//! A zone beside the journal that it stands for.
+//! The book: a store, with who may change it, what was counted of it, and the replies that are kept.
 
 ghost use Rattle.std.specs.Prelude.{◌≡◌, ◌≤◌, ◌<◌, ◌^◌, length, IfOk, OnOk, OnErr, None};
 ghost use Rattle.dns_zone_map.specs.Zone.{serial_of};
@@ -13,32 +13,30 @@ use crate::outcome::{outcome_for, reply_room};
 use dns_counts::Counts;
 use dns_io::OutOfMemory;
 use dns_keeper::Keeper;
-use dns_zone::Zone;
+use dns_store::Store;
 use std::alloc::Global;
 use std::marker::Model;
 
-/// A zone, and the keeper of the journal that it stands for.
+/// A zone beside its journal, by which messages are settled.
 #[derive(Drop)]
 pub struct Book<K: Keeper> {
-    pub(crate) keeper: K,
-    pub(crate) zone: Zone,
+    pub(crate) store: Store<K>,
     pub(crate) allow_update: bool,
-    pub(crate) row_count: u64,
     pub(crate) counts: Counts,
     pub(crate) in_place: InPlace,
     pub(crate) alloc: Global,
 }
 
 impl<K: Keeper> Model for Book<K> {
-    ghost use Rattle.dns_book.specs.Book.{SeenOf, IsKept};
+    ghost use Rattle.dns_book.specs.Book.{SeenOf, seen};
+    ghost use Rattle.dns_store.specs.Store.{IsStored};
     ghost use Rattle.dns_book.specs.ReplyCache.{AreOf};
 
     ghost Value = { SeenOf K };
 
-    ghost view = { λ b. record { keeper = b.keeper; zone = b.zone; allow_update = b.allow_update; row_count = b.row_count; counts = b.counts } };
+    ghost view = { λ b. seen b.store b.allow_update b.counts };
 
-    ghost invariant = { λ b. IsKept K.rows (record { keeper = b.keeper; zone = b.zone; allow_update = b.allow_update; row_count = b.row_count; counts = b.counts })
-        × AreOf b.zone b.in_place.replies };
+    ghost invariant = { λ b. IsStored K.keeper b.store × AreOf b.store.zone b.in_place.replies };
 }
 
 impl<K: Keeper> Book<K> {
@@ -50,12 +48,12 @@ impl<K: Keeper> Book<K> {
     pub fn settle(&mut self, access: &AccessControl, ask: &Ask) -> Result<Settled, OutOfMemory>
         requires moment { ask.now.at < 2 ^ 47 }
         requires bytes { length ask.now.bytes ≤ 65535 }
-        ensures ok { IfOk result (λ settled. Settles K.rows K.faults access.now self.old ask.now settled self.new) }
-        ensures book { IsKept K.rows self.new }
-        ensures err { OnErr result (IsLeft K.rows K.faults self.old self.new) }
-        ensures left { IfOk result (λ settled. SettlesLeaving K.rows K.faults K.may_leave access.now self.old ask.now settled self.new) }
-        ensures left_unsettled { OnErr result (LeavesUnsettled K.rows K.may_leave access.now self.old ask.now self.new) }
-        ensures left_on { LeavesOn K.rows K.may_leave self.old → LeavesOn K.rows K.may_leave self.new }
+        ensures ok { IfOk result (λ settled. Settles K.keeper access.now self.old ask.now settled self.new) }
+        ensures book { IsKept K.keeper self.new }
+        ensures err { OnErr result (IsLeft K.keeper self.old self.new) }
+        ensures left { IfOk result (λ settled. SettlesLeaving K.keeper access.now self.old ask.now settled self.new) }
+        ensures left_unsettled { OnErr result (LeavesUnsettled K.keeper access.now self.old ask.now self.new) }
+        ensures left_on { LeavesOn K.keeper self.old → LeavesOn K.keeper self.new }
     {
         let mut frame = Vec::new(self.alloc);
         let into = self.settle_into(access, ask, &mut frame, true)?;
@@ -73,15 +71,17 @@ impl<K: Keeper> Book<K> {
     ) -> Result<SettledInto, OutOfMemory>
         requires moment { ask.now.at < 2 ^ 47 }
         requires bytes { length ask.now.bytes ≤ 65535 }
-        ensures ok { IfOk result (SettlesInto (λ settled. Settles K.rows K.faults access.now self.old ask.now settled self.new) is_framed out.old.items out.new.items) }
-        ensures book { IsKept K.rows self.new }
-        ensures err { OnErr result (IsLeft K.rows K.faults self.old self.new) }
-        ensures left { IfOk result (SettlesInto (λ settled. SettlesLeaving K.rows K.faults K.may_leave access.now self.old ask.now settled self.new) is_framed out.old.items out.new.items) }
-        ensures left_unsettled { OnErr result (LeavesUnsettled K.rows K.may_leave access.now self.old ask.now self.new) }
-        ensures left_on { LeavesOn K.rows K.may_leave self.old → LeavesOn K.rows K.may_leave self.new }
+        ensures ok { IfOk result (SettlesInto (λ settled. Settles K.keeper access.now self.old ask.now settled self.new)
+            is_framed out.old.items out.new.items) }
+        ensures book { IsKept K.keeper self.new }
+        ensures err { OnErr result (IsLeft K.keeper self.old self.new) }
+        ensures left { IfOk result (SettlesInto (λ settled. SettlesLeaving K.keeper access.now self.old ask.now settled self.new)
+            is_framed out.old.items out.new.items) }
+        ensures left_unsettled { OnErr result (LeavesUnsettled K.keeper access.now self.old ask.now self.new) }
+        ensures left_on { LeavesOn K.keeper self.old → LeavesOn K.keeper self.new }
     {
         let (in_place, counts) = (&mut self.in_place, &mut self.counts);
-        if in_place.answer(&self.zone, access, ask, counts, out, is_framed)? {
+        if in_place.answer(self.store.zone(), access, ask, counts, out, is_framed)? {
             return Ok(self.told(true));
         }
         self.settle_whole(access, ask, out, is_framed)
@@ -96,13 +96,20 @@ impl<K: Keeper> Book<K> {
         is_framed: bool,
     ) -> Result<SettledInto, OutOfMemory>
         requires moment { ask.now.at < 2 ^ 47 }
-        ensures left { IfOk result (SettlesInto (λ settled. SettlesLeaving K.rows K.faults K.may_leave access.now self.old ask.now settled self.new) is_framed out.old.items out.new.items) }
-        ensures book { IsKept K.rows self.new }
-        ensures err { OnErr result (IsLeft K.rows K.faults self.old self.new) }
-        ensures left_unsettled { OnErr result (LeavesUnsettled K.rows K.may_leave access.now self.old ask.now self.new) }
-        ensures left_on { LeavesOn K.rows K.may_leave self.old → LeavesOn K.rows K.may_leave self.new }
+        ensures left { IfOk result (SettlesInto (λ settled. SettlesLeaving K.keeper access.now self.old ask.now settled self.new)
+            is_framed out.old.items out.new.items) }
+        ensures book { IsKept K.keeper self.new }
+        ensures err { OnErr result (IsLeft K.keeper self.old self.new) }
+        ensures left_unsettled { OnErr result (LeavesUnsettled K.keeper access.now self.old ask.now self.new) }
+        ensures left_on { LeavesOn K.keeper self.old → LeavesOn K.keeper self.new }
     {
-        match outcome_for(self.alloc, &self.zone, self.allow_update, access, ask)? {
+        match outcome_for(
+            self.alloc,
+            self.store.zone(),
+            self.allow_update,
+            access,
+            ask,
+        )? {
             None => Ok(self.told(false)),
             Some(outcome) => {
                 out.reserve(reply_room(&outcome))?;
@@ -116,15 +123,15 @@ impl<K: Keeper> Book<K> {
     pub fn serial(&self) -> u32
         ensures { result ≡ serial_of self.now.zone.records }
     {
-        self.zone.serial()
+        self.store.serial()
     }
 
     /// How many rows the journal has.
     pub fn journal_len(&self) -> u64
         ensures is { result ≡ self.now.row_count }
-        ensures book { IsKept K.rows self.now }
+        ensures book { IsKept K.keeper self.now }
     {
-        self.row_count
+        self.store.row_count()
     }
 
     /// What was counted since the book was opened: each reply once, the records of each batch, and how many records the
@@ -137,25 +144,23 @@ impl<K: Keeper> Book<K> {
 
     /// The keeper's count of faults.
     pub fn fault_count(&self) -> u64
-        ensures { result ≡ K.faults self.now.keeper }
+        ensures { result ≡ (K.keeper.told self.now.keeper).faults }
     {
-        self.keeper.fault_count()
+        self.store.fault_count()
     }
 
     /// Gives the keeper back.
     pub fn into_keeper(self) -> K
         ensures keeper { result ≡ self.keeper }
-        ensures book { IsKept K.rows self }
+        ensures book { IsKept K.keeper self }
     {
         let Book {
-            keeper,
-            zone: _,
+            store,
             allow_update: _,
-            row_count: _,
             counts: _,
             in_place: _,
             alloc: _,
         } = self;
-        keeper
+        store.into_keeper()
     }
 }

@@ -53,17 +53,23 @@ pub fn owed_replies()
 /// What holds of messages that were settled over a keeper.
 pub fn settled_messages<K: Keeper>()
     // Its count of faults does not fall.
-    ensures later { (access : Access) (before after : SeenOf K) (ask : Asked) (settled : Done) → Settles K.rows K.faults access before ask settled after
-        → K.faults before.keeper ≤ K.faults after.keeper }
+    ensures later { (access : Access) (before after : SeenOf K) (ask : Asked) (settled : Done)
+        → Settles K.keeper access before ask settled after → (K.keeper.told before.keeper).faults ≤ (K.keeper.told after.keeper).faults }
+    // Where it did not fail that count is as it was.
+    ensures still { (access : Access) (before after : SeenOf K) (ask : Asked) (settled : Done)
+        → (is : Settles K.keeper access before ask settled after) → is.failed ≡ false
+        → (K.keeper.told after.keeper).faults ≡ (K.keeper.told before.keeper).faults }
     // It failed only where that count rose or stands at its last value, and only at an update with records for the journal.
-    ensures rose { (access : Access) (before after : SeenOf K) (ask : Asked) (settled : Done) → (is : Settles K.rows K.faults access before ask settled after)
-        → is.failed ≡ true → Rose (K.faults before.keeper) (K.faults after.keeper) }
-    ensures some { (access : Access) (before after : SeenOf K) (ask : Asked) (settled : Done) → (is : Settles K.rows K.faults access before ask settled after)
-        → is.failed ≡ true → 0 < length (batch_by before.zone before.allow_update is.reply.decision) }
+    ensures rose { (access : Access) (before after : SeenOf K) (ask : Asked) (settled : Done)
+        → (is : Settles K.keeper access before ask settled after) → is.failed ≡ true
+        → Rose (K.keeper.told before.keeper).faults (K.keeper.told after.keeper).faults }
+    ensures some { (access : Access) (before after : SeenOf K) (ask : Asked) (settled : Done)
+        → (is : Settles K.keeper access before ask settled after) → is.failed ≡ true
+        → 0 < length (batch_by before.zone before.allow_update is.reply.decision) }
     // The reply to an update (opcode 5) is ServFail (2) exactly where it failed.
     ensures servfail { (access : Access) (before after : SeenOf K) (ask : Asked) (settled : Done) (h : Header) (bytes : List ℕ)
-        → (is : Settles K.rows K.faults access before ask settled after) → header_of ask.bytes ≡ Some h → h.opcode ≡ 5 → settled.reply ≡ Some bytes
-        → IsSomeAnd (header_of bytes) (λ r. (r.code ≡ 2) ↔ (is.failed ≡ true)) }
+        → (is : Settles K.keeper access before ask settled after) → header_of ask.bytes ≡ Some h → h.opcode ≡ 5
+        → settled.reply ≡ Some bytes → IsSomeAnd (header_of bytes) (λ r. (r.code ≡ 2) ↔ (is.failed ≡ true)) }
 {}
 
 /// What the network of an address's first bits is, whose number is the prefix.

@@ -1,57 +1,21 @@
-//! How the journal of a zone is opened.
+//! How a book is opened: by its store.
 
-ghost use Rattle.std.specs.Prelude.{◌≡◌, ◌≤◌, ◌<◌, ◌^◌, IfOk, IfErr, IfSome, IsSomeAnd, IsErrOf};
-ghost use Rattle.dns_io.specs.Told.{Keeps};
+ghost use Rattle.std.specs.Prelude.{◌≡◌, ◌<◌, ◌^◌, IfOk, IfErr, IfSome};
 ghost use Rattle.dns_name.specs.Name.{fold_of};
-ghost use Rattle.dns_keeper.specs.Crash.{LeavesTold, LeavesNoOther};
-ghost use Rattle.dns_book.specs.Crash.{LeavesOpened, LeavesOpening, LeavesUnopened, LeavesOn};
-ghost use Rattle.dns_book.specs.Opening.{HadNoRow, Begins, BeginsNot, BeginsNotWith, Recovers, RecoversNot, Opens, OpensNot, faults_of, faults_begun};
+ghost use Rattle.dns_keeper.specs.Crash.{LeavesNoOther};
+ghost use Rattle.dns_store.specs.Crash.{LeavesRows, LeavesOpened, LeavesOpening, LeavesUnopened};
+ghost use Rattle.dns_store.specs.Opening.{HadNoRow, BeginsNot, RecoversNot, OpensNot};
+ghost use Rattle.dns_book.specs.Crash.{LeavesOn};
+ghost use Rattle.dns_book.specs.Opening.{fresh_of, Begins, Recovers, Opens};
 
 use crate::book::Book;
 use crate::counted::counts_of_zone;
 use crate::in_place::InPlace;
-use crate::opening_records::opening_of;
-use crate::recovering::{Recovered, keeper_kind, read_back};
-use dns_keeper::{KeepFault, Keeper};
+use dns_keeper::Keeper;
 use dns_name::Name;
-use dns_zone::{ReplayKind, Zone};
+use dns_store::{BeginFault, OpenFault, Store};
+use dns_zone::Zone;
 use std::alloc::Global;
-
-/// Why a book was not opened.
-#[derive(Clone, Copy, Debug, PartialEq, Eq)]
-pub enum OpenKind {
-    /// The rows are no zone's: they end at this one.
-    Recovery {
-        /// The id of the first row that is refused; where no SOA is left at the end, of the last row, or 0 without rows.
-        row: i64,
-        /// Why it is refused.
-        kind: ReplayKind,
-    },
-    /// The keeper failed, and counted it.
-    KeeperFault,
-    /// The journal has no rows, and there is no zone to begin it with.
-    NoZone,
-    /// Memory ran out.
-    OutOfMemory,
-}
-
-/// Why a book was not opened, and the keeper, whose rows are as before.
-#[derive(Drop)]
-pub struct OpenFault<K> {
-    /// The cause.
-    pub kind: OpenKind,
-    /// What was handed in.
-    pub keeper: K,
-}
-
-/// Why a journal was not begun, and the keeper, whose rows are as before.
-#[derive(Drop)]
-pub struct BeginFault<K> {
-    /// The keeper's fault, or that memory ran out.
-    pub fault: KeepFault,
-    /// What was handed in.
-    pub keeper: K,
-}
 
 impl<K: Keeper> Book<K> {
     /// Opens a journal. One with rows is read back (`Book::recover`), and the zone is not used; one without rows is begun
@@ -60,7 +24,7 @@ impl<K: Keeper> Book<K> {
     /// from now on goes on past the rows by one batch at most.
     pub fn open(
         alloc: Global,
-        mut keeper: K,
+        keeper: K,
         origin: Name,
         allow_update: bool,
         moment: u64,
@@ -68,19 +32,14 @@ impl<K: Keeper> Book<K> {
     ) -> Result<Book<K>, OpenFault<K>>
         requires moment { moment < 2 ^ 47 }
         requires origin { IfSome zone (λ z. z.origin ≡ fold_of origin) }
-        ensures ok { IfOk result (Opens (K.rows keeper) K.rows origin zone allow_update moment) }
-        ensures err { IfErr result (λ f. OpensNot (K.rows keeper) (K.rows f.keeper) (K.faults keeper) (K.faults f.keeper) origin zone f.kind) }
-        ensures kept { IfErr result (λ f. Keeps (K.rows keeper) (K.rows f.keeper)) }
-        ensures left { IfOk result (λ book. LeavesOpened (K.may_leave keeper) (K.rows book.keeper) (K.may_leave book.keeper)) }
-        ensures left_unopened { IfErr result (λ f. LeavesUnopened (K.rows keeper) zone moment (K.may_leave keeper) (K.may_leave f.keeper)) }
-        ensures left_on { LeavesTold (K.rows keeper) (K.may_leave keeper) → IfOk result (LeavesOn K.rows K.may_leave) }
-        ensures later { K.faults keeper ≤ faults_of K.faults result }
+        ensures ok { IfOk result (Opens K.keeper (K.keeper.told keeper) origin zone allow_update moment) }
+        ensures err { IfErr result (λ f. OpensNot (K.keeper.told keeper) (K.keeper.told f.keeper) origin zone f.kind) }
+        ensures left { IfOk result (λ book. LeavesOpened K.keeper keeper book.keeper) }
+        ensures left_unopened { IfErr result (λ f. LeavesUnopened K.keeper zone moment keeper f.keeper) }
+        ensures left_on { LeavesRows K.keeper keeper → IfOk result (LeavesOn K.keeper) }
     {
-        match keeper.row_from(i64::MIN) {
-            Ok(None) => begin_with(alloc, keeper, allow_update, moment, zone),
-            Ok(Some(_)) => Book::recover(alloc, keeper, &origin, allow_update),
-            Err(fault) => refuse(keeper_kind(fault), keeper),
-        }
+        let store = Store::open(alloc, keeper, origin, moment, zone)?;
+        Ok(Book::of_store(alloc, store, allow_update))
     }
 
     /// Begins the journal of a keeper that was looked at (`Keeper::row_from` of the least id) and has no row: one append
@@ -88,38 +47,20 @@ impl<K: Keeper> Book<K> {
     /// client 0. `allow_update` says whether updates are let in (RFC 2136 3.3). A refusal leaves the rows as before.
     pub fn begin(
         alloc: Global,
-        mut keeper: K,
+        keeper: K,
         allow_update: bool,
         moment: u64,
         zone: Zone,
     ) -> Result<Book<K>, BeginFault<K>>
         requires moment { moment < 2 ^ 47 }
-        requires empty { HadNoRow (K.rows keeper) (K.rows keeper) }
-        ensures ok { IfOk result (Begins (K.rows keeper) K.rows zone allow_update moment) }
-        ensures err { IfErr result (λ f. BeginsNot (K.faults keeper) (K.faults f.keeper) f.fault) }
-        ensures kept { IfErr result (λ f. Keeps (K.rows keeper) (K.rows f.keeper)) }
-        ensures left { IfOk result (λ book. LeavesTold (K.rows book.keeper) (K.may_leave book.keeper)) }
-        ensures left_unopened { IfErr result (λ f. LeavesOpening (K.rows keeper) zone moment (K.may_leave keeper) (K.may_leave f.keeper)) }
-        ensures later { K.faults keeper ≤ faults_begun K.faults result }
+        requires empty { HadNoRow (K.keeper.told keeper).rows (K.keeper.told keeper).rows }
+        ensures ok { IfOk result (Begins K.keeper (K.keeper.told keeper) zone allow_update moment) }
+        ensures err { IfErr result (λ f. BeginsNot (K.keeper.told keeper) (K.keeper.told f.keeper) f.fault) }
+        ensures left { IfOk result (λ book. LeavesRows K.keeper book.keeper) }
+        ensures left_unopened { IfErr result (λ f. LeavesOpening K.keeper zone moment keeper f.keeper) }
     {
-        let Ok(records) = opening_of(alloc, &zone) else {
-            return Err(BeginFault {
-                fault: KeepFault::OutOfMemory,
-                keeper,
-            });
-        };
-        match keeper.append(0, zone.serial(), moment, &records) {
-            Ok(()) => Ok(Book {
-                keeper,
-                row_count: records.len() as u64,
-                counts: counts_of_zone(&zone),
-                zone,
-                allow_update,
-                in_place: InPlace::new(alloc),
-                alloc,
-            }),
-            Err(fault) => Err(BeginFault { fault, keeper }),
-        }
+        let store = Store::begin(alloc, keeper, moment, zone)?;
+        Ok(Book::of_store(alloc, store, allow_update))
     }
 
     /// Reads a journal back, row by row from the least id on: the zone that its rows stand for, whose origin this is, in
@@ -127,60 +68,29 @@ impl<K: Keeper> Book<K> {
     /// `allow_update` says whether updates are let in (RFC 2136 3.3). The rows stay as they are.
     pub fn recover(
         alloc: Global,
-        mut keeper: K,
+        keeper: K,
         origin: &Name,
         allow_update: bool,
     ) -> Result<Book<K>, OpenFault<K>>
-        ensures ok { IfOk result (Recovers (K.rows keeper) K.rows origin.now allow_update) }
-        ensures err { IfErr result (λ f. RecoversNot (K.rows keeper) (K.rows f.keeper) (K.faults keeper) (K.faults f.keeper) origin.now f.kind) }
-        ensures kept { IfErr result (λ f. Keeps (K.rows keeper) (K.rows f.keeper)) }
-        ensures left { IfOk result (λ book. LeavesNoOther (K.may_leave keeper) (K.may_leave book.keeper)) }
-        ensures left_unopened { IfErr result (λ f. LeavesNoOther (K.may_leave keeper) (K.may_leave f.keeper)) }
-        ensures later { K.faults keeper ≤ faults_of K.faults result }
+        ensures ok { IfOk result (Recovers K.keeper (K.keeper.told keeper) origin.now allow_update) }
+        ensures err { IfErr result (λ f. RecoversNot (K.keeper.told keeper) (K.keeper.told f.keeper) origin.now f.kind) }
+        ensures left { IfOk result (λ book. LeavesNoOther (K.keeper.may_leave keeper) (K.keeper.may_leave book.keeper)) }
+        ensures left_unopened { IfErr result (λ f. LeavesNoOther (K.keeper.may_leave keeper) (K.keeper.may_leave f.keeper)) }
     {
-        match read_back(alloc, &mut keeper, origin) {
-            Ok(Recovered { zone, row_count }) => Ok(Book {
-                keeper,
-                row_count,
-                counts: counts_of_zone(&zone),
-                zone,
-                allow_update,
-                in_place: InPlace::new(alloc),
-                alloc,
-            }),
-            Err(kind) => refuse(kind, keeper),
+        let store = Store::recover(alloc, keeper, origin)?;
+        Ok(Book::of_store(alloc, store, allow_update))
+    }
+
+    /// A book of this store to which nothing has happened. Takes no memory.
+    pub(crate) fn of_store(alloc: Global, store: Store<K>, allow_update: bool) -> Book<K>
+        ensures { result ≡ fresh_of store allow_update }
+    {
+        Book {
+            counts: counts_of_zone(store.zone()),
+            store,
+            allow_update,
+            in_place: InPlace::new(alloc),
+            alloc,
         }
     }
-}
-
-/// Begins the journal of a keeper that has no row, where there is a zone.
-fn begin_with<K: Keeper>(
-    alloc: Global,
-    keeper: K,
-    allow_update: bool,
-    moment: u64,
-    zone: Option<Zone>,
-) -> Result<Book<K>, OpenFault<K>>
-    requires moment { moment < 2 ^ 47 }
-    requires empty { HadNoRow (K.rows keeper) (K.rows keeper) }
-    ensures ok { IfOk result (λ book. IsSomeAnd zone (λ z. Begins (K.rows keeper) K.rows z allow_update moment book)) }
-    ensures err { IfErr result (λ f. BeginsNotWith (K.faults keeper) (K.faults f.keeper) zone f.kind) }
-    ensures kept { IfErr result (λ f. Keeps (K.rows keeper) (K.rows f.keeper)) }
-    ensures left { IfOk result (λ book. LeavesTold (K.rows book.keeper) (K.may_leave book.keeper)) }
-    ensures left_unopened { IfErr result (λ f. LeavesUnopened (K.rows keeper) zone moment (K.may_leave keeper) (K.may_leave f.keeper)) }
-    ensures later { K.faults keeper ≤ faults_of K.faults result }
-{
-    let Some(zone) = zone else {
-        return refuse(OpenKind::NoZone, keeper);
-    };
-    match Book::begin(alloc, keeper, allow_update, moment, zone) {
-        Ok(book) => Ok(book),
-        Err(fault) => refuse(keeper_kind(fault.fault), fault.keeper),
-    }
-}
-
-fn refuse<K: Keeper>(kind: OpenKind, keeper: K) -> Result<Book<K>, OpenFault<K>>
-    ensures { IsErrOf result (record { kind = kind; keeper = keeper }) }
-{
-    Err(OpenFault { kind, keeper })
 }

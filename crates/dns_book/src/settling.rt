@@ -13,7 +13,6 @@ use crate::outcome::{Change, Outcome, ReadyReply};
 use dns_counts::{Asked, Counts};
 use dns_io::OutOfMemory;
 use dns_keeper::{KeepFault, Keeper};
-use dns_update::laws::{batches, replays};
 use dns_wire::Records;
 use dns_zone::Modified;
 
@@ -23,12 +22,14 @@ impl<K: Keeper> Book<K> {
     pub(crate) fn carry_out(&mut self, ask: &Ask, outcome: Outcome) -> Result<Settled, OutOfMemory>
         requires moment { ask.now.at < 2 ^ 47 }
         requires passing { ArePassing self.old.zone (updates_in outcome.change) }
-        ensures ok { IfOk result (λ settled. CarriesOut K.rows K.faults self.old ask.now outcome settled self.new) }
-        ensures kept { IsKept K.rows self.new }
-        ensures err { OnErr result (IsLeft K.rows K.faults self.old self.new) }
-        ensures left { IfOk result (λ settled. LeavesBy K.rows K.may_leave self.old ask.now (batch_in self.old.zone (updates_in outcome.change)) settled.receipt self.new) }
-        ensures left_unsettled { OnErr result (LeavesBatch K.rows K.may_leave self.old ask.now (batch_in self.old.zone (updates_in outcome.change)) self.new) }
-        ensures left_on { LeavesOn K.rows K.may_leave self.old → LeavesOn K.rows K.may_leave self.new }
+        ensures ok { IfOk result (λ settled. CarriesOut K.keeper self.old ask.now outcome settled self.new) }
+        ensures kept { IsKept K.keeper self.new }
+        ensures err { OnErr result (IsLeft K.keeper self.old self.new) }
+        ensures left { IfOk result (λ settled. LeavesBy K.keeper self.old ask.now
+            (batch_in self.old.zone (updates_in outcome.change)) settled.receipt self.new) }
+        ensures left_unsettled { OnErr result (LeavesBatch K.keeper self.old ask.now
+            (batch_in self.old.zone (updates_in outcome.change)) self.new) }
+        ensures left_on { LeavesOn K.keeper self.old → LeavesOn K.keeper self.new }
     {
         let Outcome {
             asked,
@@ -51,23 +52,14 @@ impl<K: Keeper> Book<K> {
     fn journal(&mut self, ask: &Ask, updates: &Records) -> Result<Option<Receipt>, KeepFault>
         requires moment { ask.now.at < 2 ^ 47 }
         requires passing { IsPassing self.old.zone updates.now }
-        ensures is { Journals K.rows K.faults self.old ask.now (batch_of self.old.zone.origin self.old.zone.records updates.now) result self.new }
-        ensures kept { IsKept K.rows self.new }
-        ensures left { LeavesBy K.rows K.may_leave self.old ask.now (batch_of self.old.zone.origin self.old.zone.records updates.now) (receipt_in result) self.new }
-        ensures left_on { LeavesOn K.rows K.may_leave self.old → LeavesOn K.rows K.may_leave self.new }
+        ensures is { Journals K.keeper self.old ask.now (batch_of self.old.zone.origin self.old.zone.records updates.now) result self.new }
+        ensures kept { IsKept K.keeper self.new }
+        ensures left { LeavesBy K.keeper self.old ask.now
+            (batch_of self.old.zone.origin self.old.zone.records updates.now) (receipt_in result) self.new }
+        ensures left_on { LeavesOn K.keeper self.old → LeavesOn K.keeper self.new }
     {
-        replays();
-        batches();
-        let most = updates.len() as u64;
-        if u64::MAX - self.row_count < most {
-            return Err(KeepFault::OutOfMemory);
-        }
         self.in_place.forget();
-        let (alloc, keeper) = (self.alloc, &mut self.keeper);
-        let batch = match self
-            .zone
-            .journal(alloc, keeper, ask.client, ask.at, updates)
-        {
+        let batch = match self.store.journal(ask.client, ask.at, updates) {
             Ok(batch) => batch,
             Err(fault) => return Err(fault),
         };
@@ -77,25 +69,25 @@ impl<K: Keeper> Book<K> {
         }
         let receipt = Receipt {
             client: ask.client,
-            first: self.row_count + 1,
+            first: self.store.row_count() - count + 1,
             count,
         };
-        self.row_count += count;
-        count_change(&mut self.counts, batch.modified, self.zone.len() as u64);
+        let records = self.store.zone().len() as u64;
+        count_change(&mut self.counts, batch.modified, records);
         Ok(Some(receipt))
     }
 
     /// Counts the reply to a message.
     fn answered(&mut self, asked: &Asked, reply: ReadyReply, receipt: Option<Receipt>) -> Settled
         ensures book { self.new ≡ record self.old { counts = recorded asked.now reply.replied self.old.counts } }
-        ensures kept { IsKept K.rows self.new }
+        ensures kept { IsKept K.keeper self.new }
         ensures settled { result ≡ record { reply = Some reply.bytes; length = self.old.row_count; receipt = receipt } }
     {
         let ReadyReply { replied, bytes } = reply;
         self.counts.record(asked, &replied);
         Settled {
             reply: Some(bytes),
-            length: self.row_count,
+            length: self.store.row_count(),
             receipt,
         }
     }
@@ -106,7 +98,7 @@ impl<K: Keeper> Book<K> {
     {
         SettledInto {
             is_owed,
-            length: self.row_count,
+            length: self.store.row_count(),
             receipt: None,
         }
     }

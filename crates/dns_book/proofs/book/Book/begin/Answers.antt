@@ -1,23 +1,14 @@
-use Rattle.std.proofs.Common.{refl, arith}
-use Rattle.dns_book.specs.Book.{SeenOf, IsKept}
-use Rattle.dns_book.proofs.Opened.{IsKept-begun, begins}
+use Rattle.dns_store.specs.Store.{StoreOf}
+use Rattle.dns_store.specs.Opening as store
+use Rattle.dns_store.specs.Crash.{LeavesRows}
+use Rattle.dns_book.proofs.Opened.{opened_fresh, opened_store}
 use Rattle.dns_book.proofs.book.Book.begin.Goals as goal
 
-pub invariant_of-result : goal.invariant_of-result
-invariant_of-result g c = (
-  IsKept-begun g.K.Keeper.rows (g.K.Keeper.rows c.args.keeper)
-      (record { keeper = c.append.new.self; zone = c.args.zone; allow_update = c.args.allow_update; row_count = c.len.result; counts = c.counts_of_zone.result })
-      0 c.serial.result c.args.moment c.in-Ok.records c.requires.empty c.in-Ok-append.ensures.ok c.len.ensures c.serial.ensures c.in-Ok.ensures.replay,
-  c.new.ensures c.args.zone,
-)
+pub returns-clause-ok : goal.returns-clause-ok
+returns-clause-ok g c =
+    opened_fresh c.in_ok-store.store c.args.allow_update _ c.of_store.ensures
+    (store.Begins g.K.Keeper.keeper (g.K.Keeper.keeper.told c.args.keeper) c.args.zone c.args.moment) c.in_ok-store.ensures.ok
 
-pub returns-in-Ok-append-clause-ok : goal.returns-in-Ok-append-clause-ok
-returns-in-Ok-append-clause-ok g c =
-    let book : SeenOf g.row.K.Denot = record { keeper = c.append.new.self; zone = c.args.zone; allow_update = c.args.allow_update; row_count = c.len.result; counts = c.counts_of_zone.result } in
-    let kept : IsKept g.K.Keeper.rows book = IsKept-begun g.K.Keeper.rows (g.K.Keeper.rows c.args.keeper) book
-    0 c.serial.result c.args.moment c.in-Ok.records c.requires.empty c.in-Ok-append.ensures.ok c.len.ensures c.serial.ensures c.in-Ok.ensures.replay in
-    begins g.K.Keeper.rows (g.K.Keeper.rows c.args.keeper) c.args.zone c.args.allow_update c.args.moment c.serial.result c.in-Ok.records book c.requires.empty c.in-Ok-append.ensures.ok
-    c.serial.ensures c.in-Ok.ensures.records refl refl c.len.ensures c.counts_of_zone.ensures kept
-
-pub returns-in-Ok-append-clause-left : goal.returns-in-Ok-append-clause-left
-returns-in-Ok-append-clause-left g c = c.in-Ok-append.ensures.alone (rw c.in-Ok.ensures.records (omega arith))
+pub returns-clause-left : goal.returns-clause-left
+returns-clause-left g c =
+    opened_store c.in_ok-store.store c.args.allow_update _ c.of_store.ensures (λ (s : StoreOf g.row.K.Denot). LeavesRows g.K.Keeper.keeper s.keeper) c.in_ok-store.ensures.left

@@ -1,52 +1,19 @@
-use Rattle.std.proofs.Common.{refl, inl, inr}
-use Rattle.std.specs.Prelude.{IsSomeAnd}
-use Rattle.dns_keeper.specs.Crash.{LeavesTold, LeavesNoOther}
-use Rattle.dns_book.specs.Opening.{Begins, Recovers, Opens}
-use Rattle.dns_book.specs.Crash.{LeavesOpened, LeavesOn}
-use Rattle.dns_book.proofs.Opened.{on_ok, opens_begun, opens_recovered}
-use Rattle.dns_book.proofs.ReadRows.{kept_on}
-use Rattle.dns_book.proofs.Leaving.{both_ok}
-use Rattle.dns_book.proofs.LeavingOn.{on_begun, on_recovered}
+use Rattle.dns_store.specs.Store.{StoreOf}
+use Rattle.dns_store.specs.Opening as store
+use Rattle.dns_book.specs.Crash.{LeavesOpened}
+use Rattle.dns_store.specs.Crash.{LeavesStoreOn}
+use Rattle.dns_book.proofs.Opened.{opened_fresh, opened_store}
 use Rattle.dns_book.proofs.book.Book.open.Goals as goal
 
-pub returns-in-Ok-None-clause-ok : goal.returns-in-Ok-None-clause-ok
-returns-in-Ok-None-clause-ok g c =
-    on_ok (λ book. IsSomeAnd c.args.zone (λ z. Begins (g.K.Keeper.rows c.row_from.new.self) g.K.Keeper.rows z c.args.allow_update c.args.moment book))
-    (Opens (g.K.Keeper.rows c.args.keeper) g.K.Keeper.rows c.args.origin c.args.zone c.args.allow_update c.args.moment) c.begin_with.result
-    (λ book done. opens_begun (g.K.Keeper.rows c.args.keeper) (g.K.Keeper.rows c.row_from.new.self) g.K.Keeper.rows c.args.origin c.args.zone c.args.allow_update c.args.moment book c.in-Ok-None.ensures.kept c.requires.origin done)
-    c.begin_with.ensures.ok
+pub returns-clause-ok : goal.returns-clause-ok
+returns-clause-ok g c =
+    opened_fresh c.in_ok-store.store c.args.allow_update _ c.of_store.ensures
+    (store.Opens g.K.Keeper.keeper (g.K.Keeper.keeper.told c.args.keeper) c.args.origin c.args.zone c.args.moment) c.in_ok-store.ensures.ok
 
-pub returns-in-Ok-Some-clause-ok : goal.returns-in-Ok-Some-clause-ok
-returns-in-Ok-Some-clause-ok g c =
-    on_ok (Recovers (g.K.Keeper.rows c.row_from.new.self) g.K.Keeper.rows c.args.origin c.args.allow_update)
-    (Opens (g.K.Keeper.rows c.args.keeper) g.K.Keeper.rows c.args.origin c.args.zone c.args.allow_update c.args.moment) c.recover.result
-    (λ book done. opens_recovered (g.K.Keeper.rows c.args.keeper) (g.K.Keeper.rows c.row_from.new.self) g.K.Keeper.rows c.args.origin c.args.zone c.args.allow_update c.args.moment book c.in-Ok-Some.field-0-0
-    c.in-Ok-Some.ensures.kept (rw c.in-Ok-Some.field-0-is at (c.in-Ok-Some.ensures.first refl)) done)
-    c.recover.ensures.ok
+pub returns-clause-left : goal.returns-clause-left
+returns-clause-left g c =
+    opened_store c.in_ok-store.store c.args.allow_update _ c.of_store.ensures (λ (s : StoreOf g.row.K.Denot). LeavesOpened g.K.Keeper.keeper c.args.keeper s.keeper) c.in_ok-store.ensures.left
 
-pub returns-in-Ok-None-clause-left : goal.returns-in-Ok-None-clause-left
-returns-in-Ok-None-clause-left g c =
-    on_ok (λ book. LeavesTold (g.K.Keeper.rows book.keeper) (g.K.Keeper.may_leave book.keeper))
-    (λ book. LeavesOpened (g.K.Keeper.may_leave c.args.keeper) (g.K.Keeper.rows book.keeper) (g.K.Keeper.may_leave book.keeper)) c.begin_with.result (λ book alone. inl alone) c.begin_with.ensures.left
-
-pub returns-in-Ok-Some-clause-left : goal.returns-in-Ok-Some-clause-left
-returns-in-Ok-Some-clause-left g c =
-    on_ok (λ book. LeavesNoOther (g.K.Keeper.may_leave c.row_from.new.self) (g.K.Keeper.may_leave book.keeper))
-    (λ book. LeavesOpened (g.K.Keeper.may_leave c.args.keeper) (g.K.Keeper.rows book.keeper) (g.K.Keeper.may_leave book.keeper)) c.recover.result
-    (λ book no. inr (λ some left. c.row_from.ensures.left some (no some left))) c.recover.ensures.left
-
-pub returns-in-Ok-None-clause-left_on : goal.returns-in-Ok-None-clause-left_on
-returns-in-Ok-None-clause-left_on g c alone =
-    both_ok c.begin_with.result (λ book. IsSomeAnd c.args.zone (λ z. Begins (g.K.Keeper.rows c.row_from.new.self) g.K.Keeper.rows z c.args.allow_update c.args.moment book))
-    (λ book. LeavesTold (g.K.Keeper.rows book.keeper) (g.K.Keeper.may_leave book.keeper)) (LeavesOn g.K.Keeper.rows g.K.Keeper.may_leave)
-    (λ book done told. on_begun g.K.Keeper.rows g.K.Keeper.may_leave (g.K.Keeper.rows c.row_from.new.self) c.args.zone c.args.allow_update c.args.moment book done told)
-    c.begin_with.ensures.ok c.begin_with.ensures.left
-
-pub returns-in-Ok-Some-clause-left_on : goal.returns-in-Ok-Some-clause-left_on
-returns-in-Ok-Some-clause-left_on g c alone =
-    both_ok c.recover.result (Recovers (g.K.Keeper.rows c.row_from.new.self) g.K.Keeper.rows c.args.origin c.args.allow_update)
-    (λ book. LeavesNoOther (g.K.Keeper.may_leave c.row_from.new.self) (g.K.Keeper.may_leave book.keeper)) (LeavesOn g.K.Keeper.rows g.K.Keeper.may_leave)
-    (λ book done more. on_recovered g.K.Keeper.rows g.K.Keeper.may_leave (g.K.Keeper.rows c.args.keeper) book done.stands
-    (kept_on (g.K.Keeper.rows c.args.keeper) (g.K.Keeper.rows c.row_from.new.self) (g.K.Keeper.rows book.keeper) c.in-Ok-Some.ensures.kept done.kept)
-    (λ some left. alone some (c.row_from.ensures.left some (more some left))))
-    c.recover.ensures.ok c.recover.ensures.left
+pub returns-clause-left_on : goal.returns-clause-left_on
+returns-clause-left_on g c = λ alone.
+    opened_store c.in_ok-store.store c.args.allow_update _ c.of_store.ensures (LeavesStoreOn g.K.Keeper.keeper) (c.in_ok-store.ensures.left_on alone)

@@ -1,16 +1,14 @@
 //! The rows of a journal, read back one by one.
 
-ghost use Rattle.std.specs.Prelude.{◌≡◌, ◌≤◌, ◌++◌, ◌∷◌, ◌+ℤ◌, [], pos, List, IfOk, IfErr, IfSome, FitsSigned, OnOk, Ok};
+ghost use Rattle.std.specs.Prelude.{◌≡◌, ◌++◌, ◌∷◌, ◌+ℤ◌, [], pos, List, IfOk, IfErr, IfSome, FitsSigned, OnOk, Ok};
 ghost use Rattle.std.specs.Int.{w64};
 ghost use Rattle.dns_name.specs.Name.{fold_of};
-ghost use Rattle.dns_io.specs.Told.{Keeps};
-ghost use Rattle.dns_keeper.specs.Crash.{LeavesNoOther};
 ghost use Rattle.dns_keeper.specs.declared.row.Row.{Row as JournalRow};
 ghost use Rattle.dns_update.specs.Replay.{Replays};
 ghost use Rattle.dns_zone.specs.Replaying.{HasTaken};
-ghost use Rattle.dns_book.specs.Book.{HasRows, StandFor};
-ghost use Rattle.dns_book.specs.Opening.{RecoversNot};
-ghost use Rattle.dns_book.specs.Recovering.{kind_of, keeper_kind, TellsRefusal, ReadsNot, IsFirst, IsFirstFrom, AreTaken};
+ghost use Rattle.dns_store.specs.Store.{HasRows, StandFor};
+ghost use Rattle.dns_store.specs.Opening.{IsUnread};
+ghost use Rattle.dns_store.specs.Recovering.{kind_of, keeper_kind, TellsRefusal, IsKeepers, ReadsRows, IsFirst, IsFirstFrom, AreTaken};
 
 use crate::opening::OpenKind;
 use dns_keeper::{KeepFault, Keeper, Row};
@@ -42,12 +40,10 @@ pub(crate) fn read_back<K: Keeper>(
     origin: &Name,
 ) -> Result<Recovered, OpenKind>
     ensures origin { IfOk result (λ back. back.zone.origin ≡ fold_of origin.now) }
-    ensures count { IfOk result (λ back. HasRows (K.rows keeper.new) back.row_count) }
-    ensures zone { IfOk result (λ back. StandFor (K.rows keeper.new) back.zone) }
-    ensures err { IfErr result (RecoversNot (K.rows keeper.old) (K.rows keeper.new) (K.faults keeper.old) (K.faults keeper.new) origin.now) }
-    ensures kept { Keeps (K.rows keeper.old) (K.rows keeper.new) }
-    ensures left { LeavesNoOther (K.may_leave keeper.old) (K.may_leave keeper.new) }
-    ensures later { K.faults keeper.old ≤ K.faults keeper.new }
+    ensures count { IfOk result (λ back. HasRows (K.keeper.told keeper.new).rows back.row_count) }
+    ensures zone { IfOk result (λ back. StandFor (K.keeper.told keeper.new).rows back.zone) }
+    ensures err { IfErr result (IsUnread (K.keeper.told keeper.old).rows (K.keeper.told keeper.new).rows origin.now) }
+    ensures reads { ReadsRows K.keeper keeper.old keeper.new result }
 {
     let Taken {
         replaying,
@@ -62,11 +58,9 @@ pub(crate) fn read_back<K: Keeper>(
 /// Takes all rows of a keeper, from the least id on.
 fn take_rows<K: Keeper>(alloc: Global, keeper: &mut K, origin: &Name) -> Result<Taken, OpenKind>
     ensures origin { IfOk result (λ taken. taken.replaying.origin ≡ fold_of origin.now) }
-    ensures all { IfOk result (λ taken. IfSome (K.rows keeper.new) (AreTaken taken.replaying taken.row_count)) }
-    ensures err { IfErr result (RecoversNot (K.rows keeper.old) (K.rows keeper.new) (K.faults keeper.old) (K.faults keeper.new) origin.now) }
-    ensures kept { Keeps (K.rows keeper.old) (K.rows keeper.new) }
-    ensures left { LeavesNoOther (K.may_leave keeper.old) (K.may_leave keeper.new) }
-    ensures later { K.faults keeper.old ≤ K.faults keeper.new }
+    ensures all { IfOk result (λ taken. IfSome (K.keeper.told keeper.new).rows (AreTaken taken.replaying taken.row_count)) }
+    ensures err { IfErr result (IsUnread (K.keeper.told keeper.old).rows (K.keeper.told keeper.new).rows origin.now) }
+    ensures reads { ReadsRows K.keeper keeper.old keeper.new result }
 {
     let mut replaying = no_rows(alloc, origin)?;
     let mut next = first_row(keeper)?;
@@ -99,7 +93,8 @@ fn no_rows(alloc: Global, origin: &Name) -> Result<Replaying, OpenKind>
 /// Takes the next row.
 fn take_row(alloc: Global, replaying: &mut Replaying, row: &Row) -> Result<(), OpenKind>
     ensures origin { replaying.new.origin ≡ replaying.old.origin }
-    ensures taken { OnOk result ((rows : List JournalRow) → HasTaken replaying.old rows → HasTaken replaying.new (rows ++ row.now ∷ [])) }
+    ensures taken { OnOk result ((rows : List JournalRow) → HasTaken replaying.old rows
+        → HasTaken replaying.new (rows ++ row.now ∷ [])) }
     ensures err { IfErr result (TellsRefusal (λ end. (rows more : List JournalRow) → HasTaken replaying.old rows
         → Replays replaying.old.origin (rows ++ row.now ∷ more) end)) }
 {
@@ -111,11 +106,9 @@ fn take_row(alloc: Global, replaying: &mut Replaying, row: &Row) -> Result<(), O
 
 /// The first row of a keeper, if it has any.
 fn first_row<K: Keeper>(keeper: &mut K) -> Result<Option<Row>, OpenKind>
-    ensures found { IfOk result (λ found. IfSome (K.rows keeper.new) (IsFirst found)) }
-    ensures err { IfErr result (ReadsNot (K.faults keeper.old) (K.faults keeper.new)) }
-    ensures kept { Keeps (K.rows keeper.old) (K.rows keeper.new) }
-    ensures left { LeavesNoOther (K.may_leave keeper.old) (K.may_leave keeper.new) }
-    ensures later { K.faults keeper.old ≤ K.faults keeper.new }
+    ensures found { IfOk result (λ found. IfSome (K.keeper.told keeper.new).rows (IsFirst found)) }
+    ensures err { IfErr result IsKeepers }
+    ensures reads { ReadsRows K.keeper keeper.old keeper.new result }
 {
     match keeper.row_from(i64::MIN) {
         Ok(found) => Ok(found),
@@ -125,11 +118,9 @@ fn first_row<K: Keeper>(keeper: &mut K) -> Result<Option<Row>, OpenKind>
 
 /// The row of a keeper that comes next behind a row, if there is one.
 fn row_behind<K: Keeper>(keeper: &mut K, row: &Row) -> Result<Option<Row>, OpenKind>
-    ensures found { IfOk result (λ found. IfSome (K.rows keeper.new) (IsFirstFrom (row.now.id +ℤ pos 1) found)) }
-    ensures err { IfErr result (ReadsNot (K.faults keeper.old) (K.faults keeper.new)) }
-    ensures kept { Keeps (K.rows keeper.old) (K.rows keeper.new) }
-    ensures left { LeavesNoOther (K.may_leave keeper.old) (K.may_leave keeper.new) }
-    ensures later { K.faults keeper.old ≤ K.faults keeper.new }
+    ensures found { IfOk result (λ found. IfSome (K.keeper.told keeper.new).rows (IsFirstFrom (row.now.id +ℤ pos 1) found)) }
+    ensures err { IfErr result IsKeepers }
+    ensures reads { ReadsRows K.keeper keeper.old keeper.new result }
 {
     // The ids of rows that were taken count them, and no journal has so many.
     let Some(id) = id_behind(row) else {
@@ -153,7 +144,7 @@ fn id_behind(row: &Row) -> Option<i64>
     }
 }
 
-/// Why a book is not opened, where rows are refused.
+/// Why a store is not opened, where rows are refused.
 fn kind_of(fault: ReplayFault) -> OpenKind
     ensures { result ≡ kind_of fault }
 {
@@ -163,7 +154,7 @@ fn kind_of(fault: ReplayFault) -> OpenKind
     }
 }
 
-/// Why a book is not opened, where a call of its keeper is refused.
+/// Why a store is not opened, where a call of its keeper is refused.
 pub(crate) fn keeper_kind(fault: KeepFault) -> OpenKind
     ensures { result ≡ keeper_kind fault }
 {

@@ -1,22 +1,30 @@
 -- Rows that are read back one by one.
 use Rattle.std.proofs.Common.{◌≡◌, ℕ, ◌+◌, ◌≤◌, ℤ, pos, ◌+ℤ◌, List, [], ◌∷◌, ◌++◌, length, Option, Some, None, true, false, refl, sym, ap, ◌∙◌, subst, arith, append_assoc, length-append}
-use Rattle.std.specs.Prelude.{IfSome, Err}
+use Rattle.std.specs.Prelude.{IfSome, Result, Ok, Err}
 use Rattle.std.specs.Int.Signed.{le_z}
 use Rattle.std.proofs.lemmas.Int.{ints}
 use Rattle.std.proofs.lemmas.List.{append-nil}
 use Rattle.std.proofs.lemmas.Option.{same_Some}
 use Rattle.dns_name.specs.Name.{fold_of}
 use Rattle.dns_io.specs.Told.{Keeps}
+use Rattle.dns_io.proofs.ToldContents.{Keeps-same}
+use Rattle.dns_wire.specs.declared.record.Record.{Record}
 use Rattle.dns_keeper.specs.declared.row.Row.{Row}
 use Rattle.dns_keeper.specs.Rows.{first_of, first_from, is_ascending, AreAscending}
-use Rattle.dns_keeper.specs.Keeping.{IsRowFrom, TellsAscending}
+use Rattle.dns_keeper.specs.declared.keeper.KeepFault.{KeepFault}
+use Rattle.dns_keeper.specs.declared.keeper.KeepFault.TheVariants as keep
+use Rattle.dns_keeper.specs.Keeping.{KeeperOf, IsRowFrom, IsFirstRow, TellsAscending}
+use Rattle.dns_keeper.specs.Calls.{ReadsRow}
+use Rattle.dns_keeper.specs.Crash.{LeavesNoOther}
+use Rattle.dns_zone.specs.declared.replaying.ReplayFault.{ReplayFault}
+use Rattle.dns_zone.specs.declared.replaying.ReplayFault.TheVariants as fault
 use Rattle.dns_update.specs.Replay.{Refusal, Replays}
 use Rattle.dns_zone.specs.Replayed.{Replayed}
 use Rattle.dns_zone.specs.Replaying.{HasTaken}
-use Rattle.dns_book.specs.declared.opening.OpenKind.{OpenKind}
-use Rattle.dns_book.specs.declared.opening.OpenKind.TheVariants.{Recovery, KeeperFault, NoZone, OutOfMemory}
-use Rattle.dns_book.specs.Opening.{RecoversNot}
-use Rattle.dns_book.specs.Recovering.{TellsRefusal, ReadsNot, IsFirst, IsFirstFrom, IsReadUpTo, AreTaken}
+use Rattle.dns_store.specs.declared.opening.OpenKind.{OpenKind}
+use Rattle.dns_store.specs.declared.opening.OpenKind.TheVariants.{Recovery, KeeperFault, NoZone, OutOfMemory}
+use Rattle.dns_store.specs.Opening.{IsUnread, CountsByKind}
+use Rattle.dns_store.specs.Recovering.{kind_of, keeper_kind, TellsRefusal, IsKeepers, ReadsRows, IsFirst, IsFirstFrom, IsReadUpTo, AreTaken}
 
 -- a row has a lower id than each row behind it
 is_below : (r : Row) (front : List Row) (row : Row) (rest : List Row) → is_ascending (r ∷ front ++ row ∷ rest) ≡ true → le_z row.id r.id ≡ false
@@ -108,21 +116,97 @@ refused_at origin state row refusal rows front (r ∷ rest) same parts taken nex
     let all : rows ≡ front ++ row ∷ rest = parts ∙ ap (λ (one : Row). front ++ one ∷ rest) (sym is) in
     subst (λ (l : List Row). Replays (fold_of origin) l (Err refusal)) (sym all) (subst (λ (o : List (List ℕ)). Replays o (front ++ row ∷ rest) (Err refusal)) same (told front rest taken))
 
-pub refused_there : (start now : Option (List Row)) (faults later : ℕ) (origin : List (List ℕ)) (state : Replayed) (count : ℕ) (row : Row) (kind : OpenKind) → Keeps start now
+pub refused_there : (start now : Option (List Row)) (origin : List (List ℕ)) (state : Replayed) (count : ℕ) (row : Row) (kind : OpenKind) → Keeps start now
     → IfSome now (IsReadUpTo state count (Some row)) → state.origin ≡ fold_of origin
-    → TellsRefusal (λ end. (taken more : List Row) → HasTaken state taken → Replays state.origin (taken ++ row ∷ more) end) kind → RecoversNot start now faults later origin kind
-refused_there start None faults later origin state count row (Recovery id why) keeps read same told = tt
-refused_there None (Some rows) faults later origin state count row (Recovery id why) keeps read same told = absurd keeps
-refused_there (Some old) (Some rows) faults later origin state count row (Recovery id why) keeps read same told =
+    → TellsRefusal (λ end. (taken more : List Row) → HasTaken state taken → Replays state.origin (taken ++ row ∷ more) end) kind → IsUnread start now origin kind
+refused_there start None origin state count row (Recovery id why) keeps read same told = tt
+refused_there None (Some rows) origin state count row (Recovery id why) keeps read same told = absurd keeps
+refused_there (Some old) (Some rows) origin state count row (Recovery id why) keeps read same told =
     subst (λ (l : List Row). Replays (fold_of origin) l (Err (record { row = id; kind = why }))) keeps
     (refused_at origin state row (record { row = id; kind = why }) rows read.front read.rest same read.parts read.taken read.follows told)
-refused_there start now faults later origin state count row KeeperFault keeps read same told = absurd told
-refused_there start now faults later origin state count row NoZone keeps read same told = absurd told
-refused_there start now faults later origin state count row OutOfMemory keeps read same told = tt
+refused_there start now origin state count row KeeperFault keeps read same told = absurd told
+refused_there start now origin state count row NoZone keeps read same told = absurd told
+refused_there start now origin state count row OutOfMemory keeps read same told = tt
 
 -- and a call of the keeper that is refused
-pub failed_there : (start now : Option (List Row)) (first before later : ℕ) (origin : List (List ℕ)) (kind : OpenKind) → first ≤ before → ReadsNot before later kind → RecoversNot start now first later origin kind
-failed_there start now first before later origin (Recovery id why) rise told = absurd told
-failed_there start now first before later origin KeeperFault rise told = omega (arith, rise, told)
-failed_there start now first before later origin NoZone rise told = absurd told
-failed_there start now first before later origin OutOfMemory rise told = tt
+pub failed_there : (start now : Option (List Row)) (origin : List (List ℕ)) (kind : OpenKind) → IsKeepers kind → IsUnread start now origin kind
+failed_there start now origin (Recovery id why) told = absurd told
+failed_there start now origin KeeperFault told = tt
+failed_there start now origin NoZone told = absurd told
+failed_there start now origin OutOfMemory told = tt
+
+-- the first row, as the keeper answers
+pub found_first : (found : Option Row) (rows : Option (List Row)) → IsFirstRow rows found → TellsAscending rows → IfSome rows (IsFirst found)
+found_first found None is ascending = tt
+found_first found (Some rows) is ascending = record { is = is; ascending = ascending }
+
+-- a call of the keeper is refused for a fault of the keeper, or for want of memory
+pub is_keepers : (f : KeepFault) (kind : OpenKind) → kind ≡ keeper_kind f → IsKeepers kind
+is_keepers keep.Failed kind is = subst IsKeepers (sym is) tt
+is_keepers keep.OutOfMemory kind is = subst IsKeepers (sym is) tt
+
+-- what a count of faults did since it was so, and since it was as it then was
+pub counts_since : (first before now : ℕ) (kind : OpenKind) → before ≡ first → CountsByKind before now kind → CountsByKind first now kind
+counts_since first before now kind same counts = subst (λ (n : ℕ). CountsByKind n now kind) same counts
+
+module _ {K : Type 0} (keeper : KeeperOf K) where
+  -- one row was read
+  pub reads_found : {T : Type 0} (old new : K) (id : ℤ) (found : Option Row) (value : T) → ReadsRow keeper old new id (Ok found) → ReadsRows keeper old new (Ok value)
+  reads_found old new id found value read = record { kept = read.kept; left = read.left; later = read.cause.later; counts = read.cause.counts }
+
+  pub reads_failed : {T : Type 0} (old new : K) (id : ℤ) (f : KeepFault) (kind : OpenKind) → kind ≡ keeper_kind f → ReadsRow keeper old new id (Err f) → ReadsRows {T = T} keeper old new (Err kind)
+  reads_failed {T} old new id f kind is read = subst (λ (k : OpenKind). ReadsRows {T = T} keeper old new (Err k)) (sym is) (by f read)
+    where
+      by : (f : KeepFault) → ReadsRow keeper old new id (Err f) → ReadsRows {T = T} keeper old new (Err (keeper_kind f))
+      by keep.Failed read = record { kept = read.kept; left = read.left; later = read.cause.later; counts = read.cause.counts }
+      by keep.OutOfMemory read = record { kept = read.kept; left = read.left; later = read.cause.later; counts = read.cause.counts }
+
+  -- none was read, for want of memory
+  pub reads_none : {T : Type 0} (held : K) (kind : OpenKind) → kind ≡ OutOfMemory → ReadsRows {T = T} keeper held held (Err kind)
+  reads_none {T} held kind is = subst (λ (k : OpenKind). ReadsRows {T = T} keeper held held (Err k)) (sym is) (record {
+    kept = Keeps-same (keeper.told held).rows;
+    left = λ rows now. now;
+    later = omega arith;
+    counts = refl;
+  })
+
+  -- so do all of them, one after the other
+  module _ {T : Type 0} (start now : K) (kept : Keeps (keeper.told start).rows (keeper.told now).rows) (left : LeavesNoOther (keeper.may_leave start) (keeper.may_leave now))
+      (same : (keeper.told now).faults ≡ (keeper.told start).faults) where
+    pub reads_all : (value : T) → ReadsRows keeper start now (Ok value)
+    reads_all value = record { kept = kept; left = left; later = omega (arith, same); counts = same }
+
+    pub reads_wanting : ReadsRows {T = T} keeper start now (Err OutOfMemory)
+    reads_wanting = record { kept = kept; left = left; later = omega (arith, same); counts = same }
+
+    -- a refusal of rows is no fault of the keeper
+    pub reads_refused : (End : Result (List Record) Refusal → Type 0) (kind : OpenKind) → TellsRefusal End kind → ReadsRows {T = T} keeper start now (Err kind)
+    reads_refused End (Recovery id why) told = record { kept = kept; left = left; later = omega (arith, same); counts = same }
+    reads_refused End KeeperFault told = absurd told
+    reads_refused End NoZone told = absurd told
+    reads_refused End OutOfMemory told = record { kept = kept; left = left; later = omega (arith, same); counts = same }
+
+    pub reads_unfinished : (f : ReplayFault) (kind : OpenKind) → kind ≡ kind_of f → ReadsRows {T = T} keeper start now (Err kind)
+    reads_unfinished f kind is = subst (λ (k : OpenKind). ReadsRows {T = T} keeper start now (Err k)) (sym is) (by f)
+      where
+        by : (f : ReplayFault) → ReadsRows {T = T} keeper start now (Err (kind_of f))
+        by (fault.Refused row kind) = record { kept = kept; left = left; later = omega (arith, same); counts = same }
+        by fault.OutOfMemory = record { kept = kept; left = left; later = omega (arith, same); counts = same }
+
+    -- then one failed
+    pub reads_then : {U : Type 0} (last : K) (kind : OpenKind) → ReadsRows {T = U} keeper now last (Err kind) → ReadsRows {T = T} keeper start last (Err kind)
+    reads_then last kind read =
+        let later : (keeper.told now).faults ≤ (keeper.told last).faults = read.later in
+        record {
+          kept = kept_on (keeper.told start).rows (keeper.told now).rows (keeper.told last).rows kept read.kept;
+          left = λ rows some. left rows (read.left rows some);
+          later = omega (arith, same, later);
+          counts = counts_since (keeper.told start).faults (keeper.told now).faults (keeper.told last).faults kind same read.counts;
+        }
+
+  -- the same, whatever was to be read
+  pub reads_alike : {T U : Type 0} (old new : K) (kind : OpenKind) → ReadsRows {T = T} keeper old new (Err kind) → ReadsRows {T = U} keeper old new (Err kind)
+  reads_alike old new kind read = record { kept = read.kept; left = read.left; later = read.later; counts = read.counts }
+
+  pub reads_as_well : {T U : Type 0} (old new : K) (value : T) (other : U) → ReadsRows keeper old new (Ok value) → ReadsRows keeper old new (Ok other)
+  reads_as_well old new value other read = record { kept = read.kept; left = read.left; later = read.later; counts = read.counts }

@@ -13,9 +13,9 @@ use Rattle.dns_zone.specs.declared.replaying.ReplayFault.{ReplayFault}
 use Rattle.dns_zone.specs.declared.replaying.ReplayFault.TheVariants as fault
 use Rattle.dns_zone.specs.Replayed.{Replayed}
 use Rattle.dns_zone.specs.Replaying.{HasTaken}
-use Rattle.dns_book.specs.declared.opening.OpenKind.{OpenKind}
-use Rattle.dns_book.specs.declared.opening.OpenKind.TheVariants.{Recovery, KeeperFault, NoZone, OutOfMemory}
-use Rattle.dns_book.specs.Opening.{CountsByKind}
+use Rattle.dns_store.specs.declared.opening.OpenKind.{OpenKind}
+use Rattle.dns_store.specs.declared.opening.OpenKind.TheVariants.{Recovery, KeeperFault, NoZone, OutOfMemory}
+use Rattle.dns_store.specs.Opening.{CountsByKind}
 
 -- why a book is not opened, where rows are refused
 abbrev pub kind_of : ReplayFault → OpenKind

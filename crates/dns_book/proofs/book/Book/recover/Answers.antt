@@ -1,0 +1,15 @@
+use Rattle.dns_keeper.specs.Crash.{LeavesNoOther}
+use Rattle.dns_store.specs.Store.{StoreOf}
+use Rattle.dns_store.specs.Opening as store
+use Rattle.dns_book.proofs.Opened.{opened_fresh, opened_store}
+use Rattle.dns_book.proofs.book.Book.recover.Goals as goal
+
+pub returns-clause-ok : goal.returns-clause-ok
+returns-clause-ok g c =
+    opened_fresh c.in_ok-store.store c.args.allow_update _ c.of_store.ensures
+    (store.Recovers g.K.Keeper.keeper (g.K.Keeper.keeper.told c.args.keeper) c.args.origin.now) c.in_ok-store.ensures.ok
+
+pub returns-clause-left : goal.returns-clause-left
+returns-clause-left g c =
+    opened_store c.in_ok-store.store c.args.allow_update _ c.of_store.ensures
+    (λ (s : StoreOf g.row.K.Denot). LeavesNoOther (g.K.Keeper.keeper.may_leave c.args.keeper) (g.K.Keeper.keeper.may_leave s.keeper)) c.in_ok-store.ensures.left

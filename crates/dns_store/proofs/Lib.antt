@@ -1,0 +1,4 @@
+pub mod ReadRows
+pub mod Growing
+pub mod Opened
+pub mod LeavingOn

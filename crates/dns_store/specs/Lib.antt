@@ -1,0 +1,4 @@
+pub mod Store
+pub mod Opening
+pub mod Recovering
+pub mod Crash

@@ -1,0 +1,12 @@
+//! A store: a zone beside the journal whose replay it is. It is opened, and it journals the batches of updates; who may send one, what
+//! is answered and what is counted stand above it.
+#![tactic(auto)]
+
+mod kept_records;
+mod opening;
+mod opening_records;
+mod recovering;
+mod store;
+
+pub use opening::{BeginFault, OpenFault, OpenKind};
+pub use store::Store;

@@ -1,0 +1,160 @@
+//! How the journal of a zone is opened.
+
+ghost use Rattle.std.specs.Prelude.{◌≡◌, ◌<◌, ◌^◌, IfOk, IfErr, IfSome, IsSomeAnd, IsErrOf};
+ghost use Rattle.dns_name.specs.Name.{fold_of};
+ghost use Rattle.dns_keeper.specs.Crash.{LeavesTold, LeavesNoOther};
+ghost use Rattle.dns_store.specs.Crash.{LeavesRows, LeavesOpened, LeavesOpening, LeavesUnopened, LeavesStoreOn};
+ghost use Rattle.dns_store.specs.Opening.{HadNoRow, Begins, BeginsNot, BeginsNotWith, Recovers, RecoversNot, Opens, OpensNot};
+
+use crate::opening_records::opening_of;
+use crate::recovering::{Recovered, keeper_kind, read_back};
+use crate::store::Store;
+use dns_keeper::{KeepFault, Keeper};
+use dns_name::Name;
+use dns_zone::{ReplayKind, Zone};
+use std::alloc::Global;
+
+/// Why a store was not opened.
+#[derive(Clone, Copy, Debug, PartialEq, Eq)]
+pub enum OpenKind {
+    /// The rows are no zone's: they end at this one.
+    Recovery {
+        /// The id of the first row that is refused; where no SOA is left at the end, of the last row, or 0 without rows.
+        row: i64,
+        /// Why it is refused.
+        kind: ReplayKind,
+    },
+    /// The keeper failed, and counted it.
+    KeeperFault,
+    /// The journal has no rows, and there is no zone to begin it with.
+    NoZone,
+    /// Memory ran out.
+    OutOfMemory,
+}
+
+/// Why a store was not opened, and the keeper, whose rows are as before.
+#[derive(Drop)]
+pub struct OpenFault<K> {
+    /// The cause.
+    pub kind: OpenKind,
+    /// What was handed in.
+    pub keeper: K,
+}
+
+/// Why a journal was not begun, and the keeper, whose rows are as before.
+#[derive(Drop)]
+pub struct BeginFault<K> {
+    /// The keeper's fault, or that memory ran out.
+    pub fault: KeepFault,
+    /// What was handed in.
+    pub keeper: K,
+}
+
+impl<K: Keeper> Store<K> {
+    /// Opens a journal. One with rows is read back ([`Store::recover`]), and the zone is not used; one without rows is begun
+    /// with the zone at this moment ([`Store::begin`]; milliseconds, below 2^47). A refusal leaves the rows as before. Where a crash
+    /// might leave just the rows before, what it may leave from now on goes on past the rows by one batch at most.
+    pub fn open(
+        alloc: Global,
+        mut keeper: K,
+        origin: Name,
+        moment: u64,
+        zone: Option<Zone>,
+    ) -> Result<Store<K>, OpenFault<K>>
+        requires moment { moment < 2 ^ 47 }
+        requires origin { IfSome zone (λ z. z.origin ≡ fold_of origin) }
+        ensures ok { IfOk result (Opens K.keeper (K.keeper.told keeper) origin zone moment) }
+        ensures err { IfErr result (λ f. OpensNot (K.keeper.told keeper) (K.keeper.told f.keeper) origin zone f.kind) }
+        ensures left { IfOk result (λ store. LeavesOpened K.keeper keeper store.keeper) }
+        ensures left_unopened { IfErr result (λ f. LeavesUnopened K.keeper zone moment keeper f.keeper) }
+        ensures left_on { LeavesRows K.keeper keeper → IfOk result (LeavesStoreOn K.keeper) }
+    {
+        match keeper.row_from(i64::MIN) {
+            Ok(None) => begin_with(alloc, keeper, moment, zone),
+            Ok(Some(_)) => Store::recover(alloc, keeper, &origin),
+            Err(fault) => refuse(keeper_kind(fault), keeper),
+        }
+    }
+
+    /// Begins the journal of a keeper that was looked at (`Keeper::row_from` of the least id) and has no row: one append
+    /// at this moment (milliseconds, below 2^47) of a snapshot row and the zone's records, all with the SOA's serial and
+    /// client 0. A refusal leaves the rows as before.
+    pub fn begin(
+        alloc: Global,
+        mut keeper: K,
+        moment: u64,
+        zone: Zone,
+    ) -> Result<Store<K>, BeginFault<K>>
+        requires moment { moment < 2 ^ 47 }
+        requires empty { HadNoRow (K.keeper.told keeper).rows (K.keeper.told keeper).rows }
+        ensures ok { IfOk result (Begins K.keeper (K.keeper.told keeper) zone moment) }
+        ensures err { IfErr result (λ f. BeginsNot (K.keeper.told keeper) (K.keeper.told f.keeper) f.fault) }
+        ensures left { IfOk result (λ store. LeavesRows K.keeper store.keeper) }
+        ensures left_unopened { IfErr result (λ f. LeavesOpening K.keeper zone moment keeper f.keeper) }
+    {
+        let Ok(records) = opening_of(alloc, &zone) else {
+            return Err(BeginFault {
+                fault: KeepFault::OutOfMemory,
+                keeper,
+            });
+        };
+        match keeper.append(0, zone.serial(), moment, &records) {
+            Ok(()) => Ok(Store {
+                keeper,
+                row_count: records.len() as u64,
+                zone,
+                alloc,
+            }),
+            Err(fault) => Err(BeginFault { fault, keeper }),
+        }
+    }
+
+    /// Reads a journal back, row by row from the least id on: the zone that its rows stand for, whose origin this is, in
+    /// whatever case. Rows that are no zone's are refused with the first that is wrong, and no rows as none with an SOA.
+    /// The rows stay as they are.
+    pub fn recover(alloc: Global, mut keeper: K, origin: &Name) -> Result<Store<K>, OpenFault<K>>
+        ensures ok { IfOk result (Recovers K.keeper (K.keeper.told keeper) origin.now) }
+        ensures err { IfErr result (λ f. RecoversNot (K.keeper.told keeper) (K.keeper.told f.keeper) origin.now f.kind) }
+        ensures left { IfOk result (λ store. LeavesNoOther (K.keeper.may_leave keeper) (K.keeper.may_leave store.keeper)) }
+        ensures left_unopened { IfErr result (λ f. LeavesNoOther (K.keeper.may_leave keeper) (K.keeper.may_leave f.keeper)) }
+    {
+        match read_back(alloc, &mut keeper, origin) {
+            Ok(Recovered { zone, row_count }) => Ok(Store {
+                keeper,
+                row_count,
+                zone,
+                alloc,
+            }),
+            Err(kind) => refuse(kind, keeper),
+        }
+    }
+}
+
+/// Begins the journal of a keeper that has no row, where there is a zone.
+fn begin_with<K: Keeper>(
+    alloc: Global,
+    keeper: K,
+    moment: u64,
+    zone: Option<Zone>,
+) -> Result<Store<K>, OpenFault<K>>
+    requires moment { moment < 2 ^ 47 }
+    requires empty { HadNoRow (K.keeper.told keeper).rows (K.keeper.told keeper).rows }
+    ensures ok { IfOk result (λ store. IsSomeAnd zone (λ z. Begins K.keeper (K.keeper.told keeper) z moment store)) }
+    ensures err { IfErr result (λ f. BeginsNotWith (K.keeper.told keeper) (K.keeper.told f.keeper) zone f.kind) }
+    ensures left { IfOk result (λ store. LeavesRows K.keeper store.keeper) }
+    ensures left_unopened { IfErr result (λ f. LeavesUnopened K.keeper zone moment keeper f.keeper) }
+{
+    let Some(zone) = zone else {
+        return refuse(OpenKind::NoZone, keeper);
+    };
+    match Store::begin(alloc, keeper, moment, zone) {
+        Ok(store) => Ok(store),
+        Err(fault) => refuse(keeper_kind(fault.fault), fault.keeper),
+    }
+}
+
+fn refuse<K: Keeper>(kind: OpenKind, keeper: K) -> Result<Store<K>, OpenFault<K>>
+    ensures { IsErrOf result (record { kind = kind; keeper = keeper }) }
+{
+    Err(OpenFault { kind, keeper })
+}
