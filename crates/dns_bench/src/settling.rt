@@ -17,7 +17,7 @@ pub fn settle_turns<K: Keeper>(
     turns: u64,
 ) -> Result<u64, BenchFault>
     requires { All CanBeSettled asks.now }
-    ensures { IfOk result (λ bytes. OverAndOver K.rows K.faults access.now book.old asks.now turns bytes book.new) }
+    ensures { IfOk result (λ bytes. OverAndOver K.keeper access.now book.old asks.now turns bytes book.new) }
 {
     let mut reply = Vec::new(alloc);
     let mut bytes = 0u64;
@@ -37,7 +37,7 @@ fn settle_each<K: Keeper>(
     reply: &mut Vec<u8>,
 ) -> Result<u64, BenchFault>
     requires { All CanBeSettled asks.now }
-    ensures { IfOk result (λ bytes. InTurn K.rows K.faults access.now book.old asks.now bytes book.new) }
+    ensures { IfOk result (λ bytes. InTurn K.keeper access.now book.old asks.now bytes book.new) }
 {
     let mut bytes = 0u64;
     for ask in asks {
@@ -55,7 +55,7 @@ fn settle_one<K: Keeper>(
     reply: &mut Vec<u8>,
 ) -> Result<u64, BenchFault>
     requires { CanBeSettled ask.now }
-    ensures { IfOk result (λ bytes. SettlesOne K.rows K.faults access.now book.old ask.now bytes book.new) }
+    ensures { IfOk result (λ bytes. SettlesOne K.keeper access.now book.old ask.now bytes book.new) }
 {
     reply.clear();
     let _into = book.settle_into(access, ask, reply, false)?;

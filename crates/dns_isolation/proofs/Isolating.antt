@@ -2,7 +2,7 @@
 use Rattle.std.proofs.Common.{◌≡◌, ℕ, List, ◌++◌, map, Option, sym, ap, ◌∙◌, subst, arith}
 use Rattle.std.proofs.lemmas.List.{map-append}
 use Rattle.std.proofs.lemmas.List.Elements.{filter-append}
-use Rattle.dns_keeper.specs.declared.row.Row.{Row}
+use Rattle.dns_keeper.specs.Keeping.{KeeperOf}
 use Rattle.dns_book.specs.Access.{Access}
 use Rattle.dns_book.specs.Book.{SeenOf, Settles}
 use Rattle.dns_server_core.specs.declared.event.Event.{Event}
@@ -22,25 +22,25 @@ replies-append r xs ys = ap (map (λ (o : Out). o.bytes)) (filter-append (λ (o 
 same_messages : (kept : Kept) (r : Receiver) (events others : List Event) → without_others r events ≡ without_others r others → messages_to r (done kept events) ≡ messages_to r (done kept others)
 same_messages kept r events others same = own-done kept r events ∙ ap (done kept) same ∙ sym (own-done kept r others)
 
-module _ {K : Type 0} (rows : K → Option (List Row)) (faults : K → ℕ) (one : OneAnswer) (access : Access) (kept : Kept) (r : Receiver) where
-  seen : (messages : List Completed) (a b : SeenOf K) (outs : List Out) → IsQuiet faults r messages a b → Run (Settles rows faults access) a messages outs b → OwnRun rows faults access a (messages_to r messages) (sent_for r outs) b
-  seen messages a b outs quiet ran = own-run rows faults access r a b messages outs quiet.queries (omega (arith, quiet.faultless)) quiet.below ran
+module _ {K : Type 0} (keeper : KeeperOf K) (one : OneAnswer) (access : Access) (kept : Kept) (r : Receiver) where
+  seen : (messages : List Completed) (a b : SeenOf K) (outs : List Out) → IsQuiet keeper r messages a b → Run (Settles keeper access) a messages outs b → OwnRun keeper access a (messages_to r messages) (sent_for r outs) b
+  seen messages a b outs quiet ran = own-run keeper access r a b messages outs quiet.queries (omega (arith, quiet.faultless)) quiet.below ran
 
-  pub isolated_runs : (events others : List Event) (a b later last : SeenOf K) (outs sent : List Out) → without_others r events ≡ without_others r others → AreAlike rows a b
-      → IsQuiet faults r (done kept events) a later → Run (Settles rows faults access) a (done kept events) outs later
-      → IsQuiet faults r (done kept others) b last → Run (Settles rows faults access) b (done kept others) sent last
-      → (replies_to r outs ≡ replies_to r sent) × AreAlike rows later last
+  pub isolated_runs : (events others : List Event) (a b later last : SeenOf K) (outs sent : List Out) → without_others r events ≡ without_others r others → AreAlike keeper a b
+      → IsQuiet keeper r (done kept events) a later → Run (Settles keeper access) a (done kept events) outs later
+      → IsQuiet keeper r (done kept others) b last → Run (Settles keeper access) b (done kept others) sent last
+      → (replies_to r outs ≡ replies_to r sent) × AreAlike keeper later last
   isolated_runs events others a b later last outs sent same alike quiet ran still went =
-      let second : OwnRun rows faults access b (messages_to r (done kept events)) (sent_for r sent) last =
-      subst (λ (l : List Completed). OwnRun rows faults access b l (sent_for r sent) last) (sym (same_messages kept r events others same)) (seen (done kept others) b last sent still went) in
-      let both = same-run rows faults access one (messages_to r (done kept events)) a b later last (sent_for r outs) (sent_for r sent) (seen (done kept events) a later outs quiet ran) second alike in
+      let second : OwnRun keeper access b (messages_to r (done kept events)) (sent_for r sent) last =
+      subst (λ (l : List Completed). OwnRun keeper access b l (sent_for r sent) last) (sym (same_messages kept r events others same)) (seen (done kept others) b last sent still went) in
+      let both = same-run keeper access one (messages_to r (done kept events)) a b later last (sent_for r outs) (sent_for r sent) (seen (done kept events) a later outs quiet ran) second alike in
       (ap (map (λ (o : Out). o.bytes)) both.0, both.1)
 
-  pub isolated_answers : (events others : List Event) (a b later last : SeenOf K) (old new before after : List Out) → without_others r events ≡ without_others r others → AreAlike rows a b
+  pub isolated_answers : (events others : List Event) (a b later last : SeenOf K) (old new before after : List Out) → without_others r events ≡ without_others r others → AreAlike keeper a b
       → replies_to r old ≡ replies_to r before
-      → IsQuiet faults r (done kept events) a later → Answers (Settles rows faults access) a (done kept events) later old new
-      → IsQuiet faults r (done kept others) b last → Answers (Settles rows faults access) b (done kept others) last before after
-      → (replies_to r new ≡ replies_to r after) × AreAlike rows later last
+      → IsQuiet keeper r (done kept events) a later → Answers (Settles keeper access) a (done kept events) later old new
+      → IsQuiet keeper r (done kept others) b last → Answers (Settles keeper access) b (done kept others) last before after
+      → (replies_to r new ≡ replies_to r after) × AreAlike keeper later last
   isolated_answers events others a b later last old new before after same alike begun quiet x still y =
       let both = isolated_runs events others a b later last x.outs y.outs same alike quiet x.run still y.run in (
         ap (replies_to r) x.added

@@ -5,7 +5,7 @@ use Rattle.std.proofs.lemmas.Bool.{ne_eqb}
 use Rattle.dns_wire.specs.declared.message.Message.{Message}
 use Rattle.dns_wire.specs.declared.question.Question.{Question}
 use Rattle.dns_wire.specs.declared.record.Record.{Record}
-use Rattle.dns_keeper.specs.declared.row.Row.{Row}
+use Rattle.dns_keeper.specs.Keeping.{KeeperOf}
 use Rattle.dns_zone_map.specs.Zone.{Contents}
 use Rattle.dns_book.specs.declared.ask.Ask.{Ask}
 use Rattle.dns_book.specs.declared.ask.Receipt.{Receipt}
@@ -39,17 +39,17 @@ no_records zone access ask allow_update _ other (shut_out h e out q asked) = ref
 no_records zone access ask allow_update _ other (malformed h e let_in none) = refl
 no_records zone access ask allow_update _ other (read h e let_in m at) = none_read zone allow_update m (other m.header at.header)
 
-ends_idle : {K : Type 0} (rows : K → Option (List Row)) (faults : K → ℕ) (before : SeenOf K) (ask : Ask) (batch : List Record) (fails : Bool) (receipt : Option Receipt) (ended : SeenOf K)
-    → Ends rows faults before ask batch fails receipt ended → batch ≡ [] → (ended ≡ before) × (receipt ≡ None)
-ends_idle rows faults before ask batch _ _ _ (idle none) e = (refl, refl)
-ends_idle rows faults before ask batch _ _ _ (journalled some keeper grew later) e = absurd (omega (arith, some, ap length e))
-ends_idle rows faults before ask batch _ _ _ (failed some keeper kept later rose) e = absurd (omega (arith, some, ap length e))
+ends_idle : {K : Type 0} (keeper : KeeperOf K) (before : SeenOf K) (ask : Ask) (batch : List Record) (fails : Bool) (receipt : Option Receipt) (ended : SeenOf K)
+    → Ends keeper before ask batch fails receipt ended → batch ≡ [] → (ended ≡ before) × (receipt ≡ None)
+ends_idle keeper before ask batch _ _ _ (idle none) e = (refl, refl)
+ends_idle keeper before ask batch _ _ _ (journalled some held grew later) e = absurd (omega (arith, some, ap length e))
+ends_idle keeper before ask batch _ _ _ (failed some held kept later rose) e = absurd (omega (arith, some, ap length e))
 
-pub Settles-unchanged : {K : Type 0} (rows : K → Option (List Row)) (faults : K → ℕ) (access : Access) (before after : SeenOf K) (ask : Ask) (settled : Settled) → Settles rows faults access before ask settled after
+pub Settles-unchanged : {K : Type 0} (keeper : KeeperOf K) (access : Access) (before after : SeenOf K) (ask : Ask) (settled : Settled) → Settles keeper access before ask settled after
     → IsNoUpdate ask.bytes → IsUnchanged before after × (settled.receipt ≡ None)
-Settles-unchanged {K} rows faults access before after ask settled is other =
+Settles-unchanged {K} keeper access before after ask settled is other =
     let none : batch_by before.zone before.allow_update is.reply.decision ≡ [] = no_records before.zone access ask before.allow_update is.reply.decision other is.reply.decided in
-    let same = ends_idle rows faults before ask (batch_by before.zone before.allow_update is.reply.decision) is.failed settled.receipt is.ended is.ends none in
+    let same = ends_idle keeper before ask (batch_by before.zone before.allow_update is.reply.decision) is.failed settled.receipt is.ended is.ends none in
     let counts : List (List ℕ) = counts_after (grounds_of before is.failed) is.reply.decision settled.reply is.ended.counts in (
       is.counted
           ∙ ap (λ (b : SeenOf K). record b { counts = counts }) same.0

@@ -4,6 +4,7 @@ use Rattle.std.specs.List.{AllByRecursion}
 use Rattle.dns_wire.specs.declared.header.Header.{Header}
 use Rattle.dns_wire.specs.Header.{header_of}
 use Rattle.dns_keeper.specs.declared.row.Row.{Row}
+use Rattle.dns_keeper.specs.Keeping.{KeeperOf}
 use Rattle.dns_book.specs.Book.{SeenOf}
 use Rattle.dns_server_core.specs.declared.event.Receiver.{Receiver}
 use Rattle.dns_server_core.specs.Runs.{Completed}
@@ -19,10 +20,10 @@ OthersUpdateNothing receiver messages = AllByRecursion (λ c. is_one receiver c.
 
 -- what is asked of a run over messages: no message of another receiver is an update, and the keeper failed at none, since its
 -- count of faults did not rise and is below its last value
-pub record IsQuiet {K : Type 0} (faults : K → ℕ) (receiver : Receiver) (messages : List Completed) (before after : SeenOf K) : Type 0 where
+pub record IsQuiet {K : Type 0} (keeper : KeeperOf K) (receiver : Receiver) (messages : List Completed) (before after : SeenOf K) : Type 0 where
   pub queries : OthersUpdateNothing receiver messages
-  pub faultless : faults after.keeper ≡ faults before.keeper
-  pub below : faults before.keeper < 2 ^ 64 - 1
+  pub faultless : (keeper.told after.keeper).faults ≡ (keeper.told before.keeper).faults
+  pub below : (keeper.told before.keeper).faults < 2 ^ 64 - 1
 
 -- the same rows, where both are told
 abbrev pub AgreeOn : Option (List Row) → Option (List Row) → Type 0
@@ -32,11 +33,11 @@ AgreeOn (Some a) (Some b) = a ≡ b
 
 -- two books with one zone, one rule on whether updates are let in, and one journal as far as both keepers tell it; what they
 -- counted may differ
-pub record AreAlike {K : Type 0} (rows : K → Option (List Row)) (a b : SeenOf K) : Type 0 where
+pub record AreAlike {K : Type 0} (keeper : KeeperOf K) (a b : SeenOf K) : Type 0 where
   pub zone : a.zone ≡ b.zone
   pub allow_update : a.allow_update ≡ b.allow_update
   pub row_count : a.row_count ≡ b.row_count
-  pub told : AgreeOn (rows a.keeper) (rows b.keeper)
+  pub told : AgreeOn (keeper.told a.keeper).rows (keeper.told b.keeper).rows
 
 -- a book in which nothing has changed but what it counted
 abbrev pub IsUnchanged : {K : Type 0} → SeenOf K → SeenOf K → Type 0

@@ -21,7 +21,7 @@ use Rattle.dns_wire.specs.Written.{question_list, shortened, Written}
 use Rattle.dns_wire.proofs.ItemsDetermined.{QuestionAt-one}
 use Rattle.dns_wire.proofs.MessageDetermined.{messages_one}
 use Rattle.dns_wire.proofs.Messaging.{message_alone}
-use Rattle.dns_keeper.specs.declared.row.Row.{Row}
+use Rattle.dns_keeper.specs.Keeping.{KeeperOf}
 use Rattle.dns_zone_map.specs.Zone.{Contents}
 use Rattle.dns_update.specs.declared.verdict.Verdict.{Verdict}
 use Rattle.dns_update.specs.declared.verdict.Verdict.TheVariants.{Fails, Passes}
@@ -213,38 +213,38 @@ written-owed protocol (Some r) owed bytes (Some b) written is given =
     subst P (some_same is) (subst Q (some_same given) written)
 
 -- an update that was settled is answered
-SettlesUpdate-replies : {K : Type 0} (rows : K → Option (List Row)) (faults : K → ℕ) (access : Access) (before : SeenOf K) (m : Message) (bytes : List ℕ) (code : ℕ) (after : SeenOf K)
-    → SettlesUpdate rows faults access before m bytes code after → Replies m.header.id bytes code
-SettlesUpdate-replies rows faults access before m bytes code after s =
+SettlesUpdate-replies : {K : Type 0} (keeper : KeeperOf K) (access : Access) (before : SeenOf K) (m : Message) (bytes : List ℕ) (code : ℕ) (after : SeenOf K)
+    → SettlesUpdate keeper access before m bytes code after → Replies m.header.id bytes code
+SettlesUpdate-replies keeper access before m bytes code after s =
     let P : List ℕ → Type 0 = λ (l : List ℕ). MessageAt l (counted m) in
     let at : MessageAt s.ask.bytes (counted m) = subst P (sym s.asked) (message_alone m s.update.kept s.update.plain s.update.short.short) in
     replies-by m s.ask.protocol s.owed bytes code s.update.kept.id s.protocol
     (bare-owed (grounds_of before s.settles.failed) access s.ask m s.settles.reply.decision s.owed s.update at s.settles.reply.decided s.is_owed)
     (written-owed s.ask.protocol (option_map (reply_of (grounds_of before s.settles.failed)) s.settles.reply.decision) s.owed bytes s.settled.reply s.settles.reply.written s.is_owed s.answered) s.says
 
-pub SettlesUpdates-exchange : {K : Type 0} (rows : K → Option (List Row)) (faults : K → ℕ) (access : Access) (before after : SeenOf K) (messages : List Message) (replies : List (List ℕ)) (codes : List ℕ)
-    → SettlesUpdates rows faults access before messages replies codes after → Exchanges messages replies codes
-SettlesUpdates-exchange rows faults access before after [] [] [] s = tt
-SettlesUpdates-exchange rows faults access before after [] [] (c ∷ codes) s = absurd s
-SettlesUpdates-exchange rows faults access before after [] (b ∷ replies) codes s = absurd s
-SettlesUpdates-exchange rows faults access before after (m ∷ messages) [] codes s = absurd s
-SettlesUpdates-exchange rows faults access before after (m ∷ messages) (b ∷ replies) [] s = absurd s
-SettlesUpdates-exchange rows faults access before after (m ∷ messages) (b ∷ replies) (c ∷ codes) s =
-    (s.1.update.short, SettlesUpdate-replies rows faults access before m b c s.0 s.1, SettlesUpdates-exchange rows faults access s.0 after messages replies codes s.2)
+pub SettlesUpdates-exchange : {K : Type 0} (keeper : KeeperOf K) (access : Access) (before after : SeenOf K) (messages : List Message) (replies : List (List ℕ)) (codes : List ℕ)
+    → SettlesUpdates keeper access before messages replies codes after → Exchanges messages replies codes
+SettlesUpdates-exchange keeper access before after [] [] [] s = tt
+SettlesUpdates-exchange keeper access before after [] [] (c ∷ codes) s = absurd s
+SettlesUpdates-exchange keeper access before after [] (b ∷ replies) codes s = absurd s
+SettlesUpdates-exchange keeper access before after (m ∷ messages) [] codes s = absurd s
+SettlesUpdates-exchange keeper access before after (m ∷ messages) (b ∷ replies) [] s = absurd s
+SettlesUpdates-exchange keeper access before after (m ∷ messages) (b ∷ replies) (c ∷ codes) s =
+    (s.1.update.short, SettlesUpdate-replies keeper access before m b c s.0 s.1, SettlesUpdates-exchange keeper access s.0 after messages replies codes s.2)
 
 -- the exchange that the input has
 held : (messages : List Message) (replies : List (List ℕ)) (codes more : List ℕ) → Exchanges messages replies codes → Answers messages codes (Some (frames_of replies ++ more)) (Some more) None None
 held messages replies codes more done = record { replies = replies; answered = done; received = refl; sent = tt }
 
-pub SettlesUpdates-codes : {K : Type 0} (rows : K → Option (List Row)) (faults : K → ℕ) (access : Access) (before after : SeenOf K) (messages : List Message) (replies : List (List ℕ)) (codes more given rest : List ℕ) (p q : Option (List ℕ))
-    → SettlesUpdates rows faults access before messages replies codes after → Answers messages given (Some (frames_of replies ++ more)) (Some rest) p q → given ≡ codes
-SettlesUpdates-codes rows faults access before after messages replies codes more given rest p q s answers =
-    Answers-codes messages given codes (frames_of replies ++ more) rest more p q None None answers (held messages replies codes more (SettlesUpdates-exchange rows faults access before after messages replies codes s))
+pub SettlesUpdates-codes : {K : Type 0} (keeper : KeeperOf K) (access : Access) (before after : SeenOf K) (messages : List Message) (replies : List (List ℕ)) (codes more given rest : List ℕ) (p q : Option (List ℕ))
+    → SettlesUpdates keeper access before messages replies codes after → Answers messages given (Some (frames_of replies ++ more)) (Some rest) p q → given ≡ codes
+SettlesUpdates-codes keeper access before after messages replies codes more given rest p q s answers =
+    Answers-codes messages given codes (frames_of replies ++ more) rest more p q None None answers (held messages replies codes more (SettlesUpdates-exchange keeper access before after messages replies codes s))
 
-pub SettlesUpdates-answered : {K : Type 0} (rows : K → Option (List Row)) (faults : K → ℕ) (access : Access) (before after : SeenOf K) (messages : List Message) (replies : List (List ℕ)) (codes more rest : List ℕ) (fault : SubmitFault) (p q : Option (List ℕ))
-    → SettlesUpdates rows faults access before messages replies codes after → StopsAt messages fault (Some (frames_of replies ++ more)) (Some rest) p q → IsDecided fault → ⊥
-SettlesUpdates-answered rows faults access before after messages replies codes more rest fault p q s stops decided =
-    Answers-not messages codes (frames_of replies ++ more) more rest fault None None p q (held messages replies codes more (SettlesUpdates-exchange rows faults access before after messages replies codes s)) stops decided
+pub SettlesUpdates-answered : {K : Type 0} (keeper : KeeperOf K) (access : Access) (before after : SeenOf K) (messages : List Message) (replies : List (List ℕ)) (codes more rest : List ℕ) (fault : SubmitFault) (p q : Option (List ℕ))
+    → SettlesUpdates keeper access before messages replies codes after → StopsAt messages fault (Some (frames_of replies ++ more)) (Some rest) p q → IsDecided fault → ⊥
+SettlesUpdates-answered keeper access before after messages replies codes more rest fault p q s stops decided =
+    Answers-not messages codes (frames_of replies ++ more) more rest fault None None p q (held messages replies codes more (SettlesUpdates-exchange keeper access before after messages replies codes s)) stops decided
 
 -- an update in its written form, from a safe source, is a request
 request-made : (ask : Ask) (h : Header) → IsSafe ask.source → header_of ask.bytes ≡ Some h → h.qr ≡ false → request_of ask ≡ Some h
@@ -263,9 +263,9 @@ owed-there grounds access ask h _ told (malformed g e let_in none) asks written 
 owed-there grounds access ask h _ told (read g e let_in n at) asks written = reply-there ask.protocol _ told written
 
 -- it is owed a reply
-pub Settles-replied : {K : Type 0} (rows : K → Option (List Row)) (faults : K → ℕ) (access : Access) (before after : SeenOf K) (m : Message) (ask : Ask) (settled : Settled)
-    → IsUpdate m → m.header.qr ≡ false → ask.bytes ≡ message_bytes m → IsSafe ask.source → Settles rows faults access before ask settled after → (bytes : List ℕ) × (settled.reply ≡ Some bytes)
-Settles-replied rows faults access before after m ask settled update asks asked safe s =
+pub Settles-replied : {K : Type 0} (keeper : KeeperOf K) (access : Access) (before after : SeenOf K) (m : Message) (ask : Ask) (settled : Settled)
+    → IsUpdate m → m.header.qr ≡ false → ask.bytes ≡ message_bytes m → IsSafe ask.source → Settles keeper access before ask settled after → (bytes : List ℕ) × (settled.reply ≡ Some bytes)
+Settles-replied keeper access before after m ask settled update asks asked safe s =
     let P : List ℕ → Type 0 = λ (l : List ℕ). MessageAt l (counted m) in
     let at : MessageAt ask.bytes (counted m) = subst P (sym asked) (message_alone m update.kept update.plain update.short.short) in
     owed-there (grounds_of before s.failed) access ask (counted m).header s.reply.decision settled.reply s.reply.decided (request-made ask (counted m).header safe at.header asks) s.reply.written

@@ -33,16 +33,16 @@ pub fn decided_exchanges()
 /// runs out.
 pub fn answered_updates<K: Keeper>()
     ensures exchanged { (access : Access) (before after : SeenOf K) (messages : List Message) (replies : List (List ℕ)) (codes : List ℕ)
-        → SettlesUpdates K.rows K.faults access before messages replies codes after → Exchanges messages replies codes }
+        → SettlesUpdates K.keeper access before messages replies codes after → Exchanges messages replies codes }
     ensures codes { (access : Access) (before after : SeenOf K) (messages : List Message) (replies : List (List ℕ)) (codes more given rest : List ℕ) (p q : Option (List ℕ))
-        → SettlesUpdates K.rows K.faults access before messages replies codes after
+        → SettlesUpdates K.keeper access before messages replies codes after
         → Answers messages given (Some (frames_of replies ++ more)) (Some rest) p q → given ≡ codes }
     ensures answered { (access : Access) (before after : SeenOf K) (messages : List Message) (replies : List (List ℕ)) (codes more rest : List ℕ) (f : Fault) (p q : Option (List ℕ))
-        → SettlesUpdates K.rows K.faults access before messages replies codes after
+        → SettlesUpdates K.keeper access before messages replies codes after
         → StopsAt messages f (Some (frames_of replies ++ more)) (Some rest) p q → IsDecided f → ⊥ }
     // From a safe source an update that says it is a request is owed a reply.
     ensures replied { (access : Access) (before after : SeenOf K) (m : Message) (ask : Asked) (settled : Done) → IsUpdate m → m.header.qr ≡ false
-        → ask.bytes ≡ message_bytes m → IsSafe ask.source → Settles K.rows K.faults access before ask settled after
+        → ask.bytes ≡ message_bytes m → IsSafe ask.source → Settles K.keeper access before ask settled after
         → (bytes : List ℕ) × (settled.reply ≡ Some bytes) }
 {}
 

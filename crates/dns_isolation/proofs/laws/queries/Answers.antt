@@ -2,4 +2,4 @@ use Rattle.dns_isolation.proofs.Unchanged.{Settles-unchanged}
 use Rattle.dns_isolation.proofs.laws.queries.Goals as goal
 
 pub returns : goal.returns
-returns g c = record { unchanged = Settles-unchanged g.K.Keeper.rows g.K.Keeper.faults }
+returns g c = record { unchanged = Settles-unchanged g.K.Keeper.keeper }
