@@ -8,7 +8,7 @@ use Rattle.dns_io.specs.Told.{Rose}
 use Rattle.dns_server_core.specs.Books.{RoseBy}
 use Rattle.dns_transport.specs.declared.error.NetError.{NetError}
 use Rattle.dns_transport.specs.declared.error.NetError.TheVariants as net
-use Rattle.dns_keeper.specs.declared.row.Row.{Row}
+use Rattle.dns_keeper.specs.Keeping.{KeeperOf}
 use Rattle.dns_book.specs.Access.{Access}
 use Rattle.dns_edges.specs.Edges.{Around, SourceTold}
 use Rattle.dns_ports.specs.Ports.{UdpTold, TcpTold, ListenerOf}
@@ -93,11 +93,11 @@ rose_at_least : (n before now : ℕ) → RoseBy (n + 1) before now → Rose befo
 rose_at_least n before now r = omega (arith, r)
 
 -- a worker that failed
-module _ {K : Type 0} (krows : K → Option (List Row)) (kfaults : K → ℕ) where
-  pub socket_rose : {U : Type 0} (socket : U → UdpTold) (access : Access) (a b : Worker U) → ServedSocket krows kfaults socket access a b → b.answer ≡ Err Failed → RoseAt (λ port. (socket port).faults) a b
+module _ {K : Type 0} (keeper : KeeperOf K) where
+  pub socket_rose : {U : Type 0} (socket : U → UdpTold) (access : Access) (a b : Worker U) → ServedSocket keeper socket access a b → b.answer ≡ Err Failed → RoseAt (λ port. (socket port).faults) a b
   socket_rose socket access a b s e =
-      rose_at_least (sockets.failures s.works.work.handled) _ _ (subst (sockets.EndsBy (SettledBy krows kfaults access) LeftBy socket (post_of a) (post_of b) s.works.work.handled) e s.works.ends)
+      rose_at_least (sockets.failures s.works.work.handled) _ _ (subst (sockets.EndsBy (SettledBy keeper access) LeftBy socket (post_of a) (post_of b) s.works.work.handled) e s.works.ends)
 
-  pub listener_rose : {T R W C : Type 0} (listener : ListenerOf T R W C) (access : Access) (a b : Worker T) → ServedListener krows kfaults listener access a b → b.answer ≡ Err Failed
+  pub listener_rose : {T R W C : Type 0} (listener : ListenerOf T R W C) (access : Access) (a b : Worker T) → ServedListener keeper listener access a b → b.answer ≡ Err Failed
       → RoseAt (λ port. (listener.told port).faults) a b
-  listener_rose listener access a b s e = subst (listeners.EndsBy (SettledBy krows kfaults access) LeftBy listener a.limit (post_of a) (post_of b) s.works.work.handled) e s.works.ends
+  listener_rose listener access a b s e = subst (listeners.EndsBy (SettledBy keeper access) LeftBy listener a.limit (post_of a) (post_of b) s.works.work.handled) e s.works.ends

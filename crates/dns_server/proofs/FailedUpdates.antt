@@ -1,14 +1,13 @@
 -- No more updates got ServFail than the keeper's count of faults rose.
-use Rattle.std.proofs.Common.{◌≡◌, ◌≤◌, ◌<◌, ◌+◌, ◌⊎◌, inl, inr, ⊎_elim, ℕ, suc, Bool, true, false, if◌then◌else◌, List, [], ◌∷◌, ◌++◌, Option, Some, None, Result, Ok, Err, refl, arith}
+use Rattle.std.proofs.Common.{◌≡◌, ◌≤◌, ◌<◌, ◌+◌, ◌⊎◌, inl, inr, ⊎_elim, ℕ, suc, Bool, true, false, if◌then◌else◌, List, [], ◌∷◌, ◌++◌, Option, Some, None, Result, Ok, Err, refl, ◌∙◌, arith}
 use mathlib.Core.Option.{some}
 use lib.ListN.{get_elem?}
-use Rattle.dns_wire.specs.declared.record.Record.{Record}
-use Rattle.dns_keeper.specs.declared.row.Row.{Row}
+use Rattle.dns_keeper.specs.Keeping.{KeeperOf}
 use Rattle.dns_book.specs.declared.ask.Ask.{Ask}
-use Rattle.dns_book.specs.declared.ask.Receipt.{Receipt}
 use Rattle.dns_book.specs.declared.ask.Settled.{Settled}
 use Rattle.dns_book.specs.Access.{Access}
-use Rattle.dns_book.specs.Book.{SeenOf, Ends as BatchEnds, idle, journalled, failed, Settles}
+use Rattle.dns_book.specs.Book.{SeenOf}
+use Rattle.dns_book.proofs.Failing.{Settles-later}
 use Rattle.dns_server_core.specs.Books.{RoseBy}
 use Rattle.dns_edges.specs.Edges.{SourceOf, SinkOf, ClockOf}
 use Rattle.dns_ports.specs.Ports.{UdpTold, ListenerOf}
@@ -29,10 +28,11 @@ use Rattle.dns_server.specs.Listeners.{HandedBack, TreatsBy, Run as ConnectionRu
 use Rattle.dns_server.specs.Servers.{Matches, ServedSocket, ServedListener, their_passes}
 use Rattle.dns_server.specs.FailedUpdates.{failed_by_step, failed_by_datagram, failed_by_datagrams, failed_by_messages, failed_by_serving, failed_by_connection, failed_by_connections, failed_by_socket, failed_by_listener, added_up}
 
--- the pass counted so many faults more at least, or it has the mark; and a mark stays
+-- the pass counted so many faults more at least, or it has the mark; and a mark stays. Where these are none it counted no more
 record GrewBy (n : ℕ) (p q : PassSeen) : Type 0 where
   few : (p.account.faults + n ≤ q.account.faults) ⊎ (q.account.marked ≡ true)
   mark : p.account.marked ≡ true → q.account.marked ≡ true
+  still : n ≡ 0 → q.account.faults ≡ p.account.faults
 
 few_more : (a b n x y z : ℕ) (marked marked' : Bool) → n ≡ a + b → (x + a ≤ y) ⊎ (marked ≡ true) → (y + b ≤ z) ⊎ (marked' ≡ true) → (marked ≡ true → marked' ≡ true) → (x + n ≤ z) ⊎ (marked' ≡ true)
 few_more a b n x y z marked marked' e (inl h) (inl k) keeps = inl (omega (arith, e, h, k))
@@ -43,69 +43,66 @@ GrewBy-more : (a b n : ℕ) (p q r : PassSeen) → n ≡ a + b → GrewBy a p q 
 GrewBy-more a b n p q r e g h = record {
   few = few_more a b n p.account.faults q.account.faults r.account.faults q.account.marked r.account.marked e g.few h.few h.mark;
   mark = λ m. h.mark (g.mark m);
+  still = λ none. h.still (omega (arith, e, none)) ∙ g.still (omega (arith, e, none));
 }
 
 and_none : (n : ℕ) → n ≡ n + 0
 and_none n = omega arith
 
 GrewBy-refl : (p : PassSeen) → GrewBy 0 p p
-GrewBy-refl p = record { few = inl (omega arith); mark = λ m. m }
+GrewBy-refl p = record { few = inl (omega arith); mark = λ m. m; still = λ none. refl }
 
 GrewBy-none : (p q : PassSeen) → q ≡ p → GrewBy 0 p q
 GrewBy-none p q e = rw e (GrewBy-refl p)
 
 GrewBy-left : (p q : PassSeen) → LeftBy p q → GrewBy 0 p q
-GrewBy-left p q l = record { few = inl (let e = l.account.faults in omega (arith, e)); mark = l.account.mark }
+GrewBy-left p q l = record { few = inl (let e = l.account.faults in omega (arith, e)); mark = l.account.mark; still = λ none. l.account.faults }
 
 few_by_step : (flag : Bool) (a b x y : ℕ) (marked : Bool) → b + x ≡ a + y → x ≤ y → (flag ≡ true → (a < b) ⊎ (marked ≡ true)) → (a + (if flag then 1 else 0) ≤ b) ⊎ (marked ≡ true)
 few_by_step true a b x y marked counted later fails = ⊎_elim (λ (less : a < b). inl (omega (arith, less))) (λ (m : marked ≡ true). inr m) (fails refl)
 few_by_step false a b x y marked counted later fails = inl (omega (arith, counted, later))
 
+no_failure : (flag : Bool) → (if flag then 1 else 0) ≡ 0 → flag ≡ false
+no_failure true none = absurd (omega (arith, none))
+no_failure false none = refl
+
 -- a run of steps by a pass
-module _ {K : Type 0} (krows : K → Option (List Row)) (kfaults : K → ℕ) (access : Access) where
-  batch_later : (before : SeenOf K) (ask : Ask) (batch : List Record) (flag : Bool) (receipt : Option Receipt) (after : SeenOf K) → BatchEnds krows kfaults before ask batch flag receipt after
-      → kfaults before.keeper ≤ kfaults after.keeper
-  batch_later before ask batch flag receipt after (idle none) = omega arith
-  batch_later before ask batch flag receipt after (journalled some_of keeper grown later) = omega (arith, later)
-  batch_later before ask batch flag receipt after (failed some_of keeper kept later rose) = omega (arith, later)
-
-  settles_later : (before : SeenOf K) (ask : Ask) (settled : Settled) (after : SeenOf K) → Settles krows kfaults access before ask settled after → kfaults before.keeper ≤ kfaults after.keeper
-  settles_later before ask settled after s = rw s.counted (batch_later before ask _ s.failed settled.receipt s.ended s.ends)
-
-  step_grew : (p : PassSeen) (ask : Ask) (settled : Settled) (q : PassSeen) → (s : SettledBy krows kfaults access p ask settled q) → GrewBy (failed_by_step krows kfaults access p ask settled q s) p q
+module _ {K : Type 0} (keeper : KeeperOf K) (access : Access) where
+  step_grew : (p : PassSeen) (ask : Ask) (settled : Settled) (q : PassSeen) → (s : SettledBy keeper access p ask settled q) → GrewBy (failed_by_step keeper access p ask settled q s) p q
   step_grew p ask settled q s = record {
-    few = few_by_step s.account.settles.failed p.account.faults q.account.faults (kfaults s.account.book.keeper) (kfaults s.account.later.keeper) q.account.marked
-        s.account.counted (settles_later s.account.book _ settled s.account.later s.account.settles) s.account.failed;
+    few = few_by_step s.account.settles.failed p.account.faults q.account.faults (keeper.told s.account.book.keeper).faults (keeper.told s.account.later.keeper).faults q.account.marked
+        s.account.counted (Settles-later keeper access s.account.book s.account.later _ settled s.account.settles) s.account.failed;
     mark = s.account.mark;
+    still = λ none. s.account.calm (no_failure s.account.settles.failed none);
   }
 
-  datagram_grew : (p : PassSeen) (ask : Ask) (fate : Fate) (q : PassSeen) → (s : Steps (SettledBy krows kfaults access) LeftBy p ask fate q) → GrewBy (failed_by_datagram krows kfaults access p ask fate q s) p q
+  datagram_grew : (p : PassSeen) (ask : Ask) (fate : Fate) (q : PassSeen) → (s : Steps (SettledBy keeper access) LeftBy p ask fate q) → GrewBy (failed_by_datagram keeper access p ask fate q s) p q
   datagram_grew p ask (Answered settled) q s = step_grew p ask settled q s
   datagram_grew p ask (Refused settled fault) q s = step_grew p ask settled q s.0
   datagram_grew p ask Skipped q s = ⊎_elim (λ (e : q ≡ p). GrewBy-none p q e) (λ (l : LeftBy p q). GrewBy-left p q l) s
 
-  datagrams_grew : (p : PassSeen) (handled : List Handled) (q : PassSeen) → (run : DatagramRun (SettledBy krows kfaults access) LeftBy p handled q)
-      → GrewBy (failed_by_datagrams krows kfaults access p handled q run) p q
+  datagrams_grew : (p : PassSeen) (handled : List Handled) (q : PassSeen) → (run : DatagramRun (SettledBy keeper access) LeftBy p handled q)
+      → GrewBy (failed_by_datagrams keeper access p handled q run) p q
   datagrams_grew p [] q run = GrewBy-none p q run
   datagrams_grew p (one ∷ others) q run =
       GrewBy-more _ _ _ p run.0 q refl (datagram_grew p (ask_for one.datagram) one.fate run.0 run.1) (datagrams_grew run.0 others q run.2)
 
-  messages_grew : (p : PassSeen) (asks : List Ask) (bytes : List ℕ) (q : PassSeen) → (run : MessageRun (SettledBy krows kfaults access) p asks bytes q)
-      → GrewBy (failed_by_messages krows kfaults access p asks bytes q run) p q
+  messages_grew : (p : PassSeen) (asks : List Ask) (bytes : List ℕ) (q : PassSeen) → (run : MessageRun (SettledBy keeper access) p asks bytes q)
+      → GrewBy (failed_by_messages keeper access p asks bytes q run) p q
   messages_grew p [] bytes q run = GrewBy-none p q run.0
   messages_grew p (ask ∷ asks) bytes q run =
       GrewBy-more _ _ _ p run.1 q refl (step_grew p ask run.0 run.1 run.3) (messages_grew run.1 asks run.2 q run.5)
 
-  breaks_grew : (p : PassSeen) (asks : List Ask) (q : PassSeen) (taken now : Option (List ℕ)) → (b : BreaksOff (SettledBy krows kfaults access) LeftBy p asks q taken now)
-      → GrewBy (failed_by_messages krows kfaults access p b.first b.answered.bytes b.last b.answered.run) p q
+  breaks_grew : (p : PassSeen) (asks : List Ask) (q : PassSeen) (taken now : Option (List ℕ)) → (b : BreaksOff (SettledBy keeper access) LeftBy p asks q taken now)
+      → GrewBy (failed_by_messages keeper access p b.first b.answered.bytes b.last b.answered.run) p q
   breaks_grew p asks q taken now b =
       GrewBy-more _ 0 _ p b.last q (and_none _)
       (messages_grew p b.first b.answered.bytes b.last b.answered.run)
       (⊎_elim (λ (e : q ≡ b.last). GrewBy-none b.last q e) (λ (l : LeftBy b.last q). GrewBy-left b.last q l) b.end)
 
   serving_grew : {S W C : Type 0} (source : SourceOf S) (sink : SinkOf W) (clock : ClockOf C) (terms : ServeTerms) (before after : Parts PassSeen S W C) (answer : Result ℕ ServeFault)
-      → (e : Ends (SettledBy krows kfaults access) LeftBy source sink clock terms before after answer)
-      → GrewBy (failed_by_serving krows kfaults access source sink clock terms before after answer e) before.handler after.handler
+      → (e : Ends (SettledBy keeper access) LeftBy source sink clock terms before after answer)
+      → GrewBy (failed_by_serving keeper access source sink clock terms before after answer e) before.handler after.handler
   serving_grew source sink clock terms before after (Ok n) e = messages_grew _ _ _ _ e.answers.run
   serving_grew source sink clock terms before after (Err Read) e = messages_grew _ _ _ _ e.answers.run
   serving_grew source sink clock terms before after (Err Write) e = messages_grew _ _ _ _ e.answers.run
@@ -115,14 +112,14 @@ module _ {K : Type 0} (krows : K → Option (List Row)) (kfaults : K → ℕ) (a
 
   module _ {R W C : Type 0} (source : SourceOf R) (sink : SinkOf W) (clock : ClockOf C) (limit : ℕ) where
     connection_grew : (p : PassSeen) (came back : Accepted R W C) (answer : Option (Result ℕ ServeFault)) (q : PassSeen)
-        → (t : TreatsBy (SettledBy krows kfaults access) LeftBy source sink clock limit p came back answer q)
-        → GrewBy (failed_by_connection krows kfaults access source sink clock limit p came back answer q t) p q
+        → (t : TreatsBy (SettledBy keeper access) LeftBy source sink clock limit p came back answer q)
+        → GrewBy (failed_by_connection keeper access source sink clock limit p came back answer q t) p q
     connection_grew p came back None q t = GrewBy-none p q t.still
     connection_grew p came back (Some answer) q t = serving_grew source sink clock _ _ _ answer t.ends
 
     connections_grew : (p : PassSeen) (handled : List (HandedBack R W C)) (q : PassSeen)
-        → (run : ConnectionRun (SettledBy krows kfaults access) LeftBy source sink clock limit p handled q)
-        → GrewBy (failed_by_connections krows kfaults access source sink clock limit p handled q run) p q
+        → (run : ConnectionRun (SettledBy keeper access) LeftBy source sink clock limit p handled q)
+        → GrewBy (failed_by_connections keeper access source sink clock limit p handled q run) p q
     connections_grew p [] q run = GrewBy-none p q run
     connections_grew p (one ∷ others) q run =
         GrewBy-more _ _ _ p run.0 q refl (connection_grew p one.came one.back one.answer run.0 run.1) (connections_grew run.0 others q run.2)
@@ -162,6 +159,16 @@ module _ {P : Type 0} {R : Worker P → Worker P → Type 0} (f : (x y : Worker 
   workers_grew (x ∷ xs) (y ∷ ys) m =
       few_with x.pass.account.faults (f x y m.0) (total pass_faults (their_passes xs)) (added_up f xs ys m.1) y.pass (their_passes ys) (grew x y m.0).few (workers_grew xs ys m.1)
 
+  -- where none failed they counted no more
+  workers_still : (xs ys : List (Worker P)) (m : Matches R xs ys) → added_up f xs ys m ≡ 0 → total pass_faults (their_passes ys) ≡ total pass_faults (their_passes xs)
+  workers_still [] [] m none = refl
+  workers_still [] (y ∷ ys) m none = absurd m
+  workers_still (x ∷ xs) [] m none = absurd m
+  workers_still (x ∷ xs) (y ∷ ys) m none =
+      let one : y.pass.account.faults ≡ x.pass.account.faults = (grew x y m.0).still (omega (arith, none)) in
+      let others : total pass_faults (their_passes ys) ≡ total pass_faults (their_passes xs) = workers_still xs ys m.1 (omega (arith, none)) in
+      omega (arith, one, others)
+
 rose_by_both : (a b n k : ℕ) (start now : ℕ) (ps qs : List PassSeen) → (a + n ≤ total pass_faults ps) ⊎ AnyMarked ps → (b + k ≤ total pass_faults qs) ⊎ AnyMarked qs
     → start + total pass_faults (ps ++ qs) ≡ now → (AnyMarked (ps ++ qs) → now ≡ last) → RoseBy (n + k) start now
 rose_by_both a b n k start now ps qs (inl h) (inl j) rise marked = let both = total_append pass_faults ps qs in omega (arith, h, j, rise, both)
@@ -170,13 +177,33 @@ rose_by_both a b n k start now ps qs (inr m) j rise marked = let e = marked (mar
 
 -- of a book that was closed for the passes of all workers, at most as many steps answered an update with ServFail as the keeper's count
 -- rose since it was shared, or that stands at its last value
-pub few_failed_updates : {K U T R W C : Type 0} (krows : K → Option (List Row)) (kfaults : K → ℕ) (access : Access) (socket : U → UdpTold) (listener : ListenerOf T R W C)
-    (xs ys : List (Worker U)) (m : Matches (ServedSocket krows kfaults socket access) xs ys) (vs ws : List (Worker T)) (n : Matches (ServedListener krows kfaults listener access) vs ws)
-    (t : Terms) (book : SeenOf K) → ClosedFor krows kfaults t (their_passes ys ++ their_passes ws) book
-    → RoseBy (added_up (failed_by_socket krows kfaults access socket) xs ys m + added_up (failed_by_listener krows kfaults access listener) vs ws n) t.start (kfaults book.keeper)
-few_failed_updates krows kfaults access socket listener xs ys m vs ws n t book closed =
-    rose_by_both _ _ _ _ t.start (kfaults book.keeper) (their_passes ys) (their_passes ws)
-    (workers_grew (failed_by_socket krows kfaults access socket) (λ x y s. datagrams_grew krows kfaults access x.pass s.works.work.handled y.pass s.works.work.run) xs ys m)
-    (workers_grew (failed_by_listener krows kfaults access listener)
-    (λ x y s. connections_grew krows kfaults access listener.input listener.output listener.time x.limit x.pass s.works.work.handled y.pass s.works.work.run) vs ws n)
-    closed.rise (by_mark (kfaults book.keeper ≡ last) (their_passes ys ++ their_passes ws) closed.marked)
+pub few_failed_updates : {K U T R W C : Type 0} (keeper : KeeperOf K) (access : Access) (socket : U → UdpTold) (listener : ListenerOf T R W C)
+    (xs ys : List (Worker U)) (m : Matches (ServedSocket keeper socket access) xs ys) (vs ws : List (Worker T)) (n : Matches (ServedListener keeper listener access) vs ws)
+    (t : Terms) (book : SeenOf K) → ClosedFor keeper t (their_passes ys ++ their_passes ws) book
+    → RoseBy (added_up (failed_by_socket keeper access socket) xs ys m + added_up (failed_by_listener keeper access listener) vs ws n) t.start (keeper.told book.keeper).faults
+few_failed_updates keeper access socket listener xs ys m vs ws n t book closed =
+    rose_by_both _ _ _ _ t.start (keeper.told book.keeper).faults (their_passes ys) (their_passes ws)
+    (workers_grew (failed_by_socket keeper access socket) (λ x y s. datagrams_grew keeper access x.pass s.works.work.handled y.pass s.works.work.run) xs ys m)
+    (workers_grew (failed_by_listener keeper access listener)
+    (λ x y s. connections_grew keeper access listener.input listener.output listener.time x.limit x.pass s.works.work.handled y.pass s.works.work.run) vs ws n)
+    closed.rise (by_mark ((keeper.told book.keeper).faults ≡ last) (their_passes ys ++ their_passes ws) closed.marked)
+
+-- where no step did, and the passes had counted nothing at first, that count is as it was when the book was shared. Other passes may be
+-- among those for which it is closed, which have counted nothing
+pub still_failed_updates : {K U T R W C : Type 0} (keeper : KeeperOf K) (access : Access) (socket : U → UdpTold) (listener : ListenerOf T R W C)
+    (xs ys : List (Worker U)) (m : Matches (ServedSocket keeper socket access) xs ys) (vs ws : List (Worker T)) (n : Matches (ServedListener keeper listener access) vs ws)
+    (t : Terms) (book : SeenOf K) (free : List PassSeen) → ClosedFor keeper t (free ++ their_passes ys ++ their_passes ws) book
+    → total pass_faults free ≡ 0 → total pass_faults (their_passes xs) ≡ 0 → total pass_faults (their_passes vs) ≡ 0
+    → added_up (failed_by_socket keeper access socket) xs ys m + added_up (failed_by_listener keeper access listener) vs ws n ≡ 0 → (keeper.told book.keeper).faults ≡ t.start
+still_failed_updates keeper access socket listener xs ys m vs ws n t book free closed others first second none =
+    let sockets : total pass_faults (their_passes ys) ≡ total pass_faults (their_passes xs) =
+    workers_still (failed_by_socket keeper access socket) (λ x y s. datagrams_grew keeper access x.pass s.works.work.handled y.pass s.works.work.run) xs ys m (omega (arith, none))
+    in
+    let listeners : total pass_faults (their_passes ws) ≡ total pass_faults (their_passes vs) =
+    workers_still (failed_by_listener keeper access listener)
+    (λ x y s. connections_grew keeper access listener.input listener.output listener.time x.limit x.pass s.works.work.handled y.pass s.works.work.run) vs ws n (omega (arith, none))
+    in
+    let all = total_append pass_faults free (their_passes ys ++ their_passes ws) in
+    let both = total_append pass_faults (their_passes ys) (their_passes ws) in
+    let rise = closed.rise in
+    omega (arith, rise, all, both, sockets, listeners, others, first, second)

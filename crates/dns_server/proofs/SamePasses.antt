@@ -2,7 +2,7 @@
 use Rattle.std.proofs.Common.{◌≡◌, ◌∙◌, ℕ, List, [], ◌∷◌, ◌++◌, Option, Some, None, Result, Ok, Err, refl, sym, subst, ⊎_elim}
 use Rattle.dns_book.specs.declared.ask.Ask.{Ask}
 use Rattle.dns_book.specs.Access.{Access}
-use Rattle.dns_keeper.specs.declared.row.Row.{Row}
+use Rattle.dns_keeper.specs.Keeping.{KeeperOf}
 use Rattle.dns_edges.specs.Edges.{SourceOf, SinkOf, ClockOf}
 use Rattle.dns_ports.specs.declared.port.Accepted.{Accepted}
 use Rattle.dns_requests.specs.declared.serve_fault.ServeFault.{ServeFault}
@@ -26,25 +26,25 @@ Same-trans : (p q r : PassSeen) → IsSame p q → IsSame q r → IsSame p r
 Same-trans p q r a b = record { book = b.book ∙ a.book; terms = b.terms ∙ a.terms; number = b.number ∙ a.number }
 
 -- the meaning of a keeper, and who is let in
-module _ {K : Type 0} (krows : K → Option (List Row)) (kfaults : K → ℕ) (access : Access) where
-  step_same : (p : PassSeen) (ask : Ask) (fate : Fate) (q : PassSeen) → Steps (SettledBy krows kfaults access) LeftBy p ask fate q → IsSame p q
+module _ {K : Type 0} (keeper : KeeperOf K) (access : Access) where
+  step_same : (p : PassSeen) (ask : Ask) (fate : Fate) (q : PassSeen) → Steps (SettledBy keeper access) LeftBy p ask fate q → IsSame p q
   step_same p ask (Answered settled) q s = s.same
   step_same p ask (Refused settled fault) q s = s.0.same
   step_same p ask Skipped q s = ⊎_elim (λ e. Same-of p q e) (λ (l : LeftBy p q). l.same) s
 
-  pub datagrams_same : (p : PassSeen) (handled : List Handled) (q : PassSeen) → DatagramRun (SettledBy krows kfaults access) LeftBy p handled q → IsSame p q
+  pub datagrams_same : (p : PassSeen) (handled : List Handled) (q : PassSeen) → DatagramRun (SettledBy keeper access) LeftBy p handled q → IsSame p q
   datagrams_same p [] q run = Same-of p q run
   datagrams_same p (one ∷ others) q run = Same-trans p run.0 q (step_same p (ask_for one.datagram) one.fate run.0 run.1) (datagrams_same run.0 others q run.2)
 
-  replies_same : (p : PassSeen) (asks : List Ask) (bytes : List ℕ) (q : PassSeen) → ReplyRun (SettledBy krows kfaults access) p asks bytes q → IsSame p q
+  replies_same : (p : PassSeen) (asks : List Ask) (bytes : List ℕ) (q : PassSeen) → ReplyRun (SettledBy keeper access) p asks bytes q → IsSame p q
   replies_same p [] bytes q run = Same-of p q run.0
   replies_same p (ask ∷ asks) bytes q run = Same-trans p run.1 q run.3.same (replies_same run.1 asks run.2 q run.5)
 
-  breaks_same : (p : PassSeen) (asks : List Ask) (q : PassSeen) (taken now : Option (List ℕ)) → BreaksOff (SettledBy krows kfaults access) LeftBy p asks q taken now → IsSame p q
+  breaks_same : (p : PassSeen) (asks : List Ask) (q : PassSeen) (taken now : Option (List ℕ)) → BreaksOff (SettledBy keeper access) LeftBy p asks q taken now → IsSame p q
   breaks_same p asks q taken now b = Same-trans p b.last q (replies_same p b.first b.answered.bytes b.last b.answered.run) (⊎_elim (λ e. Same-of b.last q e) (λ (l : LeftBy b.last q). l.same) b.end)
 
   ends_same : {S W C : Type 0} (source : SourceOf S) (sink : SinkOf W) (clock : ClockOf C) (terms : Terms) (before after : Parts PassSeen S W C) (result : Result ℕ ServeFault)
-      → Ends (SettledBy krows kfaults access) LeftBy source sink clock terms before after result → IsSame before.handler after.handler
+      → Ends (SettledBy keeper access) LeftBy source sink clock terms before after result → IsSame before.handler after.handler
   ends_same source sink clock terms before after (Ok n) e = replies_same _ _ _ _ e.answers.run
   ends_same source sink clock terms before after (Err Read) e = replies_same _ _ _ _ e.answers.run
   ends_same source sink clock terms before after (Err Write) e = replies_same _ _ _ _ e.answers.run
@@ -54,12 +54,12 @@ module _ {K : Type 0} (krows : K → Option (List Row)) (kfaults : K → ℕ) (a
 
   module _ {R W C : Type 0} (source : SourceOf R) (sink : SinkOf W) (clock : ClockOf C) (limit : ℕ) where
     treats_same : (p : PassSeen) (came back : Accepted R W C) (answer : Option (Result ℕ ServeFault)) (q : PassSeen)
-        → TreatsBy (SettledBy krows kfaults access) LeftBy source sink clock limit p came back answer q → IsSame p q
+        → TreatsBy (SettledBy keeper access) LeftBy source sink clock limit p came back answer q → IsSame p q
     treats_same p came back None q t = Same-of p q t.still
     treats_same p came back (Some answer) q t = ends_same source sink clock _ _ _ answer t.ends
 
     pub connections_same : (p : PassSeen) (handled : List (HandedBack R W C)) (q : PassSeen)
-        → ConnectionRun (SettledBy krows kfaults access) LeftBy source sink clock limit p handled q → IsSame p q
+        → ConnectionRun (SettledBy keeper access) LeftBy source sink clock limit p handled q → IsSame p q
     connections_same p [] q run = Same-of p q run
     connections_same p (one ∷ others) q run = Same-trans p run.0 q (treats_same p one.came one.back one.answer run.0 run.1) (connections_same run.0 others q run.2)
 

@@ -5,7 +5,7 @@ use Rattle.dns_io.specs.declared.io_fault.IoFault.{IoFault}
 use Rattle.dns_io.specs.declared.io_fault.IoFault.TheVariants as io
 use Rattle.dns_io.specs.Told.{Rose, Takes}
 use Rattle.dns_edges.specs.Edges.{Around, SourceTold}
-use Rattle.dns_keeper.specs.declared.row.Row.{Row}
+use Rattle.dns_keeper.specs.Keeping.{KeeperOf}
 use Rattle.dns_transport.specs.declared.error.NetError.{NetError}
 use Rattle.dns_transport.specs.declared.error.NetError.TheVariants.{Io, OutOfMemory}
 use Rattle.dns_transport.specs.Faults.{of_io}
@@ -87,20 +87,20 @@ MatchesOnce R (x ∷ xs) [] = ⊥
 MatchesOnce R (x ∷ xs) (y ∷ ys) = R x y ⊎ MatchesOnce R xs ys
 
 -- the meaning of a keeper, and what a socket tells
-module _ {K U : Type 0} (krows : K → Option (List Row)) (kfaults : K → ℕ) (socket : U → UdpTold) (access : Access) where
+module _ {K U : Type 0} (keeper : KeeperOf K) (socket : U → UdpTold) (access : Access) where
   -- what a worker of a socket did, by its own pass
   pub record ServedSocket (before after : Worker U) : Type 0 where
     pub same : IsSame before.pass after.pass
     pub limit : after.limit ≡ before.limit
-    pub works : WorksSocket (SettledBy krows kfaults access) LeftBy socket (post_of before) (post_of after) after.answer
+    pub works : WorksSocket (SettledBy keeper access) LeftBy socket (post_of before) (post_of after) after.answer
 
 -- the meanings of a keeper, and of a listener and its connections
-module _ {K T R W C : Type 0} (krows : K → Option (List Row)) (kfaults : K → ℕ) (listener : ListenerOf T R W C) (access : Access) where
+module _ {K T R W C : Type 0} (keeper : KeeperOf K) (listener : ListenerOf T R W C) (access : Access) where
   -- what a worker of a listener did, by its own pass, with the limit of its registration
   pub record ServedListener (before after : Worker T) : Type 0 where
     pub same : IsSame before.pass after.pass
     pub limit : after.limit ≡ before.limit
-    pub works : WorksListener (SettledBy krows kfaults access) LeftBy listener before.limit (post_of before) (post_of after) after.answer
+    pub works : WorksListener (SettledBy keeper access) LeftBy listener before.limit (post_of before) (post_of after) after.answer
 
 -- nothing but the workers changed
 pub record IsServer {U T : Type 0} (before after : ServerSeen U T) : Type 0 where

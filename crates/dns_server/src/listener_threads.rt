@@ -29,7 +29,8 @@ where
     T::Out: Send,
     T::Time: Send,
     requires { AllByRecursion (IsOf book.now) (their_passes workers.old) }
-    ensures { Matches (ServedListener K.rows K.faults (listener_of T.told T.In.source T.Out.sink T.Time.clock) access.now) workers.old workers.new }
+    ensures { Matches
+        (ServedListener K.keeper (listener_of T.told T.In.source T.Out.sink T.Time.clock) access.now) workers.old workers.new }
 {
     if workers.is_empty() {
         return;
@@ -41,7 +42,8 @@ where
         threads,
         &|_place: usize, worker: &mut Worker<T>|
             requires { worker.now.pass.book ≡ book.now.id }
-            ensures { ServedListener K.rows K.faults (listener_of T.told T.In.source T.Out.sink T.Time.clock) access.entry.now worker.entry.now worker.exit.now }
+            ensures { ServedListener K.keeper (listener_of T.told T.In.source T.Out.sink T.Time.clock)
+                access.entry.now worker.entry.now worker.exit.now }
         { run_listener(rt, alloc, book, access, worker) },
     );
 }
@@ -55,7 +57,7 @@ fn run_listener<K: Keeper, T: TcpPort, R: Wait>(
     worker: &mut Worker<T>,
 )
     requires { worker.old.pass.book ≡ book.now.id }
-    ensures { ServedListener K.rows K.faults (listener_of T.told T.In.source T.Out.sink T.Time.clock) access.now worker.old worker.new }
+    ensures { ServedListener K.keeper (listener_of T.told T.In.source T.Out.sink T.Time.clock) access.now worker.old worker.new }
 {
     replace_with(worker, (), |worker: Worker<T>, _nothing: ()| {
         (end_listener(rt, alloc, book, access, worker), ())
@@ -71,7 +73,7 @@ fn end_listener<K: Keeper, T: TcpPort, R: Wait>(
     worker: Worker<T>,
 ) -> Worker<T>
     requires { worker.pass.book ≡ book.now.id }
-    ensures { ServedListener K.rows K.faults (listener_of T.told T.In.source T.Out.sink T.Time.clock) access.now worker result }
+    ensures { ServedListener K.keeper (listener_of T.told T.In.source T.Out.sink T.Time.clock) access.now worker result }
 {
     let Worker {
         pass,

@@ -34,8 +34,9 @@ where
     /// in order of registration: `Io` only where a port's count of faults rose; `OutOfMemory` also where memory was wanting for a
     /// message, an answer or a connection, and its worker went on.
     pub fn block_until_done<R: Threads + Wait + Sync>(&mut self, rt: &R) -> Result<(), NetError>
-        ensures sockets { Matches (ServedSocket K.rows K.faults U.told self.old.access) self.old.sockets self.new.sockets }
-        ensures listeners { Matches (ServedListener K.rows K.faults (listener_of T.told T.In.source T.Out.sink T.Time.clock) self.old.access) self.old.listeners self.new.listeners }
+        ensures sockets { Matches (ServedSocket K.keeper U.told self.old.access) self.old.sockets self.new.sockets }
+        ensures listeners { Matches
+            (ServedListener K.keeper (listener_of T.told T.In.source T.Out.sink T.Time.clock) self.old.access) self.old.listeners self.new.listeners }
         ensures others { IsServer self.old self.new }
         ensures passes { KeepsPasses self.old self.new }
         ensures answer { AnswersFor U.told T.told self.old self.new result }
@@ -47,8 +48,9 @@ where
 
     /// Stops the token, and then waits as [`ThreadServer::block_until_done`] does. Messages that were taken are answered.
     pub fn shutdown_gracefully<R: Threads + Wait + Sync>(&mut self, rt: &R) -> Result<(), NetError>
-        ensures sockets { Matches (ServedSocket K.rows K.faults U.told self.old.access) self.old.sockets self.new.sockets }
-        ensures listeners { Matches (ServedListener K.rows K.faults (listener_of T.told T.In.source T.Out.sink T.Time.clock) self.old.access) self.old.listeners self.new.listeners }
+        ensures sockets { Matches (ServedSocket K.keeper U.told self.old.access) self.old.sockets self.new.sockets }
+        ensures listeners { Matches
+            (ServedListener K.keeper (listener_of T.told T.In.source T.Out.sink T.Time.clock) self.old.access) self.old.listeners self.new.listeners }
         ensures others { IsServer self.old self.new }
         ensures passes { KeepsPasses self.old self.new }
         ensures answer { AnswersFor U.told T.told self.old self.new result }
@@ -66,8 +68,9 @@ where
         rt: &R,
         until: &mut E,
     ) -> Result<(), NetError>
-        ensures sockets { Matches (ServedSocket K.rows K.faults U.told self.old.access) self.old.sockets self.new.sockets }
-        ensures listeners { Matches (ServedListener K.rows K.faults (listener_of T.told T.In.source T.Out.sink T.Time.clock) self.old.access) self.old.listeners self.new.listeners }
+        ensures sockets { Matches (ServedSocket K.keeper U.told self.old.access) self.old.sockets self.new.sockets }
+        ensures listeners { Matches
+            (ServedListener K.keeper (listener_of T.told T.In.source T.Out.sink T.Time.clock) self.old.access) self.old.listeners self.new.listeners }
         ensures others { IsServer self.old self.new }
         ensures passes { KeepsPasses self.old self.new }
         ensures answer { AnswersFor U.told T.told self.old self.new result }
@@ -87,8 +90,9 @@ where
 {
     /// Runs the workers.
     fn run<R: Threads + Wait + Sync>(&mut self, rt: &R)
-        ensures sockets { Matches (ServedSocket K.rows K.faults U.told self.old.access) self.old.sockets self.new.sockets }
-        ensures listeners { Matches (ServedListener K.rows K.faults (listener_of T.told T.In.source T.Out.sink T.Time.clock) self.old.access) self.old.listeners self.new.listeners }
+        ensures sockets { Matches (ServedSocket K.keeper U.told self.old.access) self.old.sockets self.new.sockets }
+        ensures listeners { Matches
+            (ServedListener K.keeper (listener_of T.told T.In.source T.Out.sink T.Time.clock) self.old.access) self.old.listeners self.new.listeners }
         ensures others { IsServer self.old self.new }
     {
         run_all(
@@ -107,8 +111,9 @@ where
         rt: &R,
         until: &mut E,
     ) -> Result<(), IoFault>
-        ensures sockets { Matches (ServedSocket K.rows K.faults U.told self.old.access) self.old.sockets self.new.sockets }
-        ensures listeners { Matches (ServedListener K.rows K.faults (listener_of T.told T.In.source T.Out.sink T.Time.clock) self.old.access) self.old.listeners self.new.listeners }
+        ensures sockets { Matches (ServedSocket K.keeper U.told self.old.access) self.old.sockets self.new.sockets }
+        ensures listeners { Matches
+            (ServedListener K.keeper (listener_of T.told T.In.source T.Out.sink T.Time.clock) self.old.access) self.old.listeners self.new.listeners }
         ensures others { IsServer self.old self.new }
         ensures ended { EndsReading (around E.source.told until.old until.new) result }
         ensures read { (bytes : List ℕ) × Takes (E.source.told until.old).left (E.source.told until.new).left bytes }
@@ -194,8 +199,9 @@ where
     T::Time: Send,
     requires sockets { AllByRecursion (IsOf book.now) (their_passes sockets.old) }
     requires listeners { AllByRecursion (IsOf book.now) (their_passes listeners.old) }
-    ensures sockets { Matches (ServedSocket K.rows K.faults U.told access.now) sockets.old sockets.new }
-    ensures listeners { Matches (ServedListener K.rows K.faults (listener_of T.told T.In.source T.Out.sink T.Time.clock) access.now) listeners.old listeners.new }
+    ensures sockets { Matches (ServedSocket K.keeper U.told access.now) sockets.old sockets.new }
+    ensures listeners { Matches
+        (ServedListener K.keeper (listener_of T.told T.In.source T.Out.sink T.Time.clock) access.now) listeners.old listeners.new }
 {
     join_mut(
         rt,
@@ -231,8 +237,9 @@ where
     T::Time: Send,
     requires sockets { AllByRecursion (IsOf book.now) (their_passes sockets.old) }
     requires listeners { AllByRecursion (IsOf book.now) (their_passes listeners.old) }
-    ensures sockets { Matches (ServedSocket K.rows K.faults U.told access.now) sockets.old sockets.new }
-    ensures listeners { Matches (ServedListener K.rows K.faults (listener_of T.told T.In.source T.Out.sink T.Time.clock) access.now) listeners.old listeners.new }
+    ensures sockets { Matches (ServedSocket K.keeper U.told access.now) sockets.old sockets.new }
+    ensures listeners { Matches
+        (ServedListener K.keeper (listener_of T.told T.In.source T.Out.sink T.Time.clock) access.now) listeners.old listeners.new }
     ensures ended { EndsReading (around E.source.told until.old until.new) result }
     ensures read { (bytes : List ℕ) × Takes (E.source.told until.old).left (E.source.told until.new).left bytes }
     ensures later { (E.source.told until.old).faults ≤ (E.source.told until.new).faults }

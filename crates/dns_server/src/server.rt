@@ -55,7 +55,7 @@ impl<K: Keeper, U: UdpPort + Drop, T: TcpPort + Drop> ThreadServer<K, U, T> {
         seats: u32,
     ) -> Result<ThreadServer<K, U, T>, (Book<K>, OutOfMemory)>
         requires seats { (0 < seats) × (seats ≤ 1024) }
-        ensures terms { IfOk result (λ s. s.book.terms ≡ terms_at K.rows K.faults book seats) }
+        ensures terms { IfOk result (λ s. s.book.terms ≡ terms_at K.keeper book seats) }
         ensures access { IfOk result (λ s. s.access ≡ access) }
         ensures passes { IfOk result (λ s. ArePasses s.book s.free) }
         ensures empty { IfOk result (λ s. (s.sockets ≡ []) × (s.listeners ≡ [])) }
@@ -165,7 +165,7 @@ impl<K: Keeper, U: UdpPort + Drop, T: TcpPort + Drop> ThreadServer<K, U, T> {
     pub fn into_book(self) -> Book<K>
         ensures passes { AllByRecursion (IsOf self.book) (all_passes self) }
         ensures all { AreAll self.book.id self.book.terms.seats (all_passes self) }
-        ensures closed { ClosedFor K.rows K.faults self.book.terms (all_passes self) result }
+        ensures closed { ClosedFor K.keeper self.book.terms (all_passes self) result }
     {
         let ThreadServer {
             book,

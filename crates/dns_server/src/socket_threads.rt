@@ -24,7 +24,7 @@ pub(crate) fn run_sockets<K: Keeper + Send, U: UdpPort + Send, R: Threads + Wait
     workers: &mut [Worker<U>],
 )
     requires { AllByRecursion (IsOf book.now) (their_passes workers.old) }
-    ensures { Matches (ServedSocket K.rows K.faults U.told access.now) workers.old workers.new }
+    ensures { Matches (ServedSocket K.keeper U.told access.now) workers.old workers.new }
 {
     if workers.is_empty() {
         return;
@@ -36,7 +36,7 @@ pub(crate) fn run_sockets<K: Keeper + Send, U: UdpPort + Send, R: Threads + Wait
         threads,
         &|_place: usize, worker: &mut Worker<U>|
             requires { worker.now.pass.book ≡ book.now.id }
-            ensures { ServedSocket K.rows K.faults U.told access.entry.now worker.entry.now worker.exit.now }
+            ensures { ServedSocket K.keeper U.told access.entry.now worker.entry.now worker.exit.now }
         { run_socket(rt, alloc, book, access, worker) },
     );
 }
@@ -50,7 +50,7 @@ fn run_socket<K: Keeper, U: UdpPort, R: Wait>(
     worker: &mut Worker<U>,
 )
     requires { worker.old.pass.book ≡ book.now.id }
-    ensures { ServedSocket K.rows K.faults U.told access.now worker.old worker.new }
+    ensures { ServedSocket K.keeper U.told access.now worker.old worker.new }
 {
     replace_with(worker, (), |worker: Worker<U>, _nothing: ()| {
         (end_socket(rt, alloc, book, access, worker), ())
@@ -66,7 +66,7 @@ fn end_socket<K: Keeper, U: UdpPort, R: Wait>(
     worker: Worker<U>,
 ) -> Worker<U>
     requires { worker.pass.book ≡ book.now.id }
-    ensures { ServedSocket K.rows K.faults U.told access.now worker result }
+    ensures { ServedSocket K.keeper U.told access.now worker result }
 {
     let Worker {
         pass,

@@ -11,5 +11,5 @@ for_each_mut-requires-clause-accepts g c κs within = λ i w small e. book_at c.
 
 pub returns : goal.returns
 returns g c =
-    let P : Worker g.row.T.Denot → Worker g.row.T.Denot → Type 0 = ServedListener g.K.Keeper.rows g.K.Keeper.faults (listener_of g.T.TcpPort.told g.T.In.Source.source g.T.Out.Sink.sink g.T.Time.Clock.clock) c.args.access.now in
+    let P : Worker g.row.T.Denot → Worker g.row.T.Denot → Type 0 = ServedListener g.K.Keeper.keeper (listener_of g.T.TcpPort.told g.T.In.Source.source g.T.Out.Sink.sink g.T.Time.Clock.clock) c.args.access.now in
     matches_at P c.args.workers.now c.for_each_mut.new.s c.for_each_mut.auto.s (λ i d low. let h = (c.for_each_mut.ensures i d low).1 in subst₂ P h.argument_is h.left (search rules))

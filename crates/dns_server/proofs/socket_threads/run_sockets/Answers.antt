@@ -10,5 +10,5 @@ for_each_mut-requires-clause-accepts g c κs within = λ i w small e. book_at c.
 
 pub returns : goal.returns
 returns g c =
-    let P : Worker g.row.U.Denot → Worker g.row.U.Denot → Type 0 = ServedSocket g.K.Keeper.rows g.K.Keeper.faults g.U.UdpPort.told c.args.access.now in
+    let P : Worker g.row.U.Denot → Worker g.row.U.Denot → Type 0 = ServedSocket g.K.Keeper.keeper g.U.UdpPort.told c.args.access.now in
     matches_at P c.args.workers.now c.for_each_mut.new.s c.for_each_mut.auto.s (λ i d low. let h = (c.for_each_mut.ensures i d low).1 in subst₂ P h.argument_is h.left (search rules))

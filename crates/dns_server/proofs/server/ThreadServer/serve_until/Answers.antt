@@ -8,8 +8,8 @@ use Rattle.dns_server.proofs.server.ThreadServer.serve_until.Goals as goal
 
 pub returns-clause-passes : goal.returns-clause-passes
 returns-clause-passes g c = all_same
-    (ServedSocket g.K.Keeper.rows g.K.Keeper.faults g.U.UdpPort.told c.args.self.now.access)
-    (ServedListener g.K.Keeper.rows g.K.Keeper.faults (listener_of g.T.TcpPort.told g.T.In.Source.source g.T.Out.Sink.sink g.T.Time.Clock.clock) c.args.self.now.access)
+    (ServedSocket g.K.Keeper.keeper g.U.UdpPort.told c.args.self.now.access)
+    (ServedListener g.K.Keeper.keeper (listener_of g.T.TcpPort.told g.T.In.Source.source g.T.Out.Sink.sink g.T.Time.Clock.clock) c.args.self.now.access)
     (λ a b h. h.same) (λ a b h. h.same) c.args.self.now c.run_while-reading.new.self c.run_while-reading.ensures.others c.run_while-reading.ensures.sockets c.run_while-reading.ensures.listeners
 
 pub returns-clause-answer : goal.returns-clause-answer
@@ -19,8 +19,8 @@ returns-clause-answer g c =
     rw c.or_reading.ensures (answers_reading g.U.UdpPort.told g.T.TcpPort.told before after c.answer.result
     (around g.E.Source.source.told c.args.until.now c.run_while-reading.new.until) c.run_while-reading.result
     (answers_for g.U.UdpPort.told g.T.TcpPort.told _ _
-    (socket_rose g.K.Keeper.rows g.K.Keeper.faults g.U.UdpPort.told before.access)
-    (listener_rose g.K.Keeper.rows g.K.Keeper.faults (listener_of g.T.TcpPort.told g.T.In.Source.source g.T.Out.Sink.sink g.T.Time.Clock.clock) before.access)
+    (socket_rose g.K.Keeper.keeper g.U.UdpPort.told before.access)
+    (listener_rose g.K.Keeper.keeper (listener_of g.T.TcpPort.told g.T.In.Source.source g.T.Out.Sink.sink g.T.Time.Clock.clock) before.access)
     before after c.run_while-reading.ensures.sockets c.run_while-reading.ensures.listeners c.answer.result c.answer.ensures)
     c.run_while-reading.ensures.ended)
 
