@@ -56,7 +56,7 @@ no_rows origin (row ∷ rows) records none r = absurd cc
 module _ (w : World) (no_zone_fault : Rose w.zone.before.faults w.zone.after.faults → ⊥) (no_journal_fault : Rose w.journal.before.faults w.journal.after.faults → ⊥) (told_zone : IsSome w.zone.after.left) (told_journal : IsSome w.journal.after.rows) where
   of_look : (s : Status) → SeesNoRow w.journal s → s ≡ status.OutOfMemory
   of_look s (journal_unread rose) = absurd (no_journal_fault rose)
-  of_look s journal_without_memory = refl
+  of_look s (journal_without_memory still) = refl
 
   -- a journal without rows, and a zone text
   text_in : (origin : List (List ℕ)) → HasZone w origin → HadNoRow w.journal.before.rows w.journal.after.rows
@@ -77,7 +77,7 @@ module _ (w : World) (no_zone_fault : Rose w.zone.before.faults w.zone.after.fau
 
   pub of_finding : (origin : List (List ℕ)) (s : Status) → HasZone w origin → FindsNot w.journal w.zone origin s → s ≡ status.OutOfMemory
   of_finding origin s has (unseen sees untouched) = of_look s sees
-  of_finding origin s has (no_zone none reads) = of_zone origin s has none reads
+  of_finding origin s has (no_zone none still reads) = of_zone origin s has none reads
 
   -- rows that stand for a zone are not refused
   none_refused : (origin : List (List ℕ)) (row : _) (why : ReplayKind) → HasJournal w origin → HadRows w.journal.before.rows w.journal.after.rows
@@ -93,9 +93,9 @@ module _ (w : World) (no_zone_fault : Rose w.zone.before.faults w.zone.after.fau
   -- a journal that can be opened is opened
   pub of_journal : (origin : List (List ℕ)) (opening : Opening) (s : Status) → HasJournal w origin → (opening ≡ Recover → HadRows w.journal.before.rows w.journal.after.rows)
       → OpensNot w.journal origin opening s → s ≡ status.OutOfMemory
-  of_journal origin opening s has had (rows_refused row why refused) = absurd (none_refused origin row why has (had refl) refused)
+  of_journal origin opening s has had (rows_refused row why refused still) = absurd (none_refused origin row why has (had refl) refused)
   of_journal origin opening s has had (journal_failed rose) = absurd (no_journal_fault rose)
-  of_journal origin opening s has had opening_without_memory = refl
+  of_journal origin opening s has had (opening_without_memory still) = refl
 
   of_either : (origin : List (List ℕ)) → HasZone w origin → HasJournal w origin
   of_either origin (in_text text records none is short zone) = without_rows none
@@ -154,7 +154,7 @@ module _ (w : World) (x : IsSound w) where
   of_refusal s (at_words none a b c d) = absurd (let some = x.legal in cc)
   of_refusal s (without_memory a b c d) = refl
   of_refusal s (at_finding options legal finds u unasked) = of_finding_words w x.faultless.zone x.faultless.journal x.told.zone x.told.journal options s (zone_for options legal) finds
-  of_refusal s (at_events options opening legal found loads unasked) = of_events_by options.drawn s (events_for options legal) loads
+  of_refusal s (at_events options opening legal found still loads unasked) = of_events_by options.drawn s (events_for options legal) loads
   of_refusal s (at_opening options opening events legal found heard opens asked) = of_opening_words w x.faultless.zone x.faultless.journal x.told.zone x.told.journal options opening s (zone_for options legal) found opens
 
   -- the events that were loaded are the valid ones
@@ -164,17 +164,17 @@ module _ (w : World) (x : IsSound w) where
       let same : has.events ≡ events = same_Ok (events_of has.text) _ _ has.read t.1.1.1 in
       subst (λ (l : List Event). Valid new_kept l) same has.valid
 
-  none_rejected : {K : Type 0} (rows : K → Option (List Row)) → Rejects rows w → ⊥
-  none_rejected rows r =
+  none_rejected : {K : Type 0} (keeper : KeeperOf K) → Rejects keeper w → ⊥
+  none_rejected keeper r =
       let heard : LoadsEvents w.events r.events =
       subst (λ (d : Option Drawn). MatchOption d (LoadsEvents w.events r.events) (λ one. (r.events ≡ loaded one.seed one.count) × IsUntouched w.events)) r.undrawn r.begun.heard in
       r.invalid (valid_loaded r.events (events_for r.options r.begun.legal r.undrawn) heard)
 
-pub completes : {K : Type 0} (rows : K → Option (List Row)) (faults : K → ℕ) (w : World) (s : Status) → Ends rows faults w s → Completes w s
-completes rows faults w s (with_answers text answers written) x = inl refl
-completes rows faults w s (with_refusal some refuses written) x = inr (of_refusal w x s refuses.cause)
-completes rows faults w s (with_rejection rejects written) x = absurd (none_rejected w x rows rejects)
-completes rows faults w s (with_write_fault rose cut) x = absurd (x.faultless.output rose)
-completes rows faults w s (cut_for_memory still cut) x = inr refl
-completes rows faults w s (refused_for_memory refuses unwritten) x = inr refl
-completes rows faults w s (broken_for_memory breaks unwritten) x = inr refl
+pub completes : {K : Type 0} (keeper : KeeperOf K) (w : World) (s : Status) → Ends keeper w s → Completes w s
+completes keeper w s (with_answers text answers written) x = inl refl
+completes keeper w s (with_refusal some refuses written) x = inr (of_refusal w x s refuses.cause)
+completes keeper w s (with_rejection rejects written) x = absurd (none_rejected w x rows rejects)
+completes keeper w s (with_write_fault rose cut) x = absurd (x.faultless.output rose)
+completes keeper w s (cut_for_memory still cut) x = inr refl
+completes keeper w s (refused_for_memory refuses unwritten) x = inr refl
+completes keeper w s (broken_for_memory breaks unwritten) x = inr refl

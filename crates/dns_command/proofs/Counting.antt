@@ -1,9 +1,14 @@
 -- Which counts of faults rose, by how a list of events ended.
-use Rattle.std.proofs.Common.{◌≡◌, ◌⊎◌, List, ℕ, Option, Some, None, MatchOption, inl, inr, refl, sym, ap, subst}
+use Rattle.std.proofs.Common.{◌≡◌, ◌⊎◌, ◌<◌, List, take, ℕ, Option, Some, None, MatchOption, inl, inr, refl, sym, ap, ◌∙◌, subst}
 use Rattle.dns_io.specs.Told.{Rose}
 use Rattle.dns_edges.specs.Edges.{Around, SourceTold, SinkTold}
-use Rattle.dns_keeper.specs.declared.row.Row.{Row}
+use Rattle.dns_keeper.specs.Keeping.{KeeperTold, KeeperOf}
+use Rattle.dns_book.specs.Book.{SeenOf}
 use Rattle.dns_server_core.specs.declared.event.Event.{Event}
+use Rattle.dns_server_core.specs.declared.event.Out.{Out}
+use Rattle.dns_server_core.specs.Connections.{new_kept, done}
+use Rattle.dns_server_core.specs.Runs.{Completed}
+use Rattle.dns_server_core.specs.Books.{failures}
 use Rattle.dns_generator.specs.Loaded.{loaded}
 use Rattle.dns_command.specs.declared.status.Status.{Status}
 use Rattle.dns_command.specs.declared.status.Status.TheVariants as status
@@ -12,14 +17,17 @@ use Rattle.dns_command.specs.declared.opening.Opening.TheVariants.{Begin, Recove
 use Rattle.dns_command.specs.declared.command_line.Options.{Options}
 use Rattle.dns_command.specs.declared.command_line.Drawn.{Drawn}
 use Rattle.dns_words.specs.Writing.{IsUntouched}
-use Rattle.dns_command.specs.World.{World, JournalTold, IsStill}
-use Rattle.dns_command.specs.Steps.{Finds, FindsExample, FindsBy, FindsNot, unseen, no_zone, FindsNotBy, SeesNoRow, HearsBy, HearsNotBy, LoadsEvents, LoadsNoEvents, events_unread, events_too_long, event_faulty, events_without_memory}
+use Rattle.dns_command.specs.World.{World, IsStill, IsStillJournal}
+use Rattle.dns_command.specs.Steps.{Finds, FindsExample, FindsBy, FindsNot, unseen, no_zone, FindsNotBy, SeesNoRow, journal_unread, journal_without_memory, OpensNot, rows_refused, journal_failed, opening_without_memory, HearsBy, HearsNotBy, LoadsEvents, LoadsNoEvents, events_unread, events_too_long, event_faulty, events_without_memory}
 use Rattle.dns_command.specs.Steps.{ReadsNoZone, zone_unread, zone_too_long, zone_faulty, zone_without_memory, IsRefused, at_words, without_memory, at_finding, at_events, at_opening}
-use Rattle.dns_command.specs.Ends.{TookFront, Refuses, IsCut, in_refusal, in_rejection, in_answers, Ends, with_answers, with_refusal, with_rejection, with_write_fault, cut_for_memory, refused_for_memory, broken_for_memory}
-use Rattle.dns_command.specs.Counts.{ComesOf, with_line, cut_by_fault, cut_for_memory as cut_for_want, CountsReading, CountsWriting, Counts}
+use Rattle.dns_command.specs.Ends.{TookFront, Serves, Rejects, all, Refuses, IsCut, in_refusal, in_rejection, in_answers, Ends, with_answers, with_refusal, with_rejection, with_write_fault, cut_for_memory, refused_for_memory, broken_for_memory}
+use Rattle.dns_command.specs.Counts.{ComesOf, with_line, cut_by_fault, cut_for_memory as cut_for_want, CountsReading, CountsWriting, CountsJournal, FailsSome, Counts}
+use Rattle.dns_command.specs.CommandLine.{access_of}
 use Rattle.dns_command.specs.Status.{refusal_line}
 use Rattle.dns_command.specs.ServeEnds.{ListTells}
 use Rattle.dns_command.proofs.Completing.{completes}
+use Rattle.dns_command.proofs.Endings.{IsOpened-still}
+use Rattle.dns_command.proofs.Loops.{zero_or_more}
 
 -- the count of a source stood still, or it is told that it could not be read
 abbrev Read : Around SourceTold → Status → Type 0
@@ -33,16 +41,16 @@ unwritten w same = ap (λ (told : SinkTold). told.faults) same
 
 -- ---- the zone text
 
-pub of_found : (journal : Around JournalTold) (source : Around SourceTold) (origin : List (List ℕ)) (opening : Opening) → Finds journal source origin opening → IsStill source
+pub of_found : (journal : Around KeeperTold) (source : Around SourceTold) (origin : List (List ℕ)) (opening : Opening) → Finds journal source origin opening → IsStill source
 of_found journal source origin (Begin zone) found = found.1.still
 of_found journal source origin Recover found = untouched source found.1
 
-of_found_by : (drawn : Option Drawn) (journal : Around JournalTold) (source : Around SourceTold) (origin : List (List ℕ)) (opening : Opening)
+of_found_by : (drawn : Option Drawn) (journal : Around KeeperTold) (source : Around SourceTold) (origin : List (List ℕ)) (opening : Opening)
     → MatchOption drawn (Finds journal source origin opening) (λ d. FindsExample journal opening × IsUntouched source) → IsStill source
 of_found_by None journal source origin opening found = of_found journal source origin opening found
 of_found_by (Some d) journal source origin opening found = untouched source found.1
 
-found_words : (journal : Around JournalTold) (source : Around SourceTold) (options : Options) (opening : Opening) → FindsBy journal source options opening → IsStill source
+found_words : (journal : Around KeeperTold) (source : Around SourceTold) (options : Options) (opening : Opening) → FindsBy journal source options opening → IsStill source
 found_words journal source options opening found = of_found_by options.drawn journal source options.origin opening found
 
 of_zone : (source : Around SourceTold) (origin : List (List ℕ)) (s : Status) → ReadsNoZone source origin s → Read source s
@@ -51,11 +59,11 @@ of_zone source origin s (zone_too_long longer still) = inl still
 of_zone source origin s (zone_faulty line kind read still) = inl still
 of_zone source origin s (zone_without_memory still) = inl still
 
-pub of_unfound : (journal : Around JournalTold) (source : Around SourceTold) (origin : List (List ℕ)) (s : Status) → FindsNot journal source origin s → Read source s
+pub of_unfound : (journal : Around KeeperTold) (source : Around SourceTold) (origin : List (List ℕ)) (s : Status) → FindsNot journal source origin s → Read source s
 of_unfound journal source origin s (unseen sees same) = inl (untouched source same)
-of_unfound journal source origin s (no_zone none reads) = of_zone source origin s reads
+of_unfound journal source origin s (no_zone none calm reads) = of_zone source origin s reads
 
-of_unfound_by : (drawn : Option Drawn) (journal : Around JournalTold) (source : Around SourceTold) (origin : List (List ℕ)) (s : Status)
+of_unfound_by : (drawn : Option Drawn) (journal : Around KeeperTold) (source : Around SourceTold) (origin : List (List ℕ)) (s : Status)
     → MatchOption drawn (FindsNot journal source origin s) (λ d. SeesNoRow journal s × IsUntouched source) → Read source s
 of_unfound_by None journal source origin s finds = of_unfound journal source origin s finds
 of_unfound_by (Some d) journal source origin s finds = inl (untouched source finds.1)
@@ -87,15 +95,62 @@ record BothRead (z e : Around SourceTold) (s : Status) : Type 0 where
   zone : Read z s
   events : Read e s
 
-refused_reads : (words : List (List ℕ)) (z e : Around SourceTold) (journal : Around JournalTold) (moment : Option ℕ) (s : Status) → IsRefused words z e journal moment s → BothRead z e s
+refused_reads : (words : List (List ℕ)) (z e : Around SourceTold) (journal : Around KeeperTold) (moment : Option ℕ) (s : Status) → IsRefused words z e journal moment s → BothRead z e s
 refused_reads words z e journal moment s (at_words none a b c d) = record { zone = inl (untouched z a); events = inl (untouched e b) }
 refused_reads words z e journal moment s (without_memory a b c d) = record { zone = inl (untouched z a); events = inl (untouched e b) }
 refused_reads words z e journal moment s (at_finding options legal finds same unasked) =
     record { zone = of_unfound_by options.drawn journal z options.origin s finds; events = inl (untouched e same) }
-refused_reads words z e journal moment s (at_events options opening legal found hears unasked) =
+refused_reads words z e journal moment s (at_events options opening legal found calm hears unasked) =
     record { zone = inl (found_words journal z options opening found); events = of_unheard options.drawn e s hears }
 refused_reads words z e journal moment s (at_opening options opening events legal found heard opens asked) =
     record { zone = inl (found_words journal z options opening found); events = inl (heard_words e options events heard) }
+
+-- ---- the journal
+
+-- the count of the journal stood still, or it is told that it failed
+abbrev pub Kept : Around KeeperTold → Status → Type 0
+Kept journal s = IsStillJournal journal ⊎ (Rose journal.before.faults journal.after.faults × (s ≡ status.KeeperFault))
+
+untouched_journal : (journal : Around KeeperTold) → IsUntouched journal → IsStillJournal journal
+untouched_journal journal same = ap (λ (told : KeeperTold). told.faults) same
+
+of_unseen : (journal : Around KeeperTold) (s : Status) → SeesNoRow journal s → Kept journal s
+of_unseen journal s (journal_unread rose) = inr (rose, refl)
+of_unseen journal s (journal_without_memory still) = inl still
+
+pub of_unfound_journal : (journal : Around KeeperTold) (source : Around SourceTold) (origin : List (List ℕ)) (s : Status) → FindsNot journal source origin s → Kept journal s
+of_unfound_journal journal source origin s (unseen sees same) = of_unseen journal s sees
+of_unfound_journal journal source origin s (no_zone none still reads) = inl still
+
+unfound_journal_by : (drawn : Option Drawn) (journal : Around KeeperTold) (source : Around SourceTold) (origin : List (List ℕ)) (s : Status)
+    → MatchOption drawn (FindsNot journal source origin s) (λ d. SeesNoRow journal s × IsUntouched source) → Kept journal s
+unfound_journal_by None journal source origin s finds = of_unfound_journal journal source origin s finds
+unfound_journal_by (Some d) journal source origin s finds = of_unseen journal s finds.0
+
+pub of_unopened : (journal : Around KeeperTold) (origin : List (List ℕ)) (opening : Opening) (s : Status) → OpensNot journal origin opening s → Kept journal s
+of_unopened journal origin opening s (rows_refused row why refused still) = inl still
+of_unopened journal origin opening s (journal_failed rose) = inr (rose, refl)
+of_unopened journal origin opening s (opening_without_memory still) = inl still
+
+refused_journal : (words : List (List ℕ)) (z e : Around SourceTold) (journal : Around KeeperTold) (moment : Option ℕ) (s : Status) → IsRefused words z e journal moment s → Kept journal s
+refused_journal words z e journal moment s (at_words none a b c d) = inl (untouched_journal journal c)
+refused_journal words z e journal moment s (without_memory a b c d) = inl (untouched_journal journal c)
+refused_journal words z e journal moment s (at_finding options legal finds same unasked) = unfound_journal_by options.drawn journal z options.origin s finds
+refused_journal words z e journal moment s (at_events options opening legal found still hears unasked) = inl still
+refused_journal words z e journal moment s (at_opening options opening events legal found heard opens asked) = of_unopened journal options.origin opening s opens
+
+-- what a refusal counts of the journal, by how its line was written
+pub written_journal : (w : World) (Failed : Type 0) (s : Status) → Kept w.journal s → CountsJournal w Failed s
+written_journal w Failed s (inl still) = inl still
+written_journal w Failed s (inr (rose, is)) = inr (inl (rose, subst (λ (x : Status). ComesOf w status.KeeperFault x) (sym is) with_line))
+
+pub journal_fault : (w : World) (Failed : Type 0) (s : Status) → TookFront w (refusal_line s) → Kept w.journal s → CountsJournal w Failed status.WriteFault
+journal_fault w Failed s took (inl still) = inl still
+journal_fault w Failed s took (inr (rose, is)) = inr (inl (rose, cut_by_fault (subst (λ (x : Status). TookFront w (refusal_line x)) is took)))
+
+pub journal_want : (w : World) (Failed : Type 0) (s : Status) → TookFront w (refusal_line s) → Kept w.journal s → CountsJournal w Failed status.OutOfMemory
+journal_want w Failed s took (inl still) = inl still
+journal_want w Failed s took (inr (rose, is)) = inr (inl (rose, cut_for_want (subst (λ (x : Status). TookFront w (refusal_line x)) is took)))
 
 -- what a refusal counts, by how its line was written
 pub written : (w : World) (source : Around SourceTold) (s : Status) → Read source s → CountsReading w source s
@@ -110,15 +165,34 @@ pub cut_want : (w : World) (source : Around SourceTold) (s : Status) → TookFro
 cut_want w source s took (inl still) = inl still
 cut_want w source s took (inr (rose, is)) = inr (rose, cut_for_want (subst (λ (x : Status). TookFront w (refusal_line x)) is took))
 
-module _ {K : Type 0} (rows : K → Option (List Row)) (faults : K → ℕ) (w : World) where
+module _ {K : Type 0} (keeper : KeeperOf K) (w : World) where
   begun_still : (options : Options) (opening : Opening) (events : List Event) (s : Status) → FindsBy w.journal w.zone options opening → HearsBy w.events options events → BothRead w.zone w.events s
   begun_still options opening events s found heard = record {
     zone = inl (found_words w.journal w.zone options opening found);
     events = inl (heard_words w.events options events heard);
   }
 
+  -- a list that is not valid counts nothing of the journal
+  rejected_still : Rejects keeper w → IsStillJournal w.journal
+  rejected_still r =
+      ap (λ (told : KeeperTold). told.faults) (sym r.left)
+      ∙ IsOpened-still keeper w.journal.before r.options r.begun.moment r.begun.opening r.first r.begun.opened
+
+  -- messages that were settled count what failed of them
+  served_journal : (picked : List Completed → List Completed) (events : List Event) (outs : List Out) (last : SeenOf K) (t : Status) → Serves keeper w picked events outs last → CountsJournal w (FailsSome keeper w) t
+  served_journal picked events outs last t served =
+      elim (zero_or_more (failures keeper (access_of served.options) served.first (picked (done new_kept events)) outs last served.ran)) [
+        | inl none ↦ inl (served.few.still none)
+        | inr some ↦ inr (inr (record { picked = picked; events = events; outs = outs; last = last; served = served; some = some }))
+      ]
+
+  cut_journal : (t : Status) → ((s : Status) → TookFront w (refusal_line s) → Kept w.journal s → CountsJournal w (FailsSome keeper w) t) → IsCut keeper w → CountsJournal w (FailsSome keeper w) t
+  cut_journal t by (in_refusal s some refuses took) = by s took (refused_journal w.words w.zone w.events w.journal w.moment s refuses.cause)
+  cut_journal t by (in_rejection rejects took) = inl (rejected_still rejects)
+  cut_journal t by (in_answers text answers took) = served_journal all answers.events answers.outs answers.last t answers.served
+
   cut_counts : (t : Status) → ((source : Around SourceTold) (s : Status) → TookFront w (refusal_line s) → Read source s → CountsReading w source t)
-      → IsCut rows faults w → CountsReading w w.zone t × CountsReading w w.events t
+      → IsCut keeper w → CountsReading w w.zone t × CountsReading w w.events t
   cut_counts t by (in_refusal s some refuses took) =
       let reads = refused_reads w.words w.zone w.events w.journal w.moment s refuses.cause in
       (by w.zone s took reads.zone, by w.events s took reads.events)
@@ -131,32 +205,44 @@ module _ {K : Type 0} (rows : K → Option (List Row)) (faults : K → ℕ) (w :
         inl (heard_words w.events answers.served.options answers.events begun.heard),
       )
 
-  pub counts_of : (s : Status) → Ends rows faults w s → Counts w s
+  pub counts_of : (s : Status) → Ends keeper w s → Counts keeper w s
   counts_of s (with_answers text answers took) =
       let begun = answers.served.begun in
       record {
         zone = inl (found_words w.journal w.zone answers.served.options begun.opening begun.found);
         events = inl (heard_words w.events answers.served.options answers.events begun.heard);
         output = inl took.faults;
+        journal = served_journal all answers.events answers.outs answers.last status.Ok answers.served;
       }
   counts_of s (with_refusal some refuses took) =
       let reads = refused_reads w.words w.zone w.events w.journal w.moment s refuses.cause in
-      record { zone = written w w.zone s reads.zone; events = written w w.events s reads.events; output = inl took.faults }
+      record {
+        zone = written w w.zone s reads.zone;
+        events = written w w.events s reads.events;
+        output = inl took.faults;
+        journal = written_journal w (FailsSome keeper w) s (refused_journal w.words w.zone w.events w.journal w.moment s refuses.cause);
+      }
   counts_of s (with_rejection rejects took) =
       let reads = begun_still rejects.options rejects.begun.opening rejects.events status.NotValid rejects.begun.found rejects.begun.heard in
-      record { zone = written w w.zone status.NotValid reads.zone; events = written w w.events status.NotValid reads.events; output = inl took.faults }
+      record {
+        zone = written w w.zone status.NotValid reads.zone;
+        events = written w w.events status.NotValid reads.events;
+        output = inl took.faults;
+        journal = inl (rejected_still rejects);
+      }
   counts_of s (with_write_fault rose cut) =
       let counts = cut_counts status.WriteFault (cut_fault w) cut in
-      record { zone = counts.0; events = counts.1; output = inr (rose, refl) }
+      record { zone = counts.0; events = counts.1; output = inr (rose, refl); journal = cut_journal status.WriteFault (journal_fault w (FailsSome keeper w)) cut }
   counts_of s (cut_for_memory still cut) =
       let counts = cut_counts status.OutOfMemory (cut_want w) cut in
-      record { zone = counts.0; events = counts.1; output = inl still }
+      record { zone = counts.0; events = counts.1; output = inl still; journal = cut_journal status.OutOfMemory (journal_want w (FailsSome keeper w)) cut }
   counts_of s (refused_for_memory refuses same) =
       let reads = refused_reads w.words w.zone w.events w.journal w.moment status.OutOfMemory refuses.cause in
       record {
         zone = written w w.zone status.OutOfMemory reads.zone;
         events = written w w.events status.OutOfMemory reads.events;
         output = inl (unwritten w same);
+        journal = written_journal w (FailsSome keeper w) status.OutOfMemory (refused_journal w.words w.zone w.events w.journal w.moment status.OutOfMemory refuses.cause);
       }
   counts_of s (broken_for_memory breaks same) =
       let begun = breaks.served.begun in
@@ -164,8 +250,9 @@ module _ {K : Type 0} (rows : K → Option (List Row)) (faults : K → ℕ) (w :
         zone = inl (found_words w.journal w.zone breaks.served.options begun.opening begun.found);
         events = inl (heard_words w.events breaks.served.options breaks.events begun.heard);
         output = inl (unwritten w same);
+        journal = served_journal (take breaks.count) breaks.events breaks.outs breaks.last status.OutOfMemory breaks.served;
       }
 
   -- how it ends, that it does its work, and which counts rose
-  pub tells : (s : Status) → Ends rows faults w s → ListTells rows faults w s
-  tells s ends = record { ends = ends; completes = completes rows faults w s ends; counts = counts_of s ends }
+  pub tells : (s : Status) → Ends keeper w s → ListTells keeper w s
+  tells s ends = record { ends = ends; completes = completes keeper w s ends; counts = counts_of s ends }

@@ -58,7 +58,7 @@ any_last : {P : Type 0} (faults : P → ℕ) (ports : List P) (port : P) → 0 <
 any_last faults [] port h = inl h
 any_last faults (x ∷ xs) port h = inr (any_last faults xs port h)
 
-zero_or_more : (n : ℕ) → (n ≡ 0) ⊎ (0 < n)
+pub zero_or_more : (n : ℕ) → (n ≡ 0) ⊎ (0 < n)
 zero_or_more zero = inl refl
 zero_or_more (suc n) = inr (omega arith)
 

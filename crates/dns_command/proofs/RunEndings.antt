@@ -1,5 +1,5 @@
 -- How the top call ends: by `serve`, or by a list of events.
-use Rattle.std.proofs.Common.{◌≡◌, ℕ, List, Option, Some, None, IfSome, inl, inr, refl, sym, ap}
+use Rattle.std.proofs.Common.{◌≡◌, ℕ, List, Option, Some, None, IfSome, ◌⊎◌, inl, inr, refl, sym, ap}
 use Rattle.dns_edges.specs.Edges.{Around}
 use Rattle.dns_ports.specs.Ports.{HubTold}
 use Rattle.dns_command.specs.declared.status.Status.{Status}
@@ -11,6 +11,7 @@ use Rattle.dns_words.specs.Writing.{IsUntouched}
 use Rattle.dns_command.specs.World.{World}
 use Rattle.dns_command.specs.Serving.{without_memory, unserved}
 use Rattle.dns_command.specs.ServeEnds.{ServeEnds, refused_for_memory, RunEnds, by_serving, by_list, RunCompletes, RunTells, ListTells}
+use Rattle.dns_command.specs.Counts.{CountsJournal, FailsSome, FailsServing}
 use Rattle.dns_command.proofs.ServeEndings.{completes_serving, counts_serving}
 
 pub if_some : {K : Type 0} (o : Option K) (P Q : K → Type 0) → IfSome o P → ((k : K) → P k → Q k) → IfSome o Q
@@ -25,7 +26,12 @@ module _ {K U T R W C : Type 0} (m : Meanings K U T R W C) (w : World) (hub : Ar
     counts = counts_serving m w hub s ends;
   }
 
-  pub by_events : (s : Status) → service_of w.words ≡ None → IsUntouched hub → ListTells m.rows m.faults w s → RunTells m w hub s
+  of_list : {s : Status} → CountsJournal w (FailsSome m.keeper w) s → CountsJournal w (FailsSome m.keeper w ⊎ FailsServing m w hub) s
+  of_list (inl still) = inl still
+  of_list (inr (inl failed)) = inr (inl failed)
+  of_list (inr (inr some)) = inr (inr (inl some))
+
+  pub by_events : (s : Status) → service_of w.words ≡ None → IsUntouched hub → ListTells m.keeper w s → RunTells m w hub s
   by_events s none unused tells = record {
     ends = by_list none unused tells.ends;
     completes = record { serving = λ x. absurd (let a = x.legal in cc); list = λ n. tells.completes };
@@ -34,6 +40,7 @@ module _ {K U T R W C : Type 0} (m : Meanings K U T R W C) (w : World) (hub : Ar
       events = inl tells.counts.events;
       output = tells.counts.output;
       ports = inl (ap (λ (h : HubTold U T). h.faults) unused);
+      journal = of_list tells.counts.journal;
     };
   }
 

@@ -1,5 +1,5 @@
 -- How `serve` ends, by what its parts did.
-use Rattle.std.proofs.Common.{◌≡◌, ◌⊎◌, ℕ, ◌+◌, ◌≤◌, List, Option, Some, None, Result, Ok, Err, inl, inr, refl, sym, ap, subst, ◌∙◌, arith}
+use Rattle.std.proofs.Common.{◌≡◌, ◌⊎◌, ℕ, suc, ◌+◌, List, [], ◌∷◌, ◌++◌, Option, Some, None, Result, Ok, Err, inl, inr, refl, sym, ap, subst, ◌∙◌, arith}
 use Rattle.std.proofs.lemmas.Option.{same_Some}
 use Rattle.dns_edges.specs.Edges.{Around, SourceTold, SinkTold}
 use Rattle.dns_ports.specs.Ports.{HubTold}
@@ -7,35 +7,47 @@ use Rattle.dns_io.specs.Told.{Keeps, Rose}
 use Rattle.dns_io.specs.declared.io_fault.IoFault.{IoFault}
 use Rattle.dns_io.specs.declared.io_fault.IoFault.TheVariants.{Failed, OutOfMemory}
 use Rattle.dns_io.proofs.ToldContents.{Keeps-more}
-use Rattle.dns_keeper.specs.declared.row.Row.{Row}
+use Rattle.dns_keeper.specs.Keeping.{KeeperTold, KeeperOf}
 use Rattle.dns_zone_map.specs.Zone.{serial_of}
 use Rattle.dns_book.specs.Book.{SeenOf}
-use Rattle.dns_server.proofs.FailedUpdates.{few_failed_updates}
+use Rattle.dns_server.proofs.FailedUpdates.{few_failed_updates, still_failed_updates}
 use Rattle.dns_command.specs.declared.status.Status.{Status}
 use Rattle.dns_command.specs.declared.status.Status.TheVariants as status
 use Rattle.dns_command.specs.declared.opening.Opening.{Opening}
 use Rattle.dns_command.specs.declared.listening_words.Service.{Service}
 use Rattle.dns_command.specs.ListeningWords.{service_of}
+use Rattle.dns_command.specs.CommandLine.{access_of}
 use Rattle.dns_command.specs.Status.{refusal_line}
 use Rattle.dns_command.specs.Lines.{serve_lines}
 use Rattle.dns_command.specs.Hubs.{Meanings, TakesFaulty}
 use Rattle.dns_words.specs.Writing.{IsUntouched, IsWritten}
-use Rattle.dns_command.specs.World.{World, JournalTold, IsStill}
+use Rattle.dns_command.specs.World.{World, IsStill, IsStillJournal}
 use Rattle.dns_command.specs.Steps.{Finds, OpensNot}
 use Rattle.dns_command.specs.Ends.{TookFront}
 use Rattle.dns_words.specs.Writing.{WritesWhole}
 use Rattle.dns_command.specs.Writing.{after_writing, EndsWriting, EndsRefusing, silent, by_line}
 use Rattle.dns_command.specs.Parts.{OpensBook}
 use Rattle.dns_command.specs.Completeness.{HasZone}
-use Rattle.dns_server.specs.Servers.{their_ports}
-use Rattle.dns_command.specs.Serving.{IsPortCause, MayBeRead, opening_journal, BeginsServing, Serves, StopsServing, IsUnserved, without_memory, at_finding, at_opening, at_sharing, RefusesServing, unserved, stopped}
+use Rattle.std.specs.List.{AllByRecursion}
+use Rattle.dns_book.specs.Access.{Access}
+use Rattle.dns_ticket_lock.specs.declared.view.Account.{Account}
+use Rattle.dns_ticket_lock.specs.declared.view.Terms.{Terms}
+use Rattle.dns_ticket_lock.specs.Lists.{total}
+use Rattle.dns_ticket_lock.specs.Passes.{PassSeen, AreNew, pass_faults}
+use Rattle.dns_ticket_lock.proofs.Totals.{total_append}
+use Rattle.dns_server.specs.declared.worker.Worker.{Worker}
+use Rattle.dns_server.specs.Servers.{their_ports, their_passes}
+use Rattle.dns_command.specs.declared.listening_words.Listening.{Listening}
+use Rattle.dns_command.specs.Serving.{Crew, passes_of, IsNewWorker, IsNewSocket, IsNewListener, IsNewCrew, Works, WorksToItsEnd, SharesPasses, ClosedForAll}
+use Rattle.dns_command.specs.Serving.{failed_updates, failed_so_far, IsPortCause, MayBeRead, opening_journal, BeginsServing, Serves, StopsServing, IsUnserved, without_memory, at_finding, at_opening, at_sharing, RefusesServing, unserved, stopped}
 use Rattle.dns_command.specs.ServingParts.{ServesBook, ServesNot, unshared, closed, ServesNone, not_opened, not_served}
 use Rattle.dns_command.specs.ServeEnds.{IsCutServing, in_refusal, in_closing, ServeEnds, with_closing, with_refusal, with_write_fault, cut_for_memory, refused_for_memory, IsSoundServing}
-use Rattle.dns_command.specs.Counts.{ComesOf, with_line, cut_by_fault, cut_for_memory as cut_for_want, CountsWriting, HasServed, TakesSomeFaulty, RunCounts}
+use Rattle.dns_command.specs.Counts.{ComesOf, with_line, cut_by_fault, cut_for_memory as cut_for_want, CountsWriting, HasServed, TakesSomeFaulty, FailsServing, in_serving, in_stopping, RunCounts}
 use Rattle.dns_command.proofs.Completing.{of_finding, of_opening}
-use Rattle.dns_command.proofs.Counting.{untouched, unwritten, of_found, of_unfound}
+use Rattle.dns_command.proofs.Counting.{Kept, untouched, unwritten, of_found, of_unfound, of_unfound_journal, of_unopened}
+use Rattle.dns_command.proofs.Loops.{zero_or_more}
 use Rattle.dns_command.proofs.Told.{NeverBegins-told}
-use Rattle.dns_command.proofs.Endings.{journal_of, Finds-on, OpensNot-earlier, IsOpened-earlier, IsOpened-told}
+use Rattle.dns_command.proofs.Endings.{journal_of, Finds-on, OpensNot-earlier, IsOpened-earlier, IsOpened-told, IsOpened-still}
 
 module _ {K U T R W C : Type 0} (m : Meanings K U T R W C) (w : World) (hub : Around (HubTold U T)) where
   abbrev Ending : Status → Type 0
@@ -100,6 +112,7 @@ module _ {K U T R W C : Type 0} (m : Meanings K U T R W C) (w : World) (hub : Ar
 
   -- the count of the zone's source by what the work came to, and those of the source that is read until it ends and of the hub
   record SoFar (s : Status) : Type 0 where
+    journal : IsStillJournal w.journal ⊎ ((Rose w.journal.before.faults w.journal.after.faults × (s ≡ status.KeeperFault)) ⊎ FailsServing m w hub)
     zone : IsStill w.zone ⊎ (Rose w.zone.before.faults w.zone.after.faults × (s ≡ status.ReadFault))
     events : IsStill w.events ⊎ HasServed w hub
     ports : (hub.after.faults ≡ hub.before.faults) ⊎ ((Rose hub.before.faults hub.after.faults × (s ≡ status.PortFault)) ⊎ TakesSomeFaulty m hub)
@@ -124,7 +137,33 @@ module _ {K U T R W C : Type 0} (m : Meanings K U T R W C) (w : World) (hub : Ar
   zone_unserved s (without_memory a b c) = inl (untouched w.zone a)
   zone_unserved s (at_finding service legal finds kept unasked) = of_unfound w.journal w.zone service.options.origin s finds
   zone_unserved s (at_opening service opening legal found opens kept asked) = inl (of_found w.journal w.zone service.options.origin opening found)
-  zone_unserved s (at_sharing service first begun is) = inl (of_found (opening_journal m.rows m.faults w first) w.zone service.options.origin begun.opening begun.found)
+  zone_unserved s (at_sharing service first begun is) = inl (of_found (opening_journal m.keeper w first) w.zone service.options.origin begun.opening begun.found)
+
+  -- and that of the journal
+  opened_still : (service : Service) (first : SeenOf K) → BeginsServing m.keeper w service first → (m.keeper.told first.keeper).faults ≡ w.journal.before.faults
+  opened_still service first begun = IsOpened-still m.keeper w.journal.before service.options begun.moment begun.opening first begun.opened
+
+  journal_kept : (s : Status) → Kept w.journal s → IsStillJournal w.journal ⊎ ((Rose w.journal.before.faults w.journal.after.faults × (s ≡ status.KeeperFault)) ⊎ FailsServing m w hub)
+  journal_kept s (inl still) = inl still
+  journal_kept s (inr rose) = inr (inl rose)
+
+  journal_unserved : (s : Status) → IsUnserved m w s → Kept w.journal s
+  journal_unserved s (without_memory a b c) = inl (ap (λ (told : KeeperTold). told.faults) b)
+  journal_unserved s (at_finding service legal finds kept unasked) = of_unfound_journal w.journal w.zone service.options.origin s finds
+  journal_unserved s (at_opening service opening legal found opens kept asked) = of_unopened w.journal service.options.origin opening s opens
+  journal_unserved s (at_sharing service first begun is) = inl (ap (λ (told : KeeperTold). told.faults) (sym is) ∙ opened_still service first begun)
+
+  journal_stopped : (s : Status) → StopsServing m w hub s → IsStillJournal w.journal ⊎ ((Rose w.journal.before.faults w.journal.after.faults × (s ≡ status.KeeperFault)) ⊎ FailsServing m w hub)
+  journal_stopped s r = elim (zero_or_more (failed_so_far m (access_of r.service.options) r.opened r.crew r.shared.worked)) [
+    | inl none ↦ inl (ap (λ (told : KeeperTold). told.faults) (sym r.left) ∙ (r.still none ∙ opened_still r.service r.first r.begun))
+    | inr some ↦ inr (inr (in_stopping s r some))
+  ]
+
+  journal_served : (text : List ℕ) (s : Status) → Serves m w hub text → IsStillJournal w.journal ⊎ ((Rose w.journal.before.faults w.journal.after.faults × (s ≡ status.KeeperFault)) ⊎ FailsServing m w hub)
+  journal_served text s a = elim (zero_or_more (failed_updates m (access_of a.service.options) a.opened a.crew a.ports.worked)) [
+    | inl none ↦ inl (ap (λ (told : KeeperTold). told.faults) (sym a.left) ∙ (a.few.still none ∙ opened_still a.service a.first a.begun))
+    | inr some ↦ inr (inr (in_serving text a some))
+  ]
 
   unused : IsUntouched hub → hub.after.faults ≡ hub.before.faults
   unused same = ap (λ (h : HubTold U T). h.faults) same
@@ -137,16 +176,23 @@ module _ {K U T R W C : Type 0} (m : Meanings K U T R W C) (w : World) (hub : Ar
       of_read service legal (inr opened) = inr (record { service = service; legal = legal; opened = opened })
 
   refusing_so_far : (s : Status) → Refusing s → SoFar s
-  refusing_so_far s (unserved u same still) = record { zone = zone_unserved s u; events = inl (untouched w.events still); ports = inl (unused same) }
+  refusing_so_far s (unserved u same still) = record {
+    journal = journal_kept s (journal_unserved s u);
+    zone = zone_unserved s u;
+    events = inl (untouched w.events still);
+    ports = inl (unused same);
+  }
   refusing_so_far s (stopped r) = record {
-    zone = inl (of_found (opening_journal m.rows m.faults w r.first) w.zone r.service.options.origin r.begun.opening r.begun.found);
+    journal = journal_stopped s r;
+    zone = inl (of_found (opening_journal m.keeper w r.first) w.zone r.service.options.origin r.begun.opening r.begun.found);
     events = read_stopped (s, r);
     ports = of_cause (their_ports r.crew.sockets) (their_ports r.crew.listeners) s r.cause;
   }
 
   served_so_far : (text : List ℕ) → Serves m w hub text → SoFar status.Ok
   served_so_far text a = record {
-    zone = inl (of_found (opening_journal m.rows m.faults w a.first) w.zone a.service.options.origin a.begun.opening a.begun.found);
+    journal = journal_served text status.Ok a;
+    zone = inl (of_found (opening_journal m.keeper w a.first) w.zone a.service.options.origin a.begun.opening a.begun.found);
     events = elim a.stopped [ inl end ↦ inl end.1 | inr rose ↦ inr (record { service = a.service; legal = a.begun.legal; opened = a.ports.opened }) ];
     ports = elim a.ports.counted [ inl calm ↦ inl calm | inr taken ↦ inr (inr (record { sockets = their_ports a.crew.sockets; listeners = their_ports a.crew.listeners; taken = taken })) ];
   }
@@ -161,6 +207,10 @@ module _ {K U T R W C : Type 0} (m : Meanings K U T R W C) (w : World) (hub : Ar
       | inl calm ↦ inl calm
       | inr more ↦ inr (elim more [ inl p ↦ inl (p.0, subst (λ (x : Status). ComesOf w x t) p.1 (comes with_line)) | inr taken ↦ inr taken ])
     ];
+    journal = elim so.journal [
+      | inl still ↦ inl still
+      | inr more ↦ inr (elim more [ inl p ↦ inl (p.0, subst (λ (x : Status). ComesOf w x t) p.1 (comes with_line)) | inr fails ↦ inr (inr fails) ])
+    ];
   }
 
   cut_counts : (t : Status) → ((s : Status) → TookFront w (refusal_line s) → ComesOf w s t) → CountsWriting w t → IsCutServing m w hub → RunCounts m w hub t
@@ -173,6 +223,7 @@ module _ {K U T R W C : Type 0} (m : Meanings K U T R W C) (w : World) (hub : Ar
         events = elim so.events [ inl still ↦ inl (inl still) | inr served ↦ inr served ];
         output = output;
         ports = elim so.ports [ inl calm ↦ inl calm | inr more ↦ elim more [ inl p ↦ absurd (let x = p.1 in cc) | inr taken ↦ inr (inr taken) ] ];
+        journal = elim so.journal [ inl still ↦ inl still | inr more ↦ elim more [ inl p ↦ absurd (let x = p.1 in cc) | inr fails ↦ inr (inr (inr fails)) ] ];
       }
 
   pub counts_serving : (s : Status) → Ending s → RunCounts m w hub s
@@ -184,37 +235,81 @@ module _ {K U T R W C : Type 0} (m : Meanings K U T R W C) (w : World) (hub : Ar
 
 -- ---- what was opened, and then served
 
+-- workers that are new have counted nothing
+new_total : {P : Type 0} (t : Terms) (most : ℕ) (Fresh : P → Type 0) (xs : List (Worker P)) → AllByRecursion (IsNewWorker t most Fresh) xs → total pass_faults (their_passes xs) ≡ 0
+new_total t most Fresh [] new = refl
+new_total t most Fresh (x ∷ xs) new =
+    let one : x.pass.account.faults ≡ 0 = ap (λ (a : Account). a.faults) new.0.account in
+    let others : total pass_faults (their_passes xs) ≡ 0 = new_total t most Fresh xs new.1 in
+    omega (arith, one, others)
+
+-- nor have passes of none
+free_total : (t : Terms) (ps : List PassSeen) → AreNew t ps → total pass_faults ps ≡ 0
+free_total t [] new = refl
+free_total t (p ∷ ps) new =
+    let one : p.account.faults ≡ 0 = ap (λ (a : Account). a.faults) (new 0 p refl).1 in
+    let others : total pass_faults ps ≡ 0 = free_total t ps (λ k. new (suc k)) in
+    omega (arith, one, others)
+
+module _ {K U T R W C : Type 0} (m : Meanings K U T R W C) (t : Terms) (access : Access) (last : SeenOf K) where
+  -- nobody worked
+  unworked_still : (limit : ℕ) (crew : Crew U T) (free : List PassSeen) → AllByRecursion (IsNewSocket m.socket t) crew.sockets → AllByRecursion (IsNewListener m.listener.told t limit) crew.listeners → AreNew t free
+      → ClosedForAll m t (free ++ passes_of crew) last → (m.keeper.told last.keeper).faults ≡ t.start
+  unworked_still limit crew free sockets listeners others closed =
+      let a = new_total t 0 _ crew.sockets sockets in
+      let b = new_total t limit _ crew.listeners listeners in
+      let c = free_total t free others in
+      let all = total_append pass_faults free (passes_of crew) in
+      let both = total_append pass_faults (their_passes crew.sockets) (their_passes crew.listeners) in
+      let rise = closed.closed.rise in
+      omega (arith, a, b, c, all, both, rise)
+
+  -- what was served so far counted nothing where no update got ServFail
+  stopped_still : (limit : ℕ) (before after : Crew U T) (free : List PassSeen) (shared : SharesPasses m t limit access before after free) (worked : (after ≡ before) ⊎ Works m access before after)
+      → ClosedForAll m t (free ++ passes_of after) last → failed_so_far m access before after worked ≡ 0 → (m.keeper.told last.keeper).faults ≡ t.start
+  stopped_still limit before after free shared (inl same) closed none =
+      unworked_still limit before free shared.new_sockets shared.new_listeners shared.new_free (subst (λ (c : Crew U T). ClosedForAll m t (free ++ passes_of c) last) same closed)
+  stopped_still limit before after free shared (inr worked) closed none =
+      still_failed_updates m.keeper access m.socket m.listener before.sockets after.sockets worked.sockets before.listeners after.listeners worked.listeners t last free closed.closed
+      (free_total t free shared.new_free) (new_total t 0 _ before.sockets shared.new_sockets) (new_total t limit _ before.listeners shared.new_listeners) none
+
+  -- nor did what was served to its end
+  served_still : (listening : Listening) (before after : Crew U T) → IsNewCrew m listening t before → (worked : WorksToItsEnd m access before after) → ClosedForAll m t (passes_of after) last
+      → failed_updates m access before after worked ≡ 0 → (m.keeper.told last.keeper).faults ≡ t.start
+  served_still listening before after new worked closed none =
+      still_failed_updates m.keeper access m.socket m.listener before.sockets after.sockets worked.sockets before.listeners after.listeners worked.listeners t last [] closed.closed
+      refl (new_total t 0 _ before.sockets new.new_sockets) (new_total t listening.limit _ before.listeners new.new_listeners) none
+
 module _ {K U T R W C : Type 0} (m : Meanings K U T R W C) (words : List (List ℕ)) (z e : Around SourceTold) (out : Around SinkTold) (hub : Around (HubTold U T))
-    (b : Option (List Row)) (fb moment : ℕ) (service : Service) (legal : service_of words ≡ Some service) (keeper left : K) (k : Keeps b (m.rows keeper)) (later : fb ≤ m.faults keeper)
-    (opening : Opening) (found : Finds (journal_of b (m.rows keeper) fb (m.faults keeper)) z service.options.origin opening) where
+    (b : KeeperTold) (moment : ℕ) (service : Service) (legal : service_of words ≡ Some service) (held left : K) (k : Keeps b.rows (m.keeper.told held).rows) (same : (m.keeper.told held).faults ≡ b.faults)
+    (opening : Opening) (found : Finds (journal_of b (m.keeper.told held)) z service.options.origin opening) where
   abbrev world : World
-  world = record { words = words; zone = z; events = e; journal = journal_of b (m.rows left) fb (m.faults left); output = out; moment = Some moment }
+  world = record { words = words; zone = z; events = e; journal = journal_of b (m.keeper.told left); output = out; moment = Some moment }
 
   -- a journal was opened
-  begins : (first : SeenOf K) → OpensBook m.rows m.faults keeper service.options opening moment first → BeginsServing m.rows m.faults world service first
+  begins : (first : SeenOf K) → OpensBook m.keeper held service.options opening moment first → BeginsServing m.keeper world service first
   begins first o = record {
     opening = opening;
     legal = legal;
     moment = moment;
     asked = refl;
-    found = Finds-on b (m.rows keeper) (m.rows first.keeper) fb (m.faults keeper) (m.faults first.keeper) z service.options.origin opening found (IsOpened-told (m.rows keeper) m.rows service.options moment opening first o.opened);
-    opened = IsOpened-earlier b (m.rows keeper) m.rows service.options moment opening first k o.opened;
-    later = let x = o.later in omega (arith, later, x);
+    found = Finds-on b (m.keeper.told held) (m.keeper.told first.keeper) z service.options.origin opening found (IsOpened-told m.keeper (m.keeper.told held) service.options moment opening first o);
+    opened = IsOpened-earlier m.keeper b (m.keeper.told held) service.options moment opening first k same o;
   }
 
   -- it was not
-  pub unopened : (s : Status) → OpensNot (journal_of (m.rows keeper) (m.rows left) (m.faults keeper) (m.faults left)) service.options.origin opening s → Keeps (m.rows keeper) (m.rows left)
+  pub unopened : (s : Status) → OpensNot (journal_of (m.keeper.told held) (m.keeper.told left)) service.options.origin opening s → Keeps (m.keeper.told held).rows (m.keeper.told left).rows
       → IsUntouched hub → IsUntouched e → RefusesServing m world hub s
   unopened s not kept unused untouched =
       unserved
       (at_opening service opening legal
-      (Finds-on b (m.rows keeper) (m.rows left) fb (m.faults keeper) (m.faults left) z service.options.origin opening found (NeverBegins-told _ (m.rows keeper) (m.rows left) kept))
-      (OpensNot-earlier b (m.rows keeper) (m.rows left) fb (m.faults keeper) (m.faults left) service.options.origin opening s not k later)
-      (Keeps-more b (m.rows keeper) (m.rows left) k kept) refl)
+      (Finds-on b (m.keeper.told held) (m.keeper.told left) z service.options.origin opening found (NeverBegins-told _ (m.keeper.told held).rows (m.keeper.told left).rows kept))
+      (OpensNot-earlier b (m.keeper.told held) (m.keeper.told left) service.options.origin opening s not k same)
+      (Keeps-more b.rows (m.keeper.told held).rows (m.keeper.told left).rows k kept) refl)
       unused untouched
 
   -- everything was served
-  pub serves : (first last : SeenOf K) → OpensBook m.rows m.faults keeper service.options opening moment first → ServesBook m hub e service first last → left ≡ last.keeper
+  pub serves : (first last : SeenOf K) → OpensBook m.keeper held service.options opening moment first → ServesBook m hub e service first last → left ≡ last.keeper
       → Serves m world hub (serve_lines (serial_of last.zone.records) last.row_count)
   serves first last o served is = record {
     service = service;
@@ -226,16 +321,18 @@ module _ {K U T R W C : Type 0} (m : Meanings K U T R W C) (words : List (List �
     ports = served.ports;
     stopped = served.read;
     closed = served.closed;
-    few = few_failed_updates m.rows m.faults _ m.socket m.listener _ _ served.ports.worked.sockets _ _ served.ports.worked.listeners _ last served.closed.closed;
-    left = ap m.rows (sym is);
-    counted = ap m.faults (sym is);
+    few = record {
+      few = few_failed_updates m.keeper _ m.socket m.listener _ _ served.ports.worked.sockets _ _ served.ports.worked.listeners _ last served.closed.closed;
+      still = served_still m _ _ last service.listening served.opened served.crew served.ports.new served.ports.worked served.closed;
+    };
+    left = ap m.keeper.told (sym is);
     text = refl;
   }
 
   -- the serving went no further
-  pub serves_not : (s : Status) (first : SeenOf K) → OpensBook m.rows m.faults keeper service.options opening moment first → ServesNot m hub e service first s left
+  pub serves_not : (s : Status) (first : SeenOf K) → OpensBook m.keeper held service.options opening moment first → ServesNot m hub e service first s left
       → RefusesServing m world hub s
-  serves_not s first o (unshared is unused untouched) = unserved (at_sharing service first (begins first o) (ap m.rows is)) unused untouched
+  serves_not s first o (unshared is unused untouched) = unserved (at_sharing service first (begins first o) (ap m.keeper.told is)) unused untouched
   serves_not s first o (closed last leaves is) = stopped (record {
     service = service;
     first = first;
@@ -247,11 +344,11 @@ module _ {K U T R W C : Type 0} (m : Meanings K U T R W C) (words : List (List �
     shared = leaves.shared;
     read = leaves.read;
     closed = leaves.closed;
-    left = ap m.rows is;
-    counted = ap m.faults is;
+    still = stopped_still m _ _ last _ leaves.opened leaves.crew leaves.free leaves.shared leaves.shared.worked leaves.closed;
+    left = ap m.keeper.told is;
     cause = leaves.cause;
   })
 
-  pub serves_none : (s : Status) → ServesNone m hub e keeper service opening moment s left → RefusesServing m world hub s
+  pub serves_none : (s : Status) → ServesNone m hub e held service opening moment s left → RefusesServing m world hub s
   serves_none s (not_opened not kept unused untouched) = unopened s not kept unused untouched
   serves_none s (not_served first o not) = serves_not s first o not

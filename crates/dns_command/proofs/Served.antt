@@ -205,11 +205,11 @@ registers_served a b s0 s1 s2 R S registers server ms ml = record {
 -- ---- the book, from its sharing to its closing
 
 module _ {K U T R W C : Type 0} (m : Meanings K U T R W C) (a b c : HubTold U T) (until : Around SourceTold) (service : Service) (first last : SeenOf K) (s0 s2 : ServerSeen U T)
-    (terms : s0.book.terms ≡ terms_at m.rows m.faults first (seats_of service.listening)) (let_in : s0.access ≡ access_of service.options) (registers : Registers (over a b) s0 s2)
+    (terms : s0.book.terms ≡ terms_at m.keeper first (seats_of service.listening)) (let_in : s0.access ≡ access_of service.options) (registers : Registers (over a b) s0 s2)
     (back : TakesBack (over b c) s2 (HasFaultyPort m.socket m.listener.told s2))
-    (all : AreAll s2.book.id s2.book.terms.seats (all_passes (emptied s2))) (closed_for : ClosedFor m.rows m.faults s2.book.terms (all_passes (emptied s2)) last) where
+    (all : AreAll s2.book.id s2.book.terms.seats (all_passes (emptied s2))) (closed_for : ClosedFor m.keeper s2.book.terms (all_passes (emptied s2)) last) where
   abbrev terms_now : Terms
-  terms_now = terms_at m.rows m.faults first (seats_of service.listening)
+  terms_now = terms_at m.keeper first (seats_of service.listening)
 
   same_terms : s2.book.terms ≡ terms_now
   same_terms = ap (λ (x : BookSeen). x.terms) registers.same.book ∙ terms

@@ -1,17 +1,26 @@
 -- Which counts of faults rose in the top call: those alone of which its status tells, or the work that it tells of.
-use Rattle.std.specs.Prelude.{◌≡◌, ◌⊎◌, List, Some}
+use Rattle.std.specs.Prelude.{◌≡◌, ◌⊎◌, ◌<◌, ℕ, List, Some}
 use Rattle.dns_io.specs.Told.{Grows, Rose}
 use Rattle.dns_edges.specs.Edges.{Around, SourceTold}
+use Rattle.dns_keeper.specs.Keeping.{KeeperOf}
 use Rattle.dns_ports.specs.Ports.{HubTold}
+use Rattle.dns_book.specs.Book.{SeenOf}
+use Rattle.dns_server_core.specs.declared.event.Event.{Event}
+use Rattle.dns_server_core.specs.declared.event.Out.{Out}
+use Rattle.dns_server_core.specs.Connections.{new_kept, done}
+use Rattle.dns_server_core.specs.Runs.{Completed}
+use Rattle.dns_server_core.specs.Books.{failures}
 use Rattle.dns_command.specs.declared.status.Status.{Status}
 use Rattle.dns_command.specs.declared.status.Status.TheVariants as status
 use Rattle.dns_command.specs.declared.listening_words.Service.{Service}
 use Rattle.dns_command.specs.ListeningWords.{service_of}
 use Rattle.dns_command.specs.Status.{refusal_line}
-use Rattle.dns_command.specs.World.{World, IsStill}
+use Rattle.dns_command.specs.CommandLine.{access_of}
+use Rattle.dns_command.specs.World.{World, IsStill, IsStillJournal}
 use Rattle.dns_command.specs.Hubs.{Meanings, TakesFaulty}
-use Rattle.dns_command.specs.Ends.{TookFront}
-use Rattle.dns_command.specs.Serving.{openings_of}
+use Rattle.dns_command.specs.Ends.{TookFront, Serves}
+use Rattle.dns_command.specs.Serving.{openings_of, failed_updates, failed_so_far, StopsServing}
+use Rattle.dns_command.specs.Serving as serving
 
 -- it ended with the status of a refusal; or the line of that refusal was cut, for a fault of the output or for want of memory
 pub data ComesOf (w : World) (cause : Status) : Status → Type 0 where
@@ -28,11 +37,27 @@ abbrev pub CountsWriting : World → Status → Type 0
 CountsWriting w s =
     (w.output.after.faults ≡ w.output.before.faults) ⊎ (Rose w.output.before.faults w.output.after.faults × (s ≡ status.WriteFault))
 
--- the counts of the texts and of the output, for a list of events
-pub record Counts (w : World) (s : Status) : Type 0 where
+-- the count of the journal stood still; or it is told that it failed as it was opened; or, where messages were settled on it, `Failed` says
+-- that an update among these got ServFail since it failed
+abbrev pub CountsJournal : World → Type 0 → Status → Type 0
+CountsJournal w Failed s =
+    IsStillJournal w.journal ⊎ ((Rose w.journal.before.faults w.journal.after.faults × ComesOf w status.KeeperFault s) ⊎ Failed)
+
+-- of the messages of a list of events that were settled an update got ServFail, since the journal failed
+pub record FailsSome {K : Type 0} (keeper : KeeperOf K) (w : World) : Type 0 where
+  pub picked : List Completed → List Completed
+  pub events : List Event
+  pub outs : List Out
+  pub last : SeenOf K
+  pub served : Serves keeper w picked events outs last
+  pub some : 0 < failures keeper (access_of served.options) served.first (picked (done new_kept events)) outs last served.ran
+
+-- the counts of the texts, of the output and of the journal, for a list of events
+pub record Counts {K : Type 0} (keeper : KeeperOf K) (w : World) (s : Status) : Type 0 where
   pub zone : CountsReading w w.zone s
   pub events : CountsReading w w.events s
   pub output : CountsWriting w s
+  pub journal : CountsJournal w (FailsSome keeper w) s
 
 -- the ports of the words of `serve` were all opened
 pub record HasServed {U T : Type 0} (w : World) (hub : Around (HubTold U T)) : Type 0 where
@@ -46,10 +71,18 @@ pub record TakesSomeFaulty {K U T R W C : Type 0} (m : Meanings K U T R W C) (hu
   pub listeners : List T
   pub taken : TakesFaulty m hub sockets listeners
 
--- The counts of all objects but the journal. That of the source of the events also rises where it failed while the ports were served,
+-- a worker of the ports answered an update with ServFail, since the journal failed
+pub data FailsServing {K U T R W C : Type 0} (m : Meanings K U T R W C) (w : World) (hub : Around (HubTold U T)) : Type 0 where
+  in_serving : (written : List ℕ) (served : serving.Serves m w hub written)
+      → 0 < failed_updates m (access_of served.service.options) served.opened served.crew served.ports.worked → FailsServing m w hub
+  in_stopping : (s : Status) (stopped : StopsServing m w hub s)
+      → 0 < failed_so_far m (access_of stopped.service.options) stopped.opened stopped.crew stopped.shared.worked → FailsServing m w hub
+
+-- The counts of all objects. That of the source of the events also rises where it failed while the ports were served,
 -- which ends that; and the hub's where a port could not be opened or failed, and where it took one back whose own count is above 0.
 pub record RunCounts {K U T R W C : Type 0} (m : Meanings K U T R W C) (w : World) (hub : Around (HubTold U T)) (s : Status) : Type 0 where
   pub zone : CountsReading w w.zone s
   pub events : CountsReading w w.events s ⊎ HasServed w hub
   pub output : CountsWriting w s
   pub ports : (hub.after.faults ≡ hub.before.faults) ⊎ ((Rose hub.before.faults hub.after.faults × ComesOf w status.PortFault s) ⊎ TakesSomeFaulty m hub)
+  pub journal : CountsJournal w (FailsSome m.keeper w ⊎ FailsServing m w hub) s

@@ -1,6 +1,6 @@
 -- What the program does: the replies owed, and no other bytes.
 use Rattle.std.specs.Prelude.{◌≡◌, ◌≢◌, ℕ, List, length, take, Option, Some, None}
-use Rattle.dns_keeper.specs.declared.row.Row.{Row}
+use Rattle.dns_keeper.specs.Keeping.{KeeperTold, KeeperOf}
 use Rattle.dns_io.specs.Told.{Keeps, Rose, GrowsByPrefix}
 use Rattle.dns_zone_map.specs.Zone.{serial_of}
 use Rattle.dns_server_core.specs.declared.event.Event.{Event}
@@ -23,68 +23,78 @@ use Rattle.dns_words.specs.Writing.{IsUntouched, IsWritten}
 use Rattle.dns_command.specs.World.{World}
 use Rattle.dns_command.specs.Steps.{FindsBy, HearsBy, IsRefused}
 
--- how the journal was opened, by the options: one without rows was begun with the zone that was found at this moment, and
--- one with rows was read back; either way its rows stand for its zone
-abbrev pub IsOpened : {K : Type 0} → Option (List Row) → (K → Option (List Row)) → Options → ℕ → Opening → SeenOf K → Type 0
-IsOpened before rows options moment (Begin zone) first = book.Begins before rows zone options.allow_update moment first
-IsOpened before rows options moment Recover first = book.Recovers before rows options.origin options.allow_update first
+-- how the journal was opened that told this before, by the options: one without rows was begun with the zone that was found at this
+-- moment, and one with rows was read back; either way its rows stand for its zone, and its count of faults stood still
+abbrev pub IsOpened : {K : Type 0} → KeeperOf K → KeeperTold → Options → ℕ → Opening → SeenOf K → Type 0
+IsOpened keeper before options moment (Begin zone) first = book.Begins keeper before zone options.allow_update moment first
+IsOpened keeper before options moment Recover first = book.Recovers keeper before options.origin options.allow_update first
+
+-- of a journal's count of faults behind so many failures: it rose by as many at least, or stands at its last value; and where there was
+-- none it stood still
+pub record CountsFailures (failures before now : ℕ) : Type 0 where
+  pub few : RoseBy failures before now
+  pub still : failures ≡ 0 → now ≡ before
 
 -- the words are legal, these are the events of the event text or those that are drawn, and the journal was opened at the moment that
 -- the clock was asked for
-pub record Begins {K : Type 0} (rows : K → Option (List Row)) (w : World) (options : Options) (events : List Event) (first : SeenOf K) : Type 0 where
+pub record Begins {K : Type 0} (keeper : KeeperOf K) (w : World) (options : Options) (events : List Event) (first : SeenOf K) : Type 0 where
   pub opening : Opening
   pub legal : options_of w.words ≡ Some options
   pub found : FindsBy w.journal w.zone options opening
   pub heard : HearsBy w.events options events
   pub moment : ℕ
   pub asked : w.moment ≡ Some moment
-  pub opened : IsOpened w.journal.before.rows rows options moment opening first
+  pub opened : IsOpened keeper w.journal.before options moment opening first
 
 -- Messages were settled on the journal that was opened: of those that a valid list of events completes, the ones that are
 -- picked. Each message in turn was settled on the zone that the rows then stood for, where the words say who is let in and
 -- whether updates are; the rows grew by the records of each update that was answered NoError; and no more updates got ServFail
--- than the journal's count of faults rose, unless that stands at its last value.
-pub record Serves {K : Type 0} (rows : K → Option (List Row)) (faults : K → ℕ) (w : World) (picked : List Completed → List Completed) (events : List Event) (outs : List Out) (last : SeenOf K) : Type 0 where
+-- than the journal's count of faults rose, unless that stands at its last value: where none got it that count stood still.
+pub record Serves {K : Type 0} (keeper : KeeperOf K) (w : World) (picked : List Completed → List Completed) (events : List Event) (outs : List Out) (last : SeenOf K)
+    : Type 0 where
   pub options : Options
   pub first : SeenOf K
-  pub begun : Begins rows w options events first
+  pub begun : Begins keeper w options events first
   pub valid : Valid new_kept events
-  pub ran : Run (Settles rows faults (access_of options)) first (picked (done new_kept events)) outs last
-  pub few : RoseBy (failures rows faults (access_of options) first (picked (done new_kept events)) outs last ran) w.journal.before.faults w.journal.after.faults
+  pub ran : Run (Settles keeper (access_of options)) first (picked (done new_kept events)) outs last
+  pub few : CountsFailures (failures keeper (access_of options) first (picked (done new_kept events)) outs last ran)
+      w.journal.before.faults w.journal.after.faults
 
 -- the list of events is not valid: the journal was opened, and nothing was settled. It is that of the event text: one that is drawn
 -- is always valid
-pub record Rejects {K : Type 0} (rows : K → Option (List Row)) (w : World) : Type 0 where
+pub record Rejects {K : Type 0} (keeper : KeeperOf K) (w : World) : Type 0 where
   pub options : Options
   pub events : List Event
   pub first : SeenOf K
-  pub begun : Begins rows w options events first
+  pub begun : Begins keeper w options events first
   pub undrawn : options.drawn ≡ None
   pub invalid : Valid new_kept events → ⊥
-  pub left : rows first.keeper ≡ w.journal.after.rows
+  pub left : keeper.told first.keeper ≡ w.journal.after
 
 abbrev pub all : List Completed → List Completed
 all asks = asks
 
 -- every message was settled, and this is the output: a line a reply, or for a drawn list what is told of the replies; then the
 -- serial of the zone that the rows now stand for, the number of rows, and how many connections are open
-pub record Answers {K : Type 0} (rows : K → Option (List Row)) (faults : K → ℕ) (w : World) (written : List ℕ) : Type 0 where
+pub record Answers {K : Type 0} (keeper : KeeperOf K) (w : World) (written : List ℕ) : Type 0 where
   pub events : List Event
   pub outs : List Out
   pub last : SeenOf K
-  pub served : Serves rows faults w all events outs last
-  pub left : rows last.keeper ≡ w.journal.after.rows
-  pub kept : IsKept rows last
+  pub served : Serves keeper w all events outs last
+  pub left : keeper.told last.keeper ≡ w.journal.after
+  pub kept : IsKept keeper last
   pub text : written ≡ lines_by served.options.drawn outs (serial_of last.zone.records) last.row_count (length (after new_kept events).connections)
 
--- memory ran out among the messages: some of the first ones were settled, and the rows are as the last of these left them
-pub record Breaks {K : Type 0} (rows : K → Option (List Row)) (faults : K → ℕ) (w : World) : Type 0 where
+-- memory ran out among the messages: some of the first ones were settled, and the rows and the journal's count of faults are as the last
+-- of these left them
+pub record Breaks {K : Type 0} (keeper : KeeperOf K) (w : World) : Type 0 where
   pub count : ℕ
   pub events : List Event
   pub outs : List Out
   pub last : SeenOf K
-  pub served : Serves rows faults w (take count) events outs last
-  pub left : Keeps (rows last.keeper) w.journal.after.rows
+  pub served : Serves keeper w (take count) events outs last
+  pub left : Keeps (keeper.told last.keeper).rows w.journal.after.rows
+  pub counted : w.journal.after.faults ≡ (keeper.told last.keeper).faults
 
 -- the output took a front of this text, where it is told afterwards
 abbrev pub TookFront : World → List ℕ → Type 0
@@ -97,18 +107,18 @@ pub record Refuses (w : World) (s : Status) : Type 0 where
 
 -- Some of the bytes were not written, or not handed on: of the line of a refusal, of the line that says that the list is not
 -- valid, or of the output.
-pub data IsCut {K : Type 0} (rows : K → Option (List Row)) (faults : K → ℕ) (w : World) : Type 0 where
-  in_refusal : (s : Status) → s ≢ status.OutOfMemory → Refuses w s → TookFront w (refusal_line s) → IsCut rows faults w
-  in_rejection : Rejects rows w → TookFront w (refusal_line status.NotValid) → IsCut rows faults w
-  in_answers : (text : List ℕ) → Answers rows faults w text → TookFront w text → IsCut rows faults w
+pub data IsCut {K : Type 0} (keeper : KeeperOf K) (w : World) : Type 0 where
+  in_refusal : (s : Status) → s ≢ status.OutOfMemory → Refuses w s → TookFront w (refusal_line s) → IsCut keeper w
+  in_rejection : Rejects keeper w → TookFront w (refusal_line status.NotValid) → IsCut keeper w
+  in_answers : (text : List ℕ) → Answers keeper w text → TookFront w text → IsCut keeper w
 
 -- What each status means. Status 0 and each status with a line say that the output took all the bytes, and handed on all
 -- that it took. Status 7 says that the output's count of faults rose, and no other does.
-pub data Ends {K : Type 0} (rows : K → Option (List Row)) (faults : K → ℕ) (w : World) : Status → Type 0 where
-  with_answers : (text : List ℕ) → Answers rows faults w text → IsWritten w.output text → Ends rows faults w status.Ok
-  with_refusal : {s : Status} → s ≢ status.OutOfMemory → Refuses w s → IsWritten w.output (refusal_line s) → Ends rows faults w s
-  with_rejection : Rejects rows w → IsWritten w.output (refusal_line status.NotValid) → Ends rows faults w status.NotValid
-  with_write_fault : Rose w.output.before.faults w.output.after.faults → IsCut rows faults w → Ends rows faults w status.WriteFault
-  cut_for_memory : w.output.after.faults ≡ w.output.before.faults → IsCut rows faults w → Ends rows faults w status.OutOfMemory
-  refused_for_memory : Refuses w status.OutOfMemory → IsUntouched w.output → Ends rows faults w status.OutOfMemory
-  broken_for_memory : Breaks rows faults w → IsUntouched w.output → Ends rows faults w status.OutOfMemory
+pub data Ends {K : Type 0} (keeper : KeeperOf K) (w : World) : Status → Type 0 where
+  with_answers : (text : List ℕ) → Answers keeper w text → IsWritten w.output text → Ends keeper w status.Ok
+  with_refusal : {s : Status} → s ≢ status.OutOfMemory → Refuses w s → IsWritten w.output (refusal_line s) → Ends keeper w s
+  with_rejection : Rejects keeper w → IsWritten w.output (refusal_line status.NotValid) → Ends keeper w status.NotValid
+  with_write_fault : Rose w.output.before.faults w.output.after.faults → IsCut keeper w → Ends keeper w status.WriteFault
+  cut_for_memory : w.output.after.faults ≡ w.output.before.faults → IsCut keeper w → Ends keeper w status.OutOfMemory
+  refused_for_memory : Refuses w status.OutOfMemory → IsUntouched w.output → Ends keeper w status.OutOfMemory
+  broken_for_memory : Breaks keeper w → IsUntouched w.output → Ends keeper w status.OutOfMemory

@@ -1,20 +1,19 @@
 -- What is known of the objects of the top call, and what became of a hub.
 use Rattle.std.specs.Prelude.{◌≡◌, ◌⊎◌, ◌<◌, ℕ, List, [], ◌∷◌, ◌++◌, Option}
 use Rattle.dns_io.specs.Told.{Told}
-use Rattle.dns_keeper.specs.declared.row.Row.{Row}
+use Rattle.dns_keeper.specs.Keeping.{KeeperOf}
 use Rattle.dns_edges.specs.Edges.{Around}
 use Rattle.dns_ports.specs.Ports.{UdpTold, ListenerOf, HubTold}
 
--- of a keeper its rows and its count of faults, of a socket what it tells, and of a listener what it and its connections tell
+-- of a keeper what it tells, of a socket too, and of a listener what it and its connections tell
 pub record Meanings (K U T R W C : Type 0) : Type 1 where
-  pub rows : K → Option (List Row)
-  pub faults : K → ℕ
+  pub keeper : KeeperOf K
   pub socket : U → UdpTold
   pub listener : ListenerOf T R W C
 
 -- by the members of their traits
-abbrev pub meanings : {K U T R W C : Type 0} → (K → Option (List Row)) → (K → ℕ) → (U → UdpTold) → ListenerOf T R W C → Meanings K U T R W C
-meanings rows faults socket listener = record { rows = rows; faults = faults; socket = socket; listener = listener }
+abbrev pub meanings : {K U T R W C : Type 0} → KeeperOf K → (U → UdpTold) → ListenerOf T R W C → Meanings K U T R W C
+meanings keeper socket listener = record { keeper = keeper; socket = socket; listener = listener }
 
 -- it has back each port that it opened
 pub record HasAllBack {U T : Type 0} (hub : Around (HubTold U T)) : Type 0 where

@@ -2,7 +2,7 @@
 use Rattle.std.specs.Prelude.{◌≡◌, ◌≢◌, ◌⊎◌, ℕ, List, Option, Some, None, IsSome}
 use Rattle.dns_io.specs.Told.{Rose}
 use Rattle.dns_edges.specs.Edges.{Around}
-use Rattle.dns_keeper.specs.declared.row.Row.{Row}
+use Rattle.dns_keeper.specs.Keeping.{KeeperOf}
 use Rattle.dns_ports.specs.Ports.{HubTold}
 use Rattle.dns_command.specs.declared.status.Status.{Status}
 use Rattle.dns_command.specs.declared.status.Status.TheVariants as status
@@ -35,7 +35,7 @@ module _ {K U T R W C : Type 0} (m : Meanings K U T R W C) (w : World) (hub : Ar
   -- how the top call ends: words of `serve` are served, and any others are those of a list of events, with no hub
   pub data RunEnds (s : Status) : Type 0 where
     by_serving : ServeEnds s → RunEnds s
-    by_list : service_of w.words ≡ None → IsUntouched hub → Ends m.rows m.faults w s → RunEnds s
+    by_list : service_of w.words ≡ None → IsUntouched hub → Ends m.keeper w s → RunEnds s
 
 module _ {U T : Type 0} (w : World) (hub : Around (HubTold U T)) where
   -- no count of faults rose, nor stands at its last value
@@ -65,7 +65,7 @@ pub record RunTells {K U T R W C : Type 0} (m : Meanings K U T R W C) (w : World
   pub counts : RunCounts m w hub s
 
 -- what a list of events tells of its end
-pub record ListTells {K : Type 0} (rows : K → Option (List Row)) (faults : K → ℕ) (w : World) (s : Status) : Type 0 where
-  pub ends : Ends rows faults w s
+pub record ListTells {K : Type 0} (keeper : KeeperOf K) (w : World) (s : Status) : Type 0 where
+  pub ends : Ends keeper w s
   pub completes : Completes w s
-  pub counts : Counts w s
+  pub counts : Counts keeper w s

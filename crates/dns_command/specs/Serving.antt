@@ -4,11 +4,10 @@ use Rattle.std.specs.List.{AllByRecursion}
 use Rattle.dns_io.specs.Told.{Keeps, Grows, Rose}
 use Rattle.dns_io.specs.declared.peer.Peer.{Peer}
 use Rattle.dns_edges.specs.Edges.{Around, SourceTold}
-use Rattle.dns_keeper.specs.declared.row.Row.{Row}
+use Rattle.dns_keeper.specs.Keeping.{KeeperTold, KeeperOf}
 use Rattle.dns_zone_map.specs.Zone.{serial_of}
 use Rattle.dns_book.specs.Access.{Access}
 use Rattle.dns_book.specs.Book.{SeenOf}
-use Rattle.dns_server_core.specs.Books.{RoseBy}
 use Rattle.dns_ports.specs.declared.hub.Opening.{Opening as Opened}
 use Rattle.dns_ports.specs.declared.hub.Opening.TheVariants.{Socket, Listeners}
 use Rattle.dns_ports.specs.Ports.{UdpTold, TcpTold, HubTold, IsFreshSocket, IsFreshListener}
@@ -30,9 +29,9 @@ use Rattle.dns_command.specs.ListeningWords.{service_of, sockets_of, listeners_o
 use Rattle.dns_command.specs.Lines.{serve_lines}
 use Rattle.dns_command.specs.Hubs.{Meanings, TakesFaulty}
 use Rattle.dns_words.specs.Writing.{IsUntouched}
-use Rattle.dns_command.specs.World.{World, JournalTold, IsStill, journal_told}
+use Rattle.dns_command.specs.World.{World, IsStill}
 use Rattle.dns_command.specs.Steps.{Finds, FindsNot, OpensNot}
-use Rattle.dns_command.specs.Ends.{IsOpened}
+use Rattle.dns_command.specs.Ends.{IsOpened, CountsFailures}
 
 -- what is opened: a socket, listeners, or both
 abbrev pub opening_at : Option Peer → List Opened
@@ -47,18 +46,17 @@ abbrev pub openings_of : Listening → List Opened
 openings_of listening = opening_at listening.udp ++ listening_at listening.tcp listening.limit listening.workers
 
 -- the journal before it was opened, and as the opening left it
-abbrev pub opening_journal : {K : Type 0} → (K → Option (List Row)) → (K → ℕ) → World → SeenOf K → Around JournalTold
-opening_journal rows faults w first = record { before = w.journal.before; after = journal_told rows faults first.keeper }
+abbrev pub opening_journal : {K : Type 0} → KeeperOf K → World → SeenOf K → Around KeeperTold
+opening_journal keeper w first = record { before = w.journal.before; after = keeper.told first.keeper }
 
 -- the words are legal, and the journal was opened at the moment that the clock was asked for
-pub record BeginsServing {K : Type 0} (rows : K → Option (List Row)) (faults : K → ℕ) (w : World) (service : Service) (first : SeenOf K) : Type 0 where
+pub record BeginsServing {K : Type 0} (keeper : KeeperOf K) (w : World) (service : Service) (first : SeenOf K) : Type 0 where
   pub opening : Opening
   pub legal : service_of w.words ≡ Some service
-  pub found : Finds (opening_journal rows faults w first) w.zone service.options.origin opening
+  pub found : Finds (opening_journal keeper w first) w.zone service.options.origin opening
   pub moment : ℕ
   pub asked : w.moment ≡ Some moment
-  pub opened : IsOpened w.journal.before.rows rows service.options moment opening first
-  pub later : w.journal.before.faults ≤ faults first.keeper
+  pub opened : IsOpened keeper w.journal.before service.options moment opening first
 
 -- a worker that has done nothing yet: its pass has seen the opening rows, and its port was not used
 pub record IsNewWorker {P : Type 0} (t : Terms) (most : ℕ) (IsFreshPort : P → Type 0) (worker : Worker P) : Type 0 where
@@ -105,12 +103,12 @@ module _ {K U T R W C : Type 0} (m : Meanings K U T R W C) where
   -- what a worker of a socket did: it settled each datagram that came, in order, by its pass, and the socket took the replies, each
   -- for the sender of its datagram, but those that it refused
   abbrev pub ServesSocket : Access → Worker U → Worker U → Type 0
-  ServesSocket access = ServedSocket m.rows m.faults m.socket access
+  ServesSocket access = ServedSocket m.keeper m.socket access
 
   -- what a worker of a listener did: it served each connection that came from a safe peer, one after the other, by its pass, and
   -- handed each back
   abbrev pub ServesListener : Access → Worker T → Worker T → Type 0
-  ServesListener access = ServedListener m.rows m.faults m.listener access
+  ServesListener access = ServedListener m.keeper m.listener access
 
   -- what each of them did
   pub record Works (access : Access) (before after : Crew U T) : Type 0 where
@@ -127,8 +125,15 @@ module _ {K U T R W C : Type 0} (m : Meanings K U T R W C) where
   -- how many steps of all ports together answered an update with ServFail because the journal failed (RFC 2136 3.8)
   abbrev pub failed_updates : (access : Access) (before after : Crew U T) → WorksToItsEnd access before after → ℕ
   failed_updates access before after worked =
-      added_up (failed_by_socket m.rows m.faults access m.socket) before.sockets after.sockets worked.sockets
-      + added_up (failed_by_listener m.rows m.faults access m.listener) before.listeners after.listeners worked.listeners
+      added_up (failed_by_socket m.keeper access m.socket) before.sockets after.sockets worked.sockets
+      + added_up (failed_by_listener m.keeper access m.listener) before.listeners after.listeners worked.listeners
+
+  -- and those of the work so far
+  abbrev pub failed_so_far : (access : Access) (before after : Crew U T) → (after ≡ before) ⊎ Works access before after → ℕ
+  failed_so_far access before after (inl none) = 0
+  failed_so_far access before after (inr worked) =
+      added_up (failed_by_socket m.keeper access m.socket) before.sockets after.sockets worked.sockets
+      + added_up (failed_by_listener m.keeper access m.listener) before.listeners after.listeners worked.listeners
 
   -- the openings of the hub are those of the words, and no other; each port had a worker, and the hub has it back. Its count of faults
   -- is what it was, but for one of these ports
@@ -153,29 +158,30 @@ module _ {K U T R W C : Type 0} (m : Meanings K U T R W C) where
   pub record ClosedForAll (t : Terms) (passes : List PassSeen) (last : SeenOf K) : Type 0 where
     pub book : BookId
     pub all : AreAll book t.seats passes
-    pub closed : ClosedFor m.rows m.faults t passes last
+    pub closed : ClosedFor m.keeper t passes last
 
   -- everything was served, and this is the output: the serial of the zone that the rows of the closing book stand for, and their
   -- number. Those rows begin with the opening ones and with all that each worker's pass has seen, and past the opening they are
   -- exactly those of the passes' receipts. Of all ports together no more updates got ServFail than the keeper's count of faults rose
-  -- from the opening to the closing, unless that stands at its last value
+  -- from the opening to the closing, unless that stands at its last value: where none got it that count stood still
   pub record Serves (w : World) (hub : Around (HubTold U T)) (written : List ℕ) : Type 0 where
     pub service : Service
     pub first : SeenOf K
     pub last : SeenOf K
     pub opened : Crew U T
     pub crew : Crew U T
-    pub begun : BeginsServing m.rows m.faults w service first
-    pub ports : ServesPorts hub service.listening (terms_at m.rows m.faults first (seats_of service.listening)) (access_of service.options) opened crew
+    pub begun : BeginsServing m.keeper w service first
+    pub ports : ServesPorts hub service.listening (terms_at m.keeper first (seats_of service.listening)) (access_of service.options) opened crew
     pub stopped : IsReadOut w.events
-    pub closed : ClosedForAll (terms_at m.rows m.faults first (seats_of service.listening)) (passes_of crew) last
-    pub few : RoseBy (failed_updates (access_of service.options) opened crew ports.worked) (m.faults first.keeper) (m.faults last.keeper)
-    pub left : m.rows last.keeper ≡ w.journal.after.rows
-    pub counted : m.faults last.keeper ≡ w.journal.after.faults
+    pub closed : ClosedForAll (terms_at m.keeper first (seats_of service.listening)) (passes_of crew) last
+    pub few : CountsFailures (failed_updates (access_of service.options) opened crew ports.worked)
+        (m.keeper.told first.keeper).faults (m.keeper.told last.keeper).faults
+    pub left : m.keeper.told last.keeper ≡ w.journal.after
     pub text : written ≡ serve_lines (serial_of last.zone.records) last.row_count
 
   -- The serving went no further: a port could not be opened, or failed, and the hub's count rose; or memory ran out. The book was
-  -- closed for all its passes: its rows begin with the opening ones, and past these they are exactly those of the passes' receipts.
+  -- closed for all its passes: its rows begin with the opening ones, and past these they are exactly those of the passes' receipts. Where
+  -- no update got ServFail the keeper's count of faults stood still
   pub record StopsServing (w : World) (hub : Around (HubTold U T)) (s : Status) : Type 0 where
     pub service : Service
     pub first : SeenOf K
@@ -183,12 +189,13 @@ module _ {K U T R W C : Type 0} (m : Meanings K U T R W C) where
     pub opened : Crew U T
     pub crew : Crew U T
     pub free : List PassSeen
-    pub begun : BeginsServing m.rows m.faults w service first
-    pub shared : SharesPasses (terms_at m.rows m.faults first (seats_of service.listening)) service.listening.limit (access_of service.options) opened crew free
+    pub begun : BeginsServing m.keeper w service first
+    pub shared : SharesPasses (terms_at m.keeper first (seats_of service.listening)) service.listening.limit (access_of service.options) opened crew free
     pub read : MayBeRead w.events hub service.listening
-    pub closed : ClosedForAll (terms_at m.rows m.faults first (seats_of service.listening)) (free ++ passes_of crew) last
-    pub left : m.rows last.keeper ≡ w.journal.after.rows
-    pub counted : m.faults last.keeper ≡ w.journal.after.faults
+    pub closed : ClosedForAll (terms_at m.keeper first (seats_of service.listening)) (free ++ passes_of crew) last
+    pub still : failed_so_far (access_of service.options) opened crew shared.worked ≡ 0
+        → (m.keeper.told last.keeper).faults ≡ (m.keeper.told first.keeper).faults
+    pub left : m.keeper.told last.keeper ≡ w.journal.after
     pub cause : IsPortCause hub (their_ports crew.sockets) (their_ports crew.listeners) s
 
   -- why nothing was served, by the first step in the order of the work that was refused: nothing was opened, and the journal has the
@@ -202,8 +209,8 @@ module _ {K U T R W C : Type 0} (m : Meanings K U T R W C) where
     at_opening : {s : Status} → (service : Service) (opening : Opening) → service_of w.words ≡ Some service
         → Finds w.journal w.zone service.options.origin opening → OpensNot w.journal service.options.origin opening s
         → Keeps w.journal.before.rows w.journal.after.rows → IsSome w.moment → IsUnserved w s
-    at_sharing : (service : Service) (first : SeenOf K) → BeginsServing m.rows m.faults w service first
-        → m.rows first.keeper ≡ w.journal.after.rows → IsUnserved w status.OutOfMemory
+    at_sharing : (service : Service) (first : SeenOf K) → BeginsServing m.keeper w service first
+        → m.keeper.told first.keeper ≡ w.journal.after → IsUnserved w status.OutOfMemory
 
   -- a refusal: before any port was opened, and then neither the hub nor the source that is read until it ends was used; or behind that
   pub data RefusesServing (w : World) (hub : Around (HubTold U T)) (s : Status) : Type 0 where

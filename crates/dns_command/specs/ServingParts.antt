@@ -5,7 +5,6 @@ use Rattle.dns_io.specs.Told.{Keeps, Grows, Rose}
 use Rattle.dns_io.specs.declared.io_fault.IoFault.{IoFault}
 use Rattle.dns_io.specs.declared.io_fault.IoFault.TheVariants.{Failed, OutOfMemory as NoMemory}
 use Rattle.dns_edges.specs.Edges.{Around, SourceTold, around}
-use Rattle.dns_keeper.specs.declared.row.Row.{Row}
 use Rattle.dns_book.specs.Book.{SeenOf}
 use Rattle.dns_ports.specs.declared.hub.Opening.{Opening as Opened}
 use Rattle.dns_ports.specs.Ports.{UdpTold, TcpTold, HubTold}
@@ -22,7 +21,6 @@ use Rattle.dns_command.specs.declared.listening_words.Service.{Service}
 use Rattle.dns_command.specs.CommandLine.{access_of}
 use Rattle.dns_command.specs.ListeningWords.{seats_of}
 use Rattle.dns_command.specs.Hubs.{Meanings, EndsWith, AnyFault}
-use Rattle.dns_command.specs.World.{journal_told}
 use Rattle.dns_words.specs.Writing.{IsUntouched}
 use Rattle.dns_command.specs.Steps.{OpensNot}
 use Rattle.dns_command.specs.Parts.{OpensBook}
@@ -125,18 +123,18 @@ module _ {K U T R W C : Type 0} (m : Meanings K U T R W C) where
   pub record ServesBook (hub : Around (HubTold U T)) (until : Around SourceTold) (service : Service) (first last : SeenOf K) : Type 0 where
     pub opened : Crew U T
     pub crew : Crew U T
-    pub ports : ServesPorts m hub service.listening (terms_at m.rows m.faults first (seats_of service.listening)) (access_of service.options) opened crew
+    pub ports : ServesPorts m hub service.listening (terms_at m.keeper first (seats_of service.listening)) (access_of service.options) opened crew
     pub read : IsReadOut until
-    pub closed : ClosedForAll m (terms_at m.rows m.faults first (seats_of service.listening)) (passes_of crew) last
+    pub closed : ClosedForAll m (terms_at m.keeper first (seats_of service.listening)) (passes_of crew) last
 
   -- it was shared and closed, but not served to the end
   pub record LeavesBook (hub : Around (HubTold U T)) (until : Around SourceTold) (service : Service) (first : SeenOf K) (s : Status) (last : SeenOf K) : Type 0 where
     pub opened : Crew U T
     pub crew : Crew U T
     pub free : List PassSeen
-    pub shared : SharesPasses m (terms_at m.rows m.faults first (seats_of service.listening)) service.listening.limit (access_of service.options) opened crew free
+    pub shared : SharesPasses m (terms_at m.keeper first (seats_of service.listening)) service.listening.limit (access_of service.options) opened crew free
     pub read : MayBeRead until hub service.listening
-    pub closed : ClosedForAll m (terms_at m.rows m.faults first (seats_of service.listening)) (free ++ passes_of crew) last
+    pub closed : ClosedForAll m (terms_at m.keeper first (seats_of service.listening)) (free ++ passes_of crew) last
     pub cause : IsPortCause m hub (their_ports crew.sockets) (their_ports crew.listeners) s
 
   -- why not, and the keeper: it was not shared for want of memory, and neither the hub nor the source was used; or it was closed
@@ -145,15 +143,15 @@ module _ {K U T R W C : Type 0} (m : Meanings K U T R W C) where
     closed : {s : Status} {left : K} → (last : SeenOf K) → LeavesBook hub until service first s last → last.keeper ≡ left → ServesNot hub until service first s left
 
   -- the journal was opened, and its book served
-  pub record ServesOpened (hub : Around (HubTold U T)) (until : Around SourceTold) (keeper : K) (service : Service) (opening : Opening) (moment : ℕ) (last : SeenOf K) : Type 0 where
+  pub record ServesOpened (hub : Around (HubTold U T)) (until : Around SourceTold) (held : K) (service : Service) (opening : Opening) (moment : ℕ) (last : SeenOf K) : Type 0 where
     pub first : SeenOf K
-    pub begun : OpensBook m.rows m.faults keeper service.options opening moment first
+    pub begun : OpensBook m.keeper held service.options opening moment first
     pub served : ServesBook hub until service first last
 
   -- why not, and the keeper: the journal was not opened, its rows are as they were, and neither the hub nor the source was used; or
   -- its book was not served to the end
-  pub data ServesNone (hub : Around (HubTold U T)) (until : Around SourceTold) (keeper : K) (service : Service) (opening : Opening) (moment : ℕ) : Status → K → Type 0 where
-    not_opened : {s : Status} {left : K} → OpensNot (around (journal_told m.rows m.faults) keeper left) service.options.origin opening s
-        → Keeps (m.rows keeper) (m.rows left) → IsUntouched hub → IsUntouched until → ServesNone hub until keeper service opening moment s left
-    not_served : {s : Status} {left : K} → (first : SeenOf K) → OpensBook m.rows m.faults keeper service.options opening moment first
-        → ServesNot hub until service first s left → ServesNone hub until keeper service opening moment s left
+  pub data ServesNone (hub : Around (HubTold U T)) (until : Around SourceTold) (held : K) (service : Service) (opening : Opening) (moment : ℕ) : Status → K → Type 0 where
+    not_opened : {s : Status} {left : K} → OpensNot (around m.keeper.told held left) service.options.origin opening s
+        → Keeps (m.keeper.told held).rows (m.keeper.told left).rows → IsUntouched hub → IsUntouched until → ServesNone hub until held service opening moment s left
+    not_served : {s : Status} {left : K} → (first : SeenOf K) → OpensBook m.keeper held service.options opening moment first
+        → ServesNot hub until service first s left → ServesNone hub until held service opening moment s left

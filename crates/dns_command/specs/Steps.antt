@@ -1,6 +1,6 @@
 -- The steps of the commands `events` and `load`, in the order of the work, and the causes for which each of them is refused.
 use Rattle.std.specs.Prelude.{◌≡◌, ◌≤◌, ℕ, ℤ, List, length, Option, Some, None, IsSome, MatchOption, Ok, Err}
-use Rattle.dns_keeper.specs.declared.row.Row.{Row}
+use Rattle.dns_keeper.specs.Keeping.{KeeperTold}
 use Rattle.dns_edges.specs.Edges.{Around, SourceTold}
 use Rattle.dns_io.specs.Told.{Rose, WasRead, WasLonger}
 use Rattle.dns_zone_map.specs.Zone.{Contents}
@@ -18,7 +18,7 @@ use Rattle.dns_command.specs.declared.command_line.Options.{Options}
 use Rattle.dns_command.specs.CommandLine.{options_of}
 use Rattle.dns_command.specs.EventText.{events_of}
 use Rattle.dns_words.specs.Writing.{IsUntouched}
-use Rattle.dns_command.specs.World.{JournalTold, IsStill}
+use Rattle.dns_command.specs.World.{IsStill, IsStillJournal}
 use Rattle.dns_command.specs.Example.{example_text}
 use Rattle.dns_generator.specs.Requests.{origin_name}
 use Rattle.dns_generator.specs.Loaded.{loaded}
@@ -49,20 +49,21 @@ pub data ReadsNoZone (source : Around SourceTold) (origin : List (List ℕ)) : S
 
 -- how the journal is to be opened: one without rows is begun with the zone of the zone text; one with rows is read back, and
 -- the zone text is not read
-abbrev pub Finds : Around JournalTold → Around SourceTold → List (List ℕ) → Opening → Type 0
+abbrev pub Finds : Around KeeperTold → Around SourceTold → List (List ℕ) → Opening → Type 0
 Finds journal source origin (Begin zone) = HadNoRow journal.before.rows journal.after.rows × ReadsZone source origin zone
 Finds journal source origin Recover = HadRows journal.before.rows journal.after.rows × IsUntouched source
 
--- why the journal's first row was not seen: the journal failed, or memory ran out
-pub data SeesNoRow (journal : Around JournalTold) : Status → Type 0 where
+-- why the journal's first row was not seen: the journal failed, and counted it, or memory ran out
+pub data SeesNoRow (journal : Around KeeperTold) : Status → Type 0 where
   journal_unread : Rose journal.before.faults journal.after.faults → SeesNoRow journal status.KeeperFault
-  journal_without_memory : SeesNoRow journal status.OutOfMemory
+  journal_without_memory : IsStillJournal journal → SeesNoRow journal status.OutOfMemory
 
 -- why it is not known how the journal is opened: its first row was not seen, and then the zone text was not read; or it
 -- has no row, and there is no zone
-pub data FindsNot (journal : Around JournalTold) (source : Around SourceTold) (origin : List (List ℕ)) : Status → Type 0 where
+pub data FindsNot (journal : Around KeeperTold) (source : Around SourceTold) (origin : List (List ℕ)) : Status → Type 0 where
   unseen : {s : Status} → SeesNoRow journal s → IsUntouched source → FindsNot journal source origin s
-  no_zone : {s : Status} → HadNoRow journal.before.rows journal.after.rows → ReadsNoZone source origin s → FindsNot journal source origin s
+  no_zone : {s : Status} → HadNoRow journal.before.rows journal.after.rows → IsStillJournal journal → ReadsNoZone source origin s
+      → FindsNot journal source origin s
 
 -- the events are those of the event text, which was read to its end without a fault
 pub record LoadsEvents (source : Around SourceTold) (events : List Event) : Type 0 where
@@ -85,18 +86,18 @@ pub record IsExample (zone : Contents) : Type 0 where
   pub records : zone_of origin_name example_text ≡ Ok zone.records
 
 -- how the journal is to be opened for a drawn list
-abbrev pub FindsExample : Around JournalTold → Opening → Type 0
+abbrev pub FindsExample : Around KeeperTold → Opening → Type 0
 FindsExample journal (Begin zone) = HadNoRow journal.before.rows journal.after.rows × IsExample zone
 FindsExample journal Recover = HadRows journal.before.rows journal.after.rows
 
 -- how the journal is to be opened, by the words
-abbrev pub FindsBy : Around JournalTold → Around SourceTold → Options → Opening → Type 0
+abbrev pub FindsBy : Around KeeperTold → Around SourceTold → Options → Opening → Type 0
 FindsBy journal source options opening = MatchOption options.drawn
     (Finds journal source options.origin opening)
     (λ drawn. FindsExample journal opening × IsUntouched source)
 
 -- why it is not known how the journal is opened, by the words
-abbrev pub FindsNotBy : Around JournalTold → Around SourceTold → Options → Status → Type 0
+abbrev pub FindsNotBy : Around KeeperTold → Around SourceTold → Options → Status → Type 0
 FindsNotBy journal source options s = MatchOption options.drawn
     (FindsNot journal source options.origin s)
     (λ drawn. SeesNoRow journal s × IsUntouched source)
@@ -114,15 +115,16 @@ HearsNotBy source options s = MatchOption options.drawn
     (λ drawn. (s ≡ status.OutOfMemory) × IsUntouched source)
 
 -- why the journal was not opened: it has rows that stand for no zone of this origin, and this is the first that is refused;
--- it failed; or memory ran out
-pub data OpensNot (journal : Around JournalTold) (origin : List (List ℕ)) : Opening → Status → Type 0 where
-  rows_refused : (row : ℤ) (why : ReplayKind) → AreRefused journal.before.rows journal.after.rows origin row why → OpensNot journal origin Recover (status.Recovery row why)
+-- it failed; or memory ran out. Its count of faults rose where it failed, and nowhere else
+pub data OpensNot (journal : Around KeeperTold) (origin : List (List ℕ)) : Opening → Status → Type 0 where
+  rows_refused : (row : ℤ) (why : ReplayKind) → AreRefused journal.before.rows journal.after.rows origin row why → IsStillJournal journal
+      → OpensNot journal origin Recover (status.Recovery row why)
   journal_failed : {opening : Opening} → Rose journal.before.faults journal.after.faults → OpensNot journal origin opening status.KeeperFault
-  opening_without_memory : {opening : Opening} → OpensNot journal origin opening status.OutOfMemory
+  opening_without_memory : {opening : Opening} → IsStillJournal journal → OpensNot journal origin opening status.OutOfMemory
 
 -- A refusal, by the first step in the order of the work that was refused. What comes after that step was not done: the
 -- sources that it reads and the journal are as they were, and the clock is asked only where the journal is to be opened.
-pub data IsRefused (words : List (List ℕ)) (zone_text event_text : Around SourceTold) (journal : Around JournalTold) (moment : Option ℕ)
+pub data IsRefused (words : List (List ℕ)) (zone_text event_text : Around SourceTold) (journal : Around KeeperTold) (moment : Option ℕ)
     : Status → Type 0 where
   at_words : options_of words ≡ None → IsUntouched zone_text → IsUntouched event_text → IsUntouched journal → moment ≡ None
       → IsRefused words zone_text event_text journal moment status.Usage
@@ -132,7 +134,7 @@ pub data IsRefused (words : List (List ℕ)) (zone_text event_text : Around Sour
       → FindsNotBy journal zone_text options s → IsUntouched event_text → moment ≡ None
       → IsRefused words zone_text event_text journal moment s
   at_events : {s : Status} → (options : Options) (opening : Opening) → options_of words ≡ Some options
-      → FindsBy journal zone_text options opening → HearsNotBy event_text options s → moment ≡ None
+      → FindsBy journal zone_text options opening → IsStillJournal journal → HearsNotBy event_text options s → moment ≡ None
       → IsRefused words zone_text event_text journal moment s
   at_opening : {s : Status} → (options : Options) (opening : Opening) (events : List Event) → options_of words ≡ Some options
       → FindsBy journal zone_text options opening → HearsBy event_text options events → OpensNot journal options.origin opening s

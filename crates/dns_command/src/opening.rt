@@ -1,13 +1,12 @@
 //! Opening the journal: with the zone of the zone text, or by the rows that it has.
 
-ghost use Rattle.std.specs.Prelude.{◌≡◌, ◌<◌, ◌≤◌, ◌^◌, IfOk, IfErr, true, false};
+ghost use Rattle.std.specs.Prelude.{◌≡◌, ◌<◌, ◌≤◌, ◌^◌, OnOk, IfOk, IfErr, true, false};
 ghost use Rattle.dns_edges.specs.Edges.{around};
 ghost use Rattle.dns_io.specs.Told.{Keeps};
 ghost use Rattle.dns_name.specs.Name.{fold_of};
 ghost use Rattle.dns_book.specs.Opening.{HadNoRow, HadRows};
 ghost use Rattle.dns_command.specs.Steps.{ReadsZone, ReadsNoZone, Finds, SeesNoRow, FindsNot, FindsBy, FindsNotBy, FindsExample, IsExample, OpensNot};
 ghost use Rattle.dns_command.specs.Parts.{IsReady, OpensBook, unopened, unkept};
-ghost use Rattle.dns_command.specs.World.{journal_told};
 
 use crate::command_line::Options;
 use crate::example::EXAMPLE;
@@ -52,12 +51,13 @@ pub fn find_opening<Z: Source, K: Keeper>(
 ) -> Result<Opening, Status>
     requires { fold_of origin.now ≡ origin.now }
     ensures ok { IfOk result (Finds
-        (around (journal_told K.rows K.faults) keeper.old keeper.new) (around Z.source.told source.old source.new) origin.now) }
+        (around K.keeper.told keeper.old keeper.new) (around Z.source.told source.old source.new) origin.now) }
     ensures err { IfErr result (FindsNot
-        (around (journal_told K.rows K.faults) keeper.old keeper.new) (around Z.source.told source.old source.new) origin.now) }
-    ensures ready { IfOk result (λ opening. IsReady opening (K.rows keeper.new)) }
-    ensures kept { Keeps (K.rows keeper.old) (K.rows keeper.new) }
-    ensures later { K.faults keeper.old ≤ K.faults keeper.new }
+        (around K.keeper.told keeper.old keeper.new) (around Z.source.told source.old source.new) origin.now) }
+    ensures ready { IfOk result (λ opening. IsReady opening (K.keeper.told keeper.new).rows) }
+    ensures kept { Keeps (K.keeper.told keeper.old).rows (K.keeper.told keeper.new).rows }
+    ensures later { (K.keeper.told keeper.old).faults ≤ (K.keeper.told keeper.new).faults }
+    ensures still { OnOk result ((K.keeper.told keeper.new).faults ≡ (K.keeper.told keeper.old).faults) }
     ensures later_source { (Z.source.told source.old).faults ≤ (Z.source.told source.new).faults }
 {
     if has_rows(keeper)? {
@@ -77,12 +77,13 @@ pub fn find_opening_by<Z: Source, K: Keeper>(
 ) -> Result<Opening, Status>
     requires { fold_of options.now.origin ≡ options.now.origin }
     ensures ok { IfOk result (FindsBy
-        (around (journal_told K.rows K.faults) keeper.old keeper.new) (around Z.source.told source.old source.new) options.now) }
+        (around K.keeper.told keeper.old keeper.new) (around Z.source.told source.old source.new) options.now) }
     ensures err { IfErr result (FindsNotBy
-        (around (journal_told K.rows K.faults) keeper.old keeper.new) (around Z.source.told source.old source.new) options.now) }
-    ensures ready { IfOk result (λ opening. IsReady opening (K.rows keeper.new)) }
-    ensures kept { Keeps (K.rows keeper.old) (K.rows keeper.new) }
-    ensures later { K.faults keeper.old ≤ K.faults keeper.new }
+        (around K.keeper.told keeper.old keeper.new) (around Z.source.told source.old source.new) options.now) }
+    ensures ready { IfOk result (λ opening. IsReady opening (K.keeper.told keeper.new).rows) }
+    ensures kept { Keeps (K.keeper.told keeper.old).rows (K.keeper.told keeper.new).rows }
+    ensures later { (K.keeper.told keeper.old).faults ≤ (K.keeper.told keeper.new).faults }
+    ensures still { OnOk result ((K.keeper.told keeper.new).faults ≡ (K.keeper.told keeper.old).faults) }
     ensures later_source { (Z.source.told source.old).faults ≤ (Z.source.told source.new).faults }
 {
     match options.drawn {
@@ -93,11 +94,12 @@ pub fn find_opening_by<Z: Source, K: Keeper>(
 
 /// How the journal is to be opened for a drawn list of events.
 fn find_example<K: Keeper>(alloc: Global, keeper: &mut K) -> Result<Opening, Status>
-    ensures ok { IfOk result (FindsExample (around (journal_told K.rows K.faults) keeper.old keeper.new)) }
-    ensures err { IfErr result (SeesNoRow (around (journal_told K.rows K.faults) keeper.old keeper.new)) }
-    ensures ready { IfOk result (λ opening. IsReady opening (K.rows keeper.new)) }
-    ensures kept { Keeps (K.rows keeper.old) (K.rows keeper.new) }
-    ensures later { K.faults keeper.old ≤ K.faults keeper.new }
+    ensures ok { IfOk result (FindsExample (around K.keeper.told keeper.old keeper.new)) }
+    ensures err { IfErr result (SeesNoRow (around K.keeper.told keeper.old keeper.new)) }
+    ensures ready { IfOk result (λ opening. IsReady opening (K.keeper.told keeper.new).rows) }
+    ensures kept { Keeps (K.keeper.told keeper.old).rows (K.keeper.told keeper.new).rows }
+    ensures later { (K.keeper.told keeper.old).faults ≤ (K.keeper.told keeper.new).faults }
+    ensures still { OnOk result ((K.keeper.told keeper.new).faults ≡ (K.keeper.told keeper.old).faults) }
 {
     if has_rows(keeper)? {
         return Ok(Opening::Recover);
@@ -123,11 +125,12 @@ fn example(alloc: Global) -> Result<Zone, OutOfMemory>
 
 /// Whether the journal has a row.
 fn has_rows<K: Keeper>(keeper: &mut K) -> Result<bool, Status>
-    ensures some { IfOk result (λ has. has ≡ true → HadRows (K.rows keeper.old) (K.rows keeper.new)) }
-    ensures none { IfOk result (λ has. has ≡ false → HadNoRow (K.rows keeper.old) (K.rows keeper.new)) }
-    ensures err { IfErr result (SeesNoRow (around (journal_told K.rows K.faults) keeper.old keeper.new)) }
-    ensures kept { Keeps (K.rows keeper.old) (K.rows keeper.new) }
-    ensures later { K.faults keeper.old ≤ K.faults keeper.new }
+    ensures some { IfOk result (λ has. has ≡ true → HadRows (K.keeper.told keeper.old).rows (K.keeper.told keeper.new).rows) }
+    ensures none { IfOk result (λ has. has ≡ false → HadNoRow (K.keeper.told keeper.old).rows (K.keeper.told keeper.new).rows) }
+    ensures err { IfErr result (SeesNoRow (around K.keeper.told keeper.old keeper.new)) }
+    ensures kept { Keeps (K.keeper.told keeper.old).rows (K.keeper.told keeper.new).rows }
+    ensures later { (K.keeper.told keeper.old).faults ≤ (K.keeper.told keeper.new).faults }
+    ensures still { OnOk result ((K.keeper.told keeper.new).faults ≡ (K.keeper.told keeper.old).faults) }
 {
     match keeper.row_from(i64::MIN) {
         Ok(Some(_)) => Ok(true),
@@ -170,11 +173,11 @@ pub fn open_book<K: Keeper>(
     moment: u64,
 ) -> Result<Book<K>, Refusal<K>>
     requires moment { moment < 2 ^ 47 }
-    requires ready { IsReady opening (K.rows keeper) }
-    ensures ok { IfOk result (OpensBook K.rows K.faults keeper options.now opening moment) }
+    requires ready { IsReady opening (K.keeper.told keeper).rows }
+    ensures ok { IfOk result (OpensBook K.keeper keeper options.now opening moment) }
     ensures err { IfErr result (λ fault. OpensNot
-        (around (journal_told K.rows K.faults) keeper fault.keeper) options.now.origin opening fault.status) }
-    ensures kept { IfErr result (λ fault. Keeps (K.rows keeper) (K.rows fault.keeper)) }
+        (around K.keeper.told keeper fault.keeper) options.now.origin opening fault.status) }
+    ensures kept { IfErr result (λ fault. Keeps (K.keeper.told keeper).rows (K.keeper.told fault.keeper).rows) }
 {
     let allow_update = options.allow_update;
     match opening {

@@ -44,10 +44,10 @@ where
     requires seats { server.old.book.terms.seats ≡ seats_of listening.now }
     requires limit { listening.now.limit < 2 ^ 47 }
     ensures ok { OnOk result (ServesWell
-        (meanings K.rows K.faults H.Udp.told (listener_of H.Tcp.told H.Tcp.In.source H.Tcp.Out.sink H.Tcp.Time.clock))
+        (meanings K.keeper H.Udp.told (listener_of H.Tcp.told H.Tcp.In.source H.Tcp.Out.sink H.Tcp.Time.clock))
         (around H.told hub.old hub.new) (around E.source.told until.old until.new) listening.now server.old server.new) }
     ensures crew { HasCrew
-        (meanings K.rows K.faults H.Udp.told (listener_of H.Tcp.told H.Tcp.In.source H.Tcp.Out.sink H.Tcp.Time.clock))
+        (meanings K.keeper H.Udp.told (listener_of H.Tcp.told H.Tcp.In.source H.Tcp.Out.sink H.Tcp.Time.clock))
         listening.now.limit server.old server.new }
     ensures read { MayBeRead (around E.source.told until.old until.new) (around H.told hub.old hub.new) listening.now }
     ensures err { IfErr result (IsCauseSoFar

@@ -12,7 +12,7 @@ ghost use Rattle.dns_command.specs.Lines.{serve_lines};
 ghost use Rattle.dns_command.specs.ServeEnds.{ServeEnds, RunTells};
 ghost use Rattle.dns_command.specs.ServingParts.{ServesBook, ServesNot, ServesOpened, ServesNone};
 ghost use Rattle.dns_command.specs.Parts.{IsReady};
-ghost use Rattle.dns_command.specs.World.{IsAsked, journal_told};
+ghost use Rattle.dns_command.specs.World.{IsAsked};
 ghost use Rattle.dns_command.specs.Writing.{EndsWriting};
 
 use crate::listening_words::{Service, service_of};
@@ -63,11 +63,11 @@ where
     <H::Tcp as TcpPort>::Time: Send,
     ensures keeper { IsSome result.keeper }
     ensures ends { IfSome result.keeper (λ left. (moment : Option ℕ) × IsAsked C.clock clock.old clock.new moment × RunTells
-        (meanings K.rows K.faults H.Udp.told (listener_of H.Tcp.told H.Tcp.In.source H.Tcp.Out.sink H.Tcp.Time.clock)) (record {
+        (meanings K.keeper H.Udp.told (listener_of H.Tcp.told H.Tcp.In.source H.Tcp.Out.sink H.Tcp.Time.clock)) (record {
           words = map string_bytes words.now.items;
           zone = around Z.source.told zone.old zone.new;
           events = around E.source.told events.old events.new;
-          journal = around (journal_told K.rows K.faults) keeper left;
+          journal = around K.keeper.told keeper left;
           output = around W.sink.told out.old out.new;
           moment = moment;
         }) (around H.told hub.old hub.new) result.status) }
@@ -119,11 +119,11 @@ where
     ensures keeper { IsSome result.keeper }
     ensures ends { IfSome result.keeper (λ left. (moment : Option ℕ) × IsAsked C.clock clock.old clock.new moment × ((words : List (List ℕ))
         → service_of words ≡ Some service → ServeEnds
-        (meanings K.rows K.faults H.Udp.told (listener_of H.Tcp.told H.Tcp.In.source H.Tcp.Out.sink H.Tcp.Time.clock)) (record {
+        (meanings K.keeper H.Udp.told (listener_of H.Tcp.told H.Tcp.In.source H.Tcp.Out.sink H.Tcp.Time.clock)) (record {
           words = words;
           zone = around Z.source.told zone.old zone.new;
           events = around E.source.told until.old until.new;
-          journal = around (journal_told K.rows K.faults) keeper left;
+          journal = around K.keeper.told keeper left;
           output = around W.sink.told out.old out.new;
           moment = moment;
         }) (around H.told hub.old hub.new) result.status)) }
@@ -172,15 +172,15 @@ where
     <H::Tcp as TcpPort>::Out: Send,
     <H::Tcp as TcpPort>::Time: Send,
     requires moment { moment < 2 ^ 47 }
-    requires ready { IsReady opening (K.rows keeper) }
+    requires ready { IsReady opening (K.keeper.told keeper).rows }
     requires limit { service.listening.limit < 2 ^ 47 }
     requires workers { (0 < service.listening.workers) × (service.listening.workers ≤ 64) }
     requires some { 0 < seats_of service.listening }
     ensures ok { IfOk result (ServesOpened
-        (meanings K.rows K.faults H.Udp.told (listener_of H.Tcp.told H.Tcp.In.source H.Tcp.Out.sink H.Tcp.Time.clock))
+        (meanings K.keeper H.Udp.told (listener_of H.Tcp.told H.Tcp.In.source H.Tcp.Out.sink H.Tcp.Time.clock))
         (around H.told hub.old hub.new) (around E.source.told until.old until.new) keeper service opening moment) }
     ensures err { IfErr result (λ refusal. ServesNone
-        (meanings K.rows K.faults H.Udp.told (listener_of H.Tcp.told H.Tcp.In.source H.Tcp.Out.sink H.Tcp.Time.clock))
+        (meanings K.keeper H.Udp.told (listener_of H.Tcp.told H.Tcp.In.source H.Tcp.Out.sink H.Tcp.Time.clock))
         (around H.told hub.old hub.new) (around E.source.told until.old until.new)
         keeper service opening moment refusal.status refusal.keeper) }
     ensures back { HasAllBack (around H.told hub.old hub.new) }
@@ -210,10 +210,10 @@ where
     requires workers { (0 < service.listening.workers) × (service.listening.workers ≤ 64) }
     requires some { 0 < seats_of service.listening }
     ensures ok { IfOk result (ServesBook
-        (meanings K.rows K.faults H.Udp.told (listener_of H.Tcp.told H.Tcp.In.source H.Tcp.Out.sink H.Tcp.Time.clock))
+        (meanings K.keeper H.Udp.told (listener_of H.Tcp.told H.Tcp.In.source H.Tcp.Out.sink H.Tcp.Time.clock))
         (around H.told hub.old hub.new) (around E.source.told until.old until.new) service book) }
     ensures err { IfErr result (λ refusal. ServesNot
-        (meanings K.rows K.faults H.Udp.told (listener_of H.Tcp.told H.Tcp.In.source H.Tcp.Out.sink H.Tcp.Time.clock))
+        (meanings K.keeper H.Udp.told (listener_of H.Tcp.told H.Tcp.In.source H.Tcp.Out.sink H.Tcp.Time.clock))
         (around H.told hub.old hub.new) (around E.source.told until.old until.new) service book refusal.status refusal.keeper) }
     ensures back { HasAllBack (around H.told hub.old hub.new) }
     ensures later { (E.source.told until.old).faults ≤ (E.source.told until.new).faults }

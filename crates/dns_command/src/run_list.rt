@@ -1,13 +1,13 @@
 //! The commands `events` and `load`: the messages of a list of events are settled in order.
 
-ghost use Rattle.std.specs.Prelude.{◌≡◌, ◌<◌, ◌≤◌, ◌^◌, ℕ, Option, None, length, IsSome, IfSome, IfOk, IfErr, map, string_bytes};
+ghost use Rattle.std.specs.Prelude.{◌≡◌, ◌<◌, ◌≤◌, ◌^◌, ℕ, Option, None, length, IsSome, IfSome, OnOk, IfOk, IfErr, map, string_bytes};
 ghost use Rattle.dns_edges.specs.Edges.{around};
 ghost use Rattle.dns_io.specs.Told.{Keeps};
 ghost use Rattle.dns_zone_map.specs.Zone.{serial_of};
 ghost use Rattle.dns_command.specs.declared.status.Status.TheVariants as status;
 ghost use Rattle.dns_command.specs.Lines.{lines_by};
 ghost use Rattle.dns_command.specs.Steps.{LoadsEvents, LoadsNoEvents, HearsBy, HearsNotBy, IsRefused};
-ghost use Rattle.dns_command.specs.World.{IsAsked, journal_told};
+ghost use Rattle.dns_command.specs.World.{IsAsked};
 ghost use Rattle.dns_command.specs.ServeEnds.{ListTells};
 ghost use Rattle.dns_command.specs.Parts.{Prepares, IsReady, SettlesEach, SettlesPart, SettlesAll, SettlesNot};
 ghost use Rattle.dns_command.specs.Writing.{EndsWriting};
@@ -59,11 +59,11 @@ pub fn run_list<Z: Source, E: Source, W: Sink, K: Keeper, C: Clock>(
 ) -> Ended<K>
     ensures keeper { IsSome result.keeper }
     ensures ends { IfSome result.keeper (λ left. (moment : Option ℕ) × IsAsked C.clock clock.old clock.new moment
-        × ListTells K.rows K.faults (record {
+        × ListTells K.keeper (record {
           words = map string_bytes words.now.items;
           zone = around Z.source.told zone.old zone.new;
           events = around E.source.told events.old events.new;
-          journal = around (journal_told K.rows K.faults) keeper left;
+          journal = around K.keeper.told keeper left;
           output = around W.sink.told out.old out.new;
           moment = moment;
         }) result.status) }
@@ -104,13 +104,14 @@ fn prepare<Z: Source, E: Source, K: Keeper>(
 ) -> Result<Inputs, Status>
     ensures ok { IfOk result (Prepares (map string_bytes words.now.items)
         (around Z.source.told zone.old zone.new) (around E.source.told events.old events.new)
-        (around (journal_told K.rows K.faults) keeper.old keeper.new)) }
+        (around K.keeper.told keeper.old keeper.new)) }
     ensures err { IfErr result (IsRefused (map string_bytes words.now.items)
         (around Z.source.told zone.old zone.new) (around E.source.told events.old events.new)
-        (around (journal_told K.rows K.faults) keeper.old keeper.new) None) }
-    ensures ready { IfOk result (λ inputs. IsReady inputs.opening (K.rows keeper.new)) }
-    ensures kept { Keeps (K.rows keeper.old) (K.rows keeper.new) }
-    ensures later { K.faults keeper.old ≤ K.faults keeper.new }
+        (around K.keeper.told keeper.old keeper.new) None) }
+    ensures ready { IfOk result (λ inputs. IsReady inputs.opening (K.keeper.told keeper.new).rows) }
+    ensures kept { Keeps (K.keeper.told keeper.old).rows (K.keeper.told keeper.new).rows }
+    ensures later { (K.keeper.told keeper.old).faults ≤ (K.keeper.told keeper.new).faults }
+    ensures still { OnOk result ((K.keeper.told keeper.new).faults ≡ (K.keeper.told keeper.old).faults) }
     ensures later_zone { (Z.source.told zone.old).faults ≤ (Z.source.told zone.new).faults }
     ensures later_events { (E.source.told events.old).faults ≤ (E.source.told events.new).faults }
 {
@@ -170,9 +171,9 @@ fn settle_events<K: Keeper>(
     moment: u64,
 ) -> Result<Served<K>, Refusal<K>>
     requires moment { moment < 2 ^ 47 }
-    requires ready { IsReady inputs.opening (K.rows keeper) }
-    ensures ok { IfOk result (λ served. SettlesAll K.rows K.faults keeper inputs moment served.outs.items served.server) }
-    ensures err { IfErr result (λ fault. SettlesNot K.rows K.faults keeper inputs moment fault.status fault.keeper) }
+    requires ready { IsReady inputs.opening (K.keeper.told keeper).rows }
+    ensures ok { IfOk result (λ served. SettlesAll K.keeper keeper inputs moment served.outs.items served.server) }
+    ensures err { IfErr result (λ fault. SettlesNot K.keeper keeper inputs moment fault.status fault.keeper) }
 {
     let Inputs {
         options,
@@ -194,9 +195,9 @@ fn settle_all<K: Keeper>(
     events: &Vec<Event>,
 ) -> Result<Served<K>, Refusal<K>>
     ensures ok { IfOk result (λ served.
-        SettlesEach K.rows K.faults (record { allowed = allowed; denied = denied }) book events.now.items served.outs.items served.server) }
+        SettlesEach K.keeper (record { allowed = allowed; denied = denied }) book events.now.items served.outs.items served.server) }
     ensures err { IfErr result (λ fault.
-        SettlesPart K.rows K.faults (record { allowed = allowed; denied = denied }) book events.now.items fault.status fault.keeper) }
+        SettlesPart K.keeper (record { allowed = allowed; denied = denied }) book events.now.items fault.status fault.keeper) }
 {
     let mut server = Server::with_access(alloc, book, denied.into_vec(), allowed.into_vec());
     if !server.valid_events(events) {

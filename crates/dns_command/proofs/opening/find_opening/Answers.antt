@@ -11,4 +11,4 @@ returns-in_err-has_rows-clause-err g c =
 pub returns-in_err-zone-clause-err : goal.returns-in_err-zone-clause-err
 returns-in_err-zone-clause-err g c =
     let p = err_from_is_err_and c.from_residual-in_err-zone.result c.from_residual-in_err-zone.ensures.1 in
-    rw (p.1, p.2) (no_zone (c.in_ok-has_rows.ensures.none c.if-branch.false) c.in_err-zone.ensures.err)
+    rw (p.1, p.2) (no_zone (c.in_ok-has_rows.ensures.none c.if-branch.false) c.in_ok-has_rows.ensures.still c.in_err-zone.ensures.err)

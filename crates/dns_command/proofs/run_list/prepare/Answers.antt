@@ -22,4 +22,4 @@ pub returns-in_err-events-clause-err : goal.returns-in_err-events-clause-err
 returns-in_err-events-clause-err g c =
     let legal = rw c.as_slice.ensures.value at (sym c.in-Ok-Some.ensures.is ∙ c.in-Ok-Some.field-0-is) in
     let p = err_from_is_err_and c.from_residual-in_err-events.result c.from_residual-in_err-events.ensures.1 in
-    rw (p.1, p.2) (at_events c.in-Ok-Some.options c.in_ok-opening.opening legal c.in_ok-opening.ensures.ok c.in_err-events.ensures.err refl)
+    rw (p.1, p.2) (at_events c.in-Ok-Some.options c.in_ok-opening.opening legal c.in_ok-opening.ensures.ok c.in_ok-opening.ensures.still c.in_err-events.ensures.err refl)

@@ -16,11 +16,11 @@ returns-in-Ok-clause-ok g c =
     let answered = rw server at c.in-Ok.ensures.ok in
     let kept = rw server at c.in-Ok.ensures.after in
     let valid = rw server at (c.valid_events.ensures.0 c.if-not-valid_events.false) in
-    settled_each g.K.Keeper.rows g.K.Keeper.faults _ _ _ _ _ valid (rw c.new-outs.ensures.items at answered) kept c.failed_updates.ensures
+    settled_each g.K.Keeper.keeper _ _ _ _ _ valid (rw c.new-outs.ensures.items at answered) kept c.failed_updates.ensures.rose c.failed_updates.ensures.calm
 
 pub returns-in-Err-clause-err : goal.returns-in-Err-clause-err
 returns-in-Err-clause-err g c =
     let server = rw (c.into_vec.ensures, c.into_vec-2.ensures) at c.with_access-server.ensures in
     let leaves = rw server at c.in-Err.ensures.err in
     let valid = rw server at (c.valid_events.ensures.0 c.if-not-valid_events.false) in
-    rw c.given_up-in-Err.ensures.status (cut_short g.K.Keeper.rows g.K.Keeper.faults _ _ _ _ _ _ _ _ refl valid leaves c.given_up-in-Err.ensures.keeper c.failed_updates.ensures)
+    rw c.given_up-in-Err.ensures.status (cut_short g.K.Keeper.keeper _ _ _ _ _ _ _ _ refl valid leaves c.given_up-in-Err.ensures.keeper c.failed_updates.ensures.rose c.failed_updates.ensures.calm)
