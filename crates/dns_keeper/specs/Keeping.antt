@@ -1,12 +1,23 @@
--- What the calls of a keeper do to its rows, where it tells them afterwards, and to its count of faults.
-use Rattle.std.specs.Prelude.{◌≡◌, ℕ, ℤ, ◌≤◌, List, [], ◌∷◌, Option, Some, None, Result, IsErrOf}
+-- What a keeper tells of itself, and what its calls do to its rows, where it tells them afterwards, and to its count of faults.
+use Rattle.std.specs.Prelude.{◌≡◌, ℕ, ℤ, ◌≤◌, List, [], ◌∷◌, Option, Some, None, Result, Ok, Err}
 use Rattle.dns_io.specs.Told.{Rose, Told}
 use Rattle.dns_stamp.specs.Stamp.{IsStampOf}
 use Rattle.dns_wire.specs.declared.record.Record.{Record}
 use Rattle.dns_keeper.specs.declared.row.Row.{Row}
 use Rattle.dns_keeper.specs.declared.keeper.KeepFault.{KeepFault}
-use Rattle.dns_keeper.specs.declared.keeper.KeepFault.TheVariants.{Failed}
+use Rattle.dns_keeper.specs.declared.keeper.KeepFault.TheVariants.{Failed, OutOfMemory}
 use Rattle.dns_keeper.specs.Rows.{appended, first_of, first_from, AreAscending}
+
+-- what a keeper tells of itself: its rows, where they are told, and how many calls failed
+pub record KeeperTold : Type 0 where
+  pub rows : Option (List Row)
+  pub faults : ℕ
+
+-- what is known of a keeper: what it tells, and which rows a crash now may leave in it. A keeper that does not tell these lets none be
+-- left, and then nothing is said of them
+pub record KeeperOf (K : Type 0) : Type 1 where
+  pub told : K → KeeperTold
+  pub may_leave : K → List Row → Type 0
 
 -- the stamp of a batch, where it has any records: the text of its moment
 abbrev pub IsStampFor : ℕ → List Record → List ℕ → Type 0
@@ -38,7 +49,13 @@ abbrev pub IsFirstRow : Option (List Row) → Option Row → Type 0
 IsFirstRow None found = Unit {0}
 IsFirstRow (Some rows) found = found ≡ first_of rows
 
--- the count of faults never falls, and a call failed only where it rose
+-- what a call did to a count of faults, by its answer: it rose where the call failed, and stood still where it did not
+abbrev pub CountsBy : {T : Type 0} → ℕ → ℕ → Result T KeepFault → Type 0
+CountsBy before now (Ok value) = now ≡ before
+CountsBy before now (Err Failed) = Rose before now
+CountsBy before now (Err OutOfMemory) = now ≡ before
+
+-- a count of faults before a call and after it: it never falls, it rises where the call fails, and only there
 pub record HasCause {T : Type 0} (before now : ℕ) (result : Result T KeepFault) : Type 0 where
   pub later : before ≤ now
-  pub failed : IsErrOf result Failed → Rose before now
+  pub counts : CountsBy before now result

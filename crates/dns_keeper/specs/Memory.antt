@@ -1,10 +1,11 @@
 -- What contracts see of a keeper in memory, and when its calls fail.
-use Rattle.std.specs.Prelude.{ℕ, pos, ◌+ℤ◌, ◌<ℤ◌, ◌+◌, ◌-◌, ◌^◌, ◌==◌, min, Bool, List, length, Result, Ok, Err}
+use Rattle.std.specs.Prelude.{ℕ, pos, ◌+ℤ◌, ◌<ℤ◌, ◌+◌, ◌-◌, ◌^◌, ◌==◌, min, Bool, List, length, Some, Result, Ok, Err}
 use Rattle.std.specs.List.{list_any}
 use Rattle.dns_wire.specs.declared.record.Record.{Record}
 use Rattle.dns_keeper.specs.declared.row.Row.{Row}
 use Rattle.dns_keeper.specs.declared.keeper.KeepFault.{KeepFault}
 use Rattle.dns_keeper.specs.declared.keeper.KeepFault.TheVariants.{Failed, OutOfMemory}
+use Rattle.dns_keeper.specs.Keeping.{KeeperOf}
 use Rattle.dns_keeper.specs.Rows.{last_id}
 
 -- the calls of one kind that were made, and the numbers of those that fail
@@ -18,6 +19,10 @@ pub record Held : Type 0 where
   pub faults : ℕ
   pub appends : Schedule
   pub reads : Schedule
+
+-- what is known of it: it tells its rows always, and not what a crash may leave
+abbrev pub memory_keeper : KeeperOf Held
+memory_keeper = record { told = λ k. record { rows = Some k.rows; faults = k.faults }; may_leave = λ _ rows. ⊥ }
 
 -- a number one higher, below 2^64
 abbrev pub raised : ℕ → ℕ

@@ -1,7 +1,9 @@
 //! What keeps the rows of a journal.
 
-ghost use Rattle.std.specs.Prelude.{◌≡◌, ◌<◌, ◌^◌, neg_ℤ, pos, ℕ, List, length, Option, OnOk, OnErr, IfOk, IsErrOf};
+ghost use Rattle.std.specs.Prelude.{◌≡◌, ◌<◌, ◌^◌};
 ghost use Rattle.dns_wire.specs.WireFormat.{AreShort};
+ghost use Rattle.dns_keeper.specs.Keeping.{KeeperOf};
+ghost use Rattle.dns_keeper.specs.Calls.{Appends, ReadsRow};
 ghost use Rattle.dns_keeper.specs.declared.keeper.KeepFault.TheVariants.{OutOfMemory as NoMemory};
 
 use crate::row::Row;
@@ -47,19 +49,9 @@ impl<T: Drop> From<AllocFailed<T>> for KeepFault {
 
 /// What keeps the rows of a journal, by ascending id.
 pub trait Keeper {
-    ghost use Rattle.dns_keeper.specs.declared.row.Row.{Row};
-    ghost use Rattle.dns_io.specs.Told.{Keeps};
-    ghost use Rattle.dns_keeper.specs.Keeping.{GrowsByBatch, TellsAscending, IsRowFrom, IsFirstRow, HasCause};
-    ghost use Rattle.dns_keeper.specs.Crash.{LeavesTold, LeavesNoOther, LeavesWhole};
-
-    /// The rows, where they are told. A keeper may stop telling them at any call, and then never tells them again.
-    ghost rows: { Self → Option (List Row) };
-
-    /// How often a call failed.
-    ghost faults: { Self → ℕ };
-
-    /// A crash now may leave these rows. A keeper need not tell it: then this never holds.
-    ghost may_leave: { Self → List Row → Type 0 } = { λ _ rows. ⊥ };
+    /// What is known of it: its rows, where they are told, how many calls failed, up to `u64::MAX`, and which rows a crash now may leave.
+    /// A keeper may stop telling its rows at any call, and then never tells them again.
+    ghost keeper: { KeeperOf Self };
 
     /// Adds one row a record, in order, all or none. Their ids follow the greatest id there is, 0 where there is no
     /// row. All bear this client, this serial, and the stamp of this moment, which is in milliseconds since 1970.
@@ -74,26 +66,14 @@ pub trait Keeper {
     ) -> Result<(), KeepFault>
         requires moment { moment < 2 ^ 47 }
         requires short { AreShort records.now }
-        ensures ok { OnOk result (GrowsByBatch (rows self.old) (rows self.new) client serial moment records.now) }
-        ensures err { OnErr result (Keeps (rows self.old) (rows self.new)) }
-        ensures ascending { TellsAscending (rows self.new) }
-        ensures alone { 0 < length records.now → OnOk result (LeavesTold (rows self.new) (may_leave self.new)) }
-        ensures left { LeavesWhole (rows self.old) client serial moment records.now (may_leave self.old) (may_leave self.new) }
-        ensures cause { HasCause (faults self.old) (faults self.new) result }
-        ensures uncounted { IsErrOf result KeepFault.OutOfMemory → faults self.new ≡ faults self.old };
+        ensures appended { Appends keeper self.old self.new client serial moment records.now result };
 
     /// The row with the least id that is not below this one; none where there is no such row. From the least `i64` on that
     /// is the first row of all.
     fn row_from(&mut self, id: i64) -> Result<Option<Row>, KeepFault>
-        ensures found { IfOk result (IsRowFrom (rows self.new) id) }
-        ensures first { id ≡ neg_ℤ (pos (2 ^ 63)) → IfOk result (IsFirstRow (rows self.new)) }
-        ensures ascending { TellsAscending (rows self.new) }
-        ensures kept { Keeps (rows self.old) (rows self.new) }
-        ensures left { LeavesNoOther (may_leave self.old) (may_leave self.new) }
-        ensures cause { HasCause (faults self.old) (faults self.new) result }
-        ensures uncounted { IsErrOf result KeepFault.OutOfMemory → faults self.new ≡ faults self.old };
+        ensures read { ReadsRow keeper self.old self.new id result };
 
     /// How often a call failed; at most 2^64 - 1, where the count stands still. Takes no memory, and is no fault itself.
     fn fault_count(&self) -> u64
-        ensures { result ≡ faults self.now };
+        ensures { result ≡ (keeper.told self.now).faults };
 }

@@ -1,14 +1,15 @@
 //! A keeper in memory.
 
-ghost use Rattle.std.specs.Prelude.{◌≡◌, ◌<◌, ◌-◌, ◌+ℤ◌, ◌⊎◌, ◌++◌, ◌^◌, pos, neg_ℤ, [], Some, true, OnOk, OnErr, IfOk, IfSome, IfNone, IsErrOf, FitsSigned};
+ghost use Rattle.std.specs.Prelude.{◌≡◌, ◌<◌, ◌-◌, ◌+ℤ◌, ◌⊎◌, ◌++◌, ◌^◌, pos, neg_ℤ, [], Some, true, IfOk, IfSome, IfNone, IsErrOf, FitsSigned};
 ghost use Rattle.std.specs.Option.{option_copied};
 ghost use Rattle.std.specs.Int.{w64};
 ghost use Rattle.dns_wire.specs.WireFormat.{AreShort};
-ghost use Rattle.dns_keeper.specs.declared.keeper.KeepFault.TheVariants.{Failed, OutOfMemory as NoMemory};
+ghost use Rattle.dns_keeper.specs.declared.keeper.KeepFault.TheVariants.{Failed};
 ghost use Rattle.dns_stamp.specs.Stamp.{IsStampOf};
 ghost use Rattle.dns_keeper.specs.Rows.{appended, last_id, first_of, first_from, AreAscending};
-ghost use Rattle.dns_keeper.specs.Keeping.{HasBatch, HasCause};
-ghost use Rattle.dns_keeper.specs.Memory.{raised, called, is_next_failing, faults_after, LacksIds};
+ghost use Rattle.dns_keeper.specs.Keeping.{HasBatch};
+ghost use Rattle.dns_keeper.specs.Calls.{Appends, ReadsRow};
+ghost use Rattle.dns_keeper.specs.Memory.{memory_keeper, raised, called, is_next_failing, faults_after, LacksIds};
 
 use crate::keeper::{KeepFault, Keeper};
 use crate::row::Row;
@@ -46,8 +47,7 @@ impl Model for MemoryKeeper {
 impl MemoryKeeper {
     /// A keeper without rows. No call of it is made to fail.
     pub fn new(alloc: Global) -> MemoryKeeper
-        ensures rows { ⟦<MemoryKeeper as Keeper>⟧.rows result ≡ Some [] }
-        ensures faults { ⟦<MemoryKeeper as Keeper>⟧.faults result ≡ 0 }
+        ensures told { ⟦<MemoryKeeper as Keeper>⟧.keeper.told result ≡ record { rows = Some []; faults = 0 } }
         ensures appends { result.appends ≡ record { made = 0; failing = [] } }
         ensures reads { result.reads ≡ record { made = 0; failing = [] } }
     {
@@ -57,8 +57,7 @@ impl MemoryKeeper {
     /// A keeper without rows whose append calls and `row_from` calls with these numbers fail, each kind counted from
     /// 1. Its count of faults rises at these calls and at a lack of free ids alone.
     pub fn failing(alloc: Global, appends: Vec<u64>, reads: Vec<u64>) -> MemoryKeeper
-        ensures rows { ⟦<MemoryKeeper as Keeper>⟧.rows result ≡ Some [] }
-        ensures faults { ⟦<MemoryKeeper as Keeper>⟧.faults result ≡ 0 }
+        ensures told { ⟦<MemoryKeeper as Keeper>⟧.keeper.told result ≡ record { rows = Some []; faults = 0 } }
         ensures appends { result.appends ≡ record { made = 0; failing = appends.items } }
         ensures reads { result.reads ≡ record { made = 0; failing = reads.items } }
     {
@@ -74,8 +73,7 @@ impl MemoryKeeper {
     /// A keeper with these rows, whose ids ascend. No call of it is made to fail.
     pub fn from_rows(alloc: Global, rows: Vec<Row>) -> MemoryKeeper
         requires { AreAscending rows.items }
-        ensures rows { ⟦<MemoryKeeper as Keeper>⟧.rows result ≡ Some rows.items }
-        ensures faults { ⟦<MemoryKeeper as Keeper>⟧.faults result ≡ 0 }
+        ensures told { ⟦<MemoryKeeper as Keeper>⟧.keeper.told result ≡ record { rows = Some rows.items; faults = 0 } }
         ensures appends { result.appends ≡ record { made = 0; failing = [] } }
         ensures reads { result.reads ≡ record { made = 0; failing = [] } }
     {
@@ -99,9 +97,7 @@ impl MemoryKeeper {
 }
 
 impl Keeper for MemoryKeeper {
-    ghost rows = { λ k. Some k.rows };
-
-    ghost faults = { λ k. k.faults };
+    ghost keeper = { memory_keeper };
 
     fn append(
         &mut self,
@@ -112,14 +108,10 @@ impl Keeper for MemoryKeeper {
     ) -> Result<(), KeepFault>
         requires moment { moment < 2 ^ 47 }
         requires short { AreShort records.now }
-        ensures ok { OnOk result (HasBatch self.old.rows client serial moment records.now self.new.rows) }
-        ensures err { OnErr result (self.new.rows ≡ self.old.rows) }
-        ensures ascending { AreAscending self.new.rows }
+        ensures appended { Appends memory_keeper self.old self.new client serial moment records.now result }
         ensures faults { self.new.faults ≡ faults_after result self.old.faults }
         ensures appends { self.new.appends ≡ called self.old.appends }
         ensures reads { self.new.reads ≡ self.old.reads }
-        ensures cause { HasCause self.old.faults self.new.faults result }
-        ensures uncounted { IsErrOf result NoMemory → self.new.faults ≡ self.old.faults }
         ensures listed { is_next_failing self.old.appends ≡ true → IsErrOf result Failed }
         ensures failed { IsErrOf result Failed → (is_next_failing self.old.appends ≡ true) ⊎ LacksIds self.old.rows records.now }
     {
@@ -134,11 +126,7 @@ impl Keeper for MemoryKeeper {
     }
 
     fn row_from(&mut self, id: i64) -> Result<Option<Row>, KeepFault>
-        ensures found { IfOk result (λ found. found ≡ first_from id self.old.rows) }
-        ensures first { id ≡ neg_ℤ (pos (2 ^ 63)) → IfOk result (λ found. found ≡ first_of self.old.rows) }
-        ensures ascending { AreAscending self.new.rows }
-        ensures cause { HasCause self.old.faults self.new.faults result }
-        ensures uncounted { IsErrOf result NoMemory → self.new.faults ≡ self.old.faults }
+        ensures read { ReadsRow memory_keeper self.old self.new id result }
         ensures keeper { self.new ≡ record self.old { faults = faults_after result self.old.faults; reads = called self.old.reads } }
         ensures listed { is_next_failing self.old.reads ≡ true → IsErrOf result Failed }
         ensures failed { IsErrOf result Failed → is_next_failing self.old.reads ≡ true }
