@@ -3,7 +3,7 @@ use Rattle.std.specs.Prelude.{◌≡◌, ℕ, ◌+◌, ◌<◌, ◌≤◌, List,
 use Rattle.dns_io.specs.Told.{Keeps, Rose}
 use Rattle.dns_wire.specs.declared.record.Record.{Record}
 use Rattle.dns_keeper.specs.declared.row.Row.{Row}
-use Rattle.dns_keeper.specs.Keeping.{GrowsByBatch}
+use Rattle.dns_keeper.specs.Keeping.{KeeperOf, GrowsByBatch}
 use Rattle.dns_zone_map.specs.Zone.{Contents}
 use Rattle.dns_update.specs.Change.{serial_after_batch}
 use Rattle.dns_update.specs.Replay.{Replays}
@@ -33,9 +33,9 @@ StandFor None zone = Unit {0}
 StandFor (Some rows) zone = Replays zone.origin rows (Ok zone.records)
 
 -- what always holds of a book: its rows are so many as it says, and its zone is what they stand for
-pub record IsKept {K : Type 0} (rows : K → Option (List Row)) (book : SeenOf K) : Type 0 where
-  pub count : HasRows (rows book.keeper) book.row_count
-  pub zone : StandFor (rows book.keeper) book.zone
+pub record IsKept {K : Type 0} (keeper : KeeperOf K) (book : SeenOf K) : Type 0 where
+  pub count : HasRows (keeper.told book.keeper).rows book.row_count
+  pub zone : StandFor (keeper.told book.keeper).rows book.zone
 
 -- what the reply to a message depends on, which this book settles
 abbrev pub grounds_of : {K : Type 0} → SeenOf K → Bool → Grounds
@@ -47,8 +47,8 @@ receipt_of before ask batch = record { client = ask.client; first = before.row_c
 
 -- a book after a batch, with its keeper
 abbrev pub grown : {K : Type 0} → SeenOf K → K → List Record → SeenOf K
-grown before keeper batch = record {
-  keeper = keeper;
+grown before held batch = record {
+  keeper = held;
   zone = zone_with before.zone batch;
   allow_update = before.allow_update;
   row_count = before.row_count + length batch;
@@ -56,33 +56,35 @@ grown before keeper batch = record {
 }
 
 -- what becomes of the records that a message brings: there are none, and nothing changes; they come into the journal, all with
--- the serial that they leave, and the zone is what they make of it; or the keeper fails, and nothing changes. The flag says that
--- it failed.
-pub data Ends {K : Type 0} (rows : K → Option (List Row)) (faults : K → ℕ) (before : SeenOf K) (ask : Ask) (batch : List Record) : Bool → Option Receipt → SeenOf K → Type 0 where
-  idle : length batch ≡ 0 → Ends rows faults before ask batch false None before
-  journalled : 0 < length batch → (keeper : K)
-      → GrowsByBatch (rows before.keeper) (rows keeper) ask.client (serial_after_batch before.zone.origin before.zone.records batch) ask.at batch
-      → faults before.keeper ≤ faults keeper
-      → Ends rows faults before ask batch false (Some (receipt_of before ask batch)) (grown before keeper batch)
-  failed : 0 < length batch → (keeper : K) → Keeps (rows before.keeper) (rows keeper) → faults before.keeper ≤ faults keeper
-      → Rose (faults before.keeper) (faults keeper)
-      → Ends rows faults before ask batch true None (record before { keeper = keeper })
+-- the serial that they leave, the zone is what they make of it, and the keeper's count of faults is as it was; or the keeper fails
+-- and counts it, and nothing else changes. The flag says that it failed.
+pub data Ends {K : Type 0} (keeper : KeeperOf K) (before : SeenOf K) (ask : Ask) (batch : List Record) : Bool → Option Receipt → SeenOf K → Type 0 where
+  idle : length batch ≡ 0 → Ends keeper before ask batch false None before
+  journalled : 0 < length batch → (held : K)
+      → GrowsByBatch (keeper.told before.keeper).rows (keeper.told held).rows ask.client
+          (serial_after_batch before.zone.origin before.zone.records batch) ask.at batch
+      → (keeper.told held).faults ≡ (keeper.told before.keeper).faults
+      → Ends keeper before ask batch false (Some (receipt_of before ask batch)) (grown before held batch)
+  failed : 0 < length batch → (held : K) → Keeps (keeper.told before.keeper).rows (keeper.told held).rows
+      → (keeper.told before.keeper).faults ≤ (keeper.told held).faults → Rose (keeper.told before.keeper).faults (keeper.told held).faults
+      → Ends keeper before ask batch true None (record before { keeper = held })
 
 -- one message is settled by a book whose zone is what its rows stand for, and stays so, where `access` says who is let in: its
 -- reply is what it is owed, the records that it brings come into the journal and the zone or, where the keeper fails, into
 -- neither, and it is counted by what was decided of it
-pub record Settles {K : Type 0} (rows : K → Option (List Row)) (faults : K → ℕ) (access : Access) (before : SeenOf K) (ask : Ask) (settled : Settled) (after : SeenOf K) : Type 0 where
-  pub stood : IsKept rows before
+pub record Settles {K : Type 0} (keeper : KeeperOf K) (access : Access) (before : SeenOf K) (ask : Ask) (settled : Settled) (after : SeenOf K)
+    : Type 0 where
+  pub stood : IsKept keeper before
   pub failed : Bool
   pub reply : OwesBytes (grounds_of before failed) access ask settled.reply
   pub ended : SeenOf K
-  pub ends : Ends rows faults before ask (batch_by before.zone before.allow_update reply.decision) failed settled.receipt ended
+  pub ends : Ends keeper before ask (batch_by before.zone before.allow_update reply.decision) failed settled.receipt ended
   pub counted : after ≡ record ended { counts = counts_after (grounds_of before failed) reply.decision settled.reply ended.counts }
   pub length : settled.length ≡ after.row_count
-  pub kept : IsKept rows after
+  pub kept : IsKept keeper after
 
--- a book that found no memory: nothing has changed but what its keeper does not tell
-pub record IsLeft {K : Type 0} (rows : K → Option (List Row)) (faults : K → ℕ) (before after : SeenOf K) : Type 0 where
+-- a book that found no memory: nothing has changed but what its keeper does not tell, and no fault of the keeper was counted
+pub record IsLeft {K : Type 0} (keeper : KeeperOf K) (before after : SeenOf K) : Type 0 where
   pub same : after ≡ record before { keeper = after.keeper }
-  pub kept : Keeps (rows before.keeper) (rows after.keeper)
-  pub uncounted : faults after.keeper ≡ faults before.keeper
+  pub kept : Keeps (keeper.told before.keeper).rows (keeper.told after.keeper).rows
+  pub uncounted : (keeper.told after.keeper).faults ≡ (keeper.told before.keeper).faults

@@ -1,17 +1,14 @@
 -- What opening a journal gives, and when it is refused.
-use Rattle.std.specs.Prelude.{◌≡◌, ◌≢◌, ℕ, ℤ, List, [], length, Option, Some, None, Bool, Result, Ok, Err}
+use Rattle.std.specs.Prelude.{◌≡◌, ◌≢◌, ◌≤◌, ℕ, ℤ, List, [], length, Option, Some, None, Bool, Result, Ok, Err}
 use Rattle.dns_name.specs.Name.{fold_of}
 use Rattle.dns_keeper.specs.declared.row.Row.{Row}
 use Rattle.dns_keeper.specs.declared.keeper.KeepFault.{KeepFault}
-use Rattle.dns_keeper.specs.declared.keeper.KeepFault.TheVariants as keep
-use Rattle.dns_keeper.specs.Keeping.{GrowsByBatch}
+use Rattle.dns_keeper.specs.Keeping.{KeeperTold, KeeperOf, GrowsByBatch, HasCause}
 use Rattle.dns_io.specs.Told.{Told, Keeps, Rose}
 use Rattle.dns_zone_map.specs.Zone.{Contents, serial_of}
 use Rattle.dns_update.specs.declared.replay_kind.ReplayKind.{ReplayKind}
 use Rattle.dns_update.specs.Replay.{opening_of, Replays}
 use Rattle.dns_book.specs.declared.opening.OpenKind.{OpenKind}
-use Rattle.dns_book.specs.declared.opening.OpenFault.{OpenFault}
-use Rattle.dns_book.specs.declared.opening.BeginFault.{BeginFault}
 use Rattle.dns_book.specs.declared.opening.OpenKind.TheVariants.{Recovery, KeeperFault, NoZone, OutOfMemory}
 use Rattle.dns_book.specs.Book.{SeenOf, IsKept}
 use Rattle.dns_book.specs.Counted.{counts_of_zone}
@@ -24,65 +21,92 @@ HadNoRow before after = Told (λ old new. old ≡ []) before after
 abbrev pub HadRows : Option (List Row) → Option (List Row) → Type 0
 HadRows before after = Told (λ old new. old ≢ []) before after
 
--- a journal without rows was begun with this zone: one append of its opening, with the SOA's serial and client 0; its rows stand for
--- the zone
-pub record Begins {K : Type 0} (before : Option (List Row)) (rows : K → Option (List Row)) (zone : Contents) (allowed : Bool) (moment : ℕ) (book : SeenOf K) : Type 0 where
-  pub empty : HadNoRow before (rows book.keeper)
-  pub grown : GrowsByBatch before (rows book.keeper) 0 (serial_of zone.records) moment (opening_of zone)
+-- a journal without rows was begun with this zone, whose keeper told this before: one append of its opening, with the SOA's serial and
+-- client 0; its rows stand for the zone, and no fault was counted
+pub record Begins {K : Type 0} (keeper : KeeperOf K) (before : KeeperTold) (zone : Contents) (allowed : Bool) (moment : ℕ) (book : SeenOf K)
+    : Type 0 where
+  pub empty : HadNoRow before.rows (keeper.told book.keeper).rows
+  pub grown : GrowsByBatch before.rows (keeper.told book.keeper).rows 0 (serial_of zone.records) moment (opening_of zone)
+  pub uncounted : (keeper.told book.keeper).faults ≡ before.faults
   pub is : book.zone ≡ zone
   pub allow_update : book.allow_update ≡ allowed
   pub row_count : book.row_count ≡ length (opening_of zone)
   pub counts : book.counts ≡ counts_of_zone zone.records
-  pub stands : IsKept rows book
+  pub stands : IsKept keeper book
 
--- a journal was read back: its zone, which has this origin, is what its rows stand for
-pub record Recovers {K : Type 0} (before : Option (List Row)) (rows : K → Option (List Row)) (origin : List (List ℕ)) (allowed : Bool) (book : SeenOf K) : Type 0 where
-  pub kept : Keeps before (rows book.keeper)
+-- a journal was read back, whose keeper told this before: its zone, which has this origin, is what its rows stand for, and no fault was
+-- counted
+pub record Recovers {K : Type 0} (keeper : KeeperOf K) (before : KeeperTold) (origin : List (List ℕ)) (allowed : Bool) (book : SeenOf K) : Type 0 where
+  pub kept : Keeps before.rows (keeper.told book.keeper).rows
+  pub uncounted : (keeper.told book.keeper).faults ≡ before.faults
   pub named : book.zone.origin ≡ fold_of origin
   pub allow_update : book.allow_update ≡ allowed
   pub counts : book.counts ≡ counts_of_zone book.zone.records
-  pub stands : IsKept rows book
+  pub stands : IsKept keeper book
 
 -- the rows are no zone's of this origin, where they are told: they end at this row, for this reason
 abbrev pub AreRefused : Option (List Row) → Option (List Row) → List (List ℕ) → ℤ → ReplayKind → Type 0
 AreRefused before after origin row kind = Told (λ old new. Replays (fold_of origin) old (Err (record { row = row; kind = kind }))) before after
 
--- why a journal was not read back
-abbrev pub RecoversNot : Option (List Row) → Option (List Row) → ℕ → ℕ → List (List ℕ) → OpenKind → Type 0
-RecoversNot before after faults now origin (Recovery row kind) = AreRefused before after origin row kind
-RecoversNot before after faults now origin KeeperFault = Rose faults now
-RecoversNot before after faults now origin NoZone = ⊥
-RecoversNot before after faults now origin OutOfMemory = Unit {0}
+-- what the count of faults of a keeper says of the cause for which its journal was not opened: it rose where the keeper failed, and
+-- stood still where it did not
+abbrev pub CountsByKind : ℕ → ℕ → OpenKind → Type 0
+CountsByKind before now (Recovery row kind) = now ≡ before
+CountsByKind before now KeeperFault = Rose before now
+CountsByKind before now NoZone = now ≡ before
+CountsByKind before now OutOfMemory = now ≡ before
+
+-- a journal was not opened for this cause, by what its keeper told before and after: no row changed, and the count of faults never falls
+pub record IsUnopened (before now : KeeperTold) (kind : OpenKind) : Type 0 where
+  pub kept : Keeps before.rows now.rows
+  pub later : before.faults ≤ now.faults
+  pub counts : CountsByKind before.faults now.faults kind
+
+-- why a journal was not read back: its rows are no zone's, the keeper failed, or memory ran out
+abbrev pub IsUnread : Option (List Row) → Option (List Row) → List (List ℕ) → OpenKind → Type 0
+IsUnread before after origin (Recovery row kind) = AreRefused before after origin row kind
+IsUnread before after origin KeeperFault = Unit {0}
+IsUnread before after origin NoZone = ⊥
+IsUnread before after origin OutOfMemory = Unit {0}
+
+-- a journal was not read back
+pub record RecoversNot (before now : KeeperTold) (origin : List (List ℕ)) (kind : OpenKind) : Type 0 where
+  pub unread : IsUnread before.rows now.rows origin kind
+  pub unopened : IsUnopened before now kind
 
 -- a journal was opened: one without rows was begun with the given zone, which has this origin, and one with rows was read back
-pub data Opens {K : Type 0} (before : Option (List Row)) (rows : K → Option (List Row)) (origin : List (List ℕ)) (given : Option Contents) (allowed : Bool) (moment : ℕ) (book : SeenOf K) : Type 0 where
-  begun : (zone : Contents) → given ≡ Some zone → zone.origin ≡ fold_of origin → Begins before rows zone allowed moment book → Opens before rows origin given allowed moment book
-  recovered : HadRows before (rows book.keeper) → Recovers before rows origin allowed book → Opens before rows origin given allowed moment book
+pub data Opens {K : Type 0} (keeper : KeeperOf K) (before : KeeperTold) (origin : List (List ℕ)) (given : Option Contents) (allowed : Bool) (moment : ℕ) (book : SeenOf K)
+    : Type 0 where
+  begun : (zone : Contents) → given ≡ Some zone → zone.origin ≡ fold_of origin → Begins keeper before zone allowed moment book
+      → Opens keeper before origin given allowed moment book
+  recovered : HadRows before.rows (keeper.told book.keeper).rows → Recovers keeper before origin allowed book
+      → Opens keeper before origin given allowed moment book
 
--- why a journal was not opened
-abbrev pub OpensNot : Option (List Row) → Option (List Row) → ℕ → ℕ → List (List ℕ) → Option Contents → OpenKind → Type 0
-OpensNot before after faults now origin given (Recovery row kind) = HadRows before after × AreRefused before after origin row kind
-OpensNot before after faults now origin given KeeperFault = Rose faults now
-OpensNot before after faults now origin given NoZone = HadNoRow before after × (given ≡ None)
-OpensNot before after faults now origin given OutOfMemory = Unit {0}
+-- why a journal was not opened: its rows are no zone's, the keeper failed, it has no rows and no zone was given, or memory ran out
+abbrev pub IsUnfound : Option (List Row) → Option (List Row) → List (List ℕ) → Option Contents → OpenKind → Type 0
+IsUnfound before after origin given (Recovery row kind) = HadRows before after × AreRefused before after origin row kind
+IsUnfound before after origin given KeeperFault = Unit {0}
+IsUnfound before after origin given NoZone = HadNoRow before after × (given ≡ None)
+IsUnfound before after origin given OutOfMemory = Unit {0}
 
--- why a journal was not begun
-abbrev pub BeginsNot : ℕ → ℕ → KeepFault → Type 0
-BeginsNot faults now keep.Failed = Rose faults now
-BeginsNot faults now keep.OutOfMemory = Unit {0}
+-- a journal was not opened
+pub record OpensNot (before now : KeeperTold) (origin : List (List ℕ)) (given : Option Contents) (kind : OpenKind) : Type 0 where
+  pub unfound : IsUnfound before.rows now.rows origin given kind
+  pub unopened : IsUnopened before now kind
+
+-- a journal was not begun: no row changed, and the count of faults rose where the keeper failed, and only there
+pub record BeginsNot (before now : KeeperTold) (fault : KeepFault) : Type 0 where
+  pub kept : Keeps before.rows now.rows
+  pub cause : HasCause {Unit {0}} before.faults now.faults (Err fault)
 
 -- why a journal without rows was not begun, with the zone that was given, if one was
-abbrev pub BeginsNotWith : ℕ → ℕ → Option Contents → OpenKind → Type 0
-BeginsNotWith faults now given (Recovery row kind) = ⊥
-BeginsNotWith faults now given KeeperFault = Rose faults now
-BeginsNotWith faults now given NoZone = given ≡ None
-BeginsNotWith faults now given OutOfMemory = Unit {0}
+abbrev pub IsUnbegun : Option Contents → OpenKind → Type 0
+IsUnbegun given (Recovery row kind) = ⊥
+IsUnbegun given KeeperFault = Unit {0}
+IsUnbegun given NoZone = given ≡ None
+IsUnbegun given OutOfMemory = Unit {0}
 
--- the count of faults of the keeper that an opening gave or handed back
-abbrev pub faults_of : {K : Type 0} → (K → ℕ) → Result (SeenOf K) (OpenFault K) → ℕ
-faults_of faults (Ok book) = faults book.keeper
-faults_of faults (Err fault) = faults fault.keeper
-
-abbrev pub faults_begun : {K : Type 0} → (K → ℕ) → Result (SeenOf K) (BeginFault K) → ℕ
-faults_begun faults (Ok book) = faults book.keeper
-faults_begun faults (Err fault) = faults fault.keeper
+-- a journal without rows was not begun
+pub record BeginsNotWith (before now : KeeperTold) (given : Option Contents) (kind : OpenKind) : Type 0 where
+  pub unbegun : IsUnbegun given kind
+  pub unopened : IsUnopened before now kind

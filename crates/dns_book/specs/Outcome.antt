@@ -8,6 +8,7 @@ use Rattle.dns_wire.specs.Written.{Written, sent_as}
 use Rattle.dns_keeper.specs.declared.row.Row.{Row}
 use Rattle.dns_keeper.specs.declared.keeper.KeepFault.{KeepFault}
 use Rattle.dns_keeper.specs.declared.keeper.KeepFault.TheVariants as keep
+use Rattle.dns_keeper.specs.Keeping.{KeeperOf}
 use Rattle.dns_zone_map.specs.Zone.{Contents}
 use Rattle.dns_wire.specs.ReadBack.{ReadsBack}
 use Rattle.dns_update.specs.declared.verdict.Verdict.TheVariants.{Passes}
@@ -122,16 +123,16 @@ given_of outcome None true = outcome.reply
 given_of outcome (Some change) true = change.failed
 
 -- an update ended so: its batch came into the journal and the zone, or it had none, or the keeper failed, or memory ran out
-abbrev pub Journals : {K : Type 0} → (K → Option (List Row)) → (K → ℕ) → SeenOf K → Ask → List Record → Result (Option Receipt) KeepFault → SeenOf K → Type 0
-Journals rows faults before ask batch (Ok receipt) after = Ends rows faults before ask batch false receipt after
-Journals rows faults before ask batch (Err keep.Failed) after = Ends rows faults before ask batch true None after
-Journals rows faults before ask batch (Err keep.OutOfMemory) after = IsLeft rows faults before after
+abbrev pub Journals : {K : Type 0} → KeeperOf K → SeenOf K → Ask → List Record → Result (Option Receipt) KeepFault → SeenOf K → Type 0
+Journals keeper before ask batch (Ok receipt) after = Ends keeper before ask batch false receipt after
+Journals keeper before ask batch (Err keep.Failed) after = Ends keeper before ask batch true None after
+Journals keeper before ask batch (Err keep.OutOfMemory) after = IsLeft keeper before after
 
 -- the outcome of a message was carried out
-pub record CarriesOut {K : Type 0} (rows : K → Option (List Row)) (faults : K → ℕ) (before : SeenOf K) (ask : Ask) (outcome : Outcome) (settled : Settled) (after : SeenOf K) : Type 0 where
+pub record CarriesOut {K : Type 0} (keeper : KeeperOf K) (before : SeenOf K) (ask : Ask) (outcome : Outcome) (settled : Settled) (after : SeenOf K) : Type 0 where
   pub failed : Bool
   pub reply : settled.reply ≡ Some (given_of outcome outcome.change failed).bytes
   pub ended : SeenOf K
-  pub ends : Ends rows faults before ask (batch_in before.zone (updates_in outcome.change)) failed settled.receipt ended
+  pub ends : Ends keeper before ask (batch_in before.zone (updates_in outcome.change)) failed settled.receipt ended
   pub counted : after ≡ record ended { counts = recorded outcome.asked (given_of outcome outcome.change failed).replied ended.counts }
   pub length : settled.length ≡ after.row_count

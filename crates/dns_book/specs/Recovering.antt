@@ -1,10 +1,12 @@
 -- How far the rows of a journal were read back.
-use Rattle.std.specs.Prelude.{◌≡◌, ℕ, ℤ, ◌++◌, List, length, Option, Result, Err}
-use Rattle.dns_io.specs.Told.{Rose}
+use Rattle.std.specs.Prelude.{◌≡◌, ◌≤◌, ℕ, ℤ, ◌++◌, List, length, Option, Result, Ok, Err}
+use Rattle.dns_io.specs.Told.{Keeps}
 use Rattle.dns_wire.specs.declared.record.Record.{Record}
 use Rattle.dns_keeper.specs.declared.row.Row.{Row}
 use Rattle.dns_keeper.specs.declared.keeper.KeepFault.{KeepFault}
 use Rattle.dns_keeper.specs.declared.keeper.KeepFault.TheVariants as keep
+use Rattle.dns_keeper.specs.Keeping.{KeeperOf}
+use Rattle.dns_keeper.specs.Crash.{LeavesNoOther}
 use Rattle.dns_keeper.specs.Rows.{first_of, first_from, AreAscending}
 use Rattle.dns_update.specs.Replay.{Refusal}
 use Rattle.dns_zone.specs.declared.replaying.ReplayFault.{ReplayFault}
@@ -13,6 +15,7 @@ use Rattle.dns_zone.specs.Replayed.{Replayed}
 use Rattle.dns_zone.specs.Replaying.{HasTaken}
 use Rattle.dns_book.specs.declared.opening.OpenKind.{OpenKind}
 use Rattle.dns_book.specs.declared.opening.OpenKind.TheVariants.{Recovery, KeeperFault, NoZone, OutOfMemory}
+use Rattle.dns_book.specs.Opening.{CountsByKind}
 
 -- why a book is not opened, where rows are refused
 abbrev pub kind_of : ReplayFault → OpenKind
@@ -31,12 +34,25 @@ TellsRefusal Ends KeeperFault = ⊥
 TellsRefusal Ends NoZone = ⊥
 TellsRefusal Ends OutOfMemory = Unit {0}
 
--- why a row was not read
-abbrev pub ReadsNot : ℕ → ℕ → OpenKind → Type 0
-ReadsNot faults now (Recovery row kind) = ⊥
-ReadsNot faults now KeeperFault = Rose faults now
-ReadsNot faults now NoZone = ⊥
-ReadsNot faults now OutOfMemory = Unit {0}
+-- a row was not read for a fault of the keeper, or for want of memory
+abbrev pub IsKeepers : OpenKind → Type 0
+IsKeepers (Recovery row kind) = ⊥
+IsKeepers KeeperFault = Unit {0}
+IsKeepers NoZone = ⊥
+IsKeepers OutOfMemory = Unit {0}
+
+-- what reading rows did to a count of faults, by its answer
+abbrev pub CountsReading : {T : Type 0} → ℕ → ℕ → Result T OpenKind → Type 0
+CountsReading before now (Ok value) = now ≡ before
+CountsReading before now (Err kind) = CountsByKind before now kind
+
+-- rows of a keeper were read: none of them changed, a crash leaves no other rows than before, and the count of faults rose where the
+-- keeper failed, and only there
+pub record ReadsRows {K T : Type 0} (keeper : KeeperOf K) (old new : K) (result : Result T OpenKind) : Type 0 where
+  pub kept : Keeps (keeper.told old).rows (keeper.told new).rows
+  pub left : LeavesNoOther (keeper.may_leave old) (keeper.may_leave new)
+  pub later : (keeper.told old).faults ≤ (keeper.told new).faults
+  pub counts : CountsReading (keeper.told old).faults (keeper.told new).faults result
 
 -- the first of these ascending rows, or none
 pub record IsFirst (found : Option Row) (rows : List Row) : Type 0 where
