@@ -1,4 +1,4 @@
-"""The kit's own rtlib.py, which knows the words of a check and how a library is built; build.py, bench/unproved.py and wrong_bodies.py use it."""
+"""The kit's own rtlib.py, which knows the words of a check and how a library is built, and the kit's version; build.py, bench/unproved.py and wrong_bodies.py use it."""
 
 import importlib.machinery
 import importlib.util
@@ -21,3 +21,8 @@ def rtlib():
     sys.modules["rtlib"] = made
     loader.exec_module(made)
     return made
+
+
+def version():
+    """The line by which the kit names itself."""
+    return subprocess.run(["rt", "version"], stdout=subprocess.PIPE, text=True, check=True).stdout.strip()

@@ -5,6 +5,7 @@
   wrong_bodies.py NAME..       tries those of these crates
   wrong_bodies.py --since REV  tries those of the crates whose code, definitions or proofs changed since a revision
   wrong_bodies.py --apply      sees that each applies, and tries none: no library and no proof is needed
+  wrong_bodies.py --anew       tries all, whatever was tried before
 
 It runs after `rt ci` in the same checkout, over the libraries that stand in crates/*/out/rlib. rt itself tries crates/*/must-fail, which
 it proves each crate once more for; these here are the others, and those of a crate are tried together, in a copy of it:
@@ -20,11 +21,15 @@ it proves each crate once more for; these here are the others, and those of a cr
 - what ends in .harmless in the same folder is an edit that keeps the meaning: it is tried with the others, and has to stay proved.
 
 An edit is as rt's: a line 'file: PATH', then pairs of lines 'old: TEXT' and 'new: TEXT', where the old text stands exactly once in that file.
+A crate whose wrong bodies were all refused on this machine, with the same sources, libraries below, edits, kit and script, is not tried again: its line says so. The
+folder .cache/dns-wrong-bodies of the home, or the one that WRONG_BODIES_KEPT names, keeps the sums.
+
 RT_JOBS says how many crates are tried side by side (all processors), and WRONG_BODIES_LOG names a folder for what the prover says. Uses the standard library, and the kit's own rtlib.py for the
 words of a check.
 """
 
 import functools
+import hashlib
 import os
 import re
 import resource
@@ -382,11 +387,15 @@ def tried(lib, crate, edits, no_copies):
     return found, left
 
 
-def tried_crate(lib, name):
+def tried_crate(lib, name, anew):
     """Tries all edits of a crate, and returns what to say, how many there were, and how many failed."""
     begun, found = time.time(), {}
     crate = lib.Crate(f"{TOP}/crates/{name}", str(TOP), {})
     crate.out = open(os.devnull, "w")
+    kept = kept_at(crate)
+    if kept and kept.is_file() and not anew:
+        wrong = [it for it in edits_of(name, TOGETHER) if it.suffix == ".edit"]
+        return f"{name}: {len(wrong)} wrong bodies, all refused here before", len(wrong), 0, len(edits_of(name, TOGETHER)) - len(wrong)
     left, no_copies = edits_of(name, TOGETHER), set()
     while left:
         told, left = tried(lib, crate, left, no_copies)
@@ -396,7 +405,22 @@ def tried_crate(lib, name):
     lines = [f"{name}: {len(wrong) - sum(it in bad for it in wrong)} of {len(wrong)} wrong bodies refused in {time.time() - begun:.0f} s"]
     lines += [f"  {it.name}: {told}" for it, told in bad.items()]
     lines += [f"  (no copy of {it} is proved, so its wrong bodies were tried one after another)" for it in sorted(no_copies)]
+    if kept and not bad:
+        kept.touch()
     return "\n".join(lines), len(wrong), len(bad), len(found) - len(wrong)
+
+
+def kept_at(crate):
+    """Where it is kept that all wrong bodies of a crate were refused: by all that this rests on. None where no folder can be made."""
+    room = Path(os.environ.get("WRONG_BODIES_KEPT") or Path.home() / ".cache" / "dns-wrong-bodies")
+    told = hashlib.sha256(f"{crate.stamp()} {kit.version()}".encode())
+    for file in [Path(__file__), Path(kit.__file__), *edits_of(crate.name, TOGETHER)]:
+        told.update(repr((file.name, file.read_bytes())).encode())
+    try:
+        room.mkdir(parents=True, exist_ok=True)
+    except OSError:
+        return None
+    return room / f"{crate.name}-{told.hexdigest()}"
 
 
 def changed_since(revision):
@@ -410,6 +434,8 @@ def changed_since(revision):
 
 def main():
     words, every = sys.argv[1:], sorted(it.parent.name for it in TOP.glob(f"crates/*/{TOGETHER}"))
+    anew = "--anew" in words
+    words = [it for it in words if it != "--anew"]
     crates = words or every
     if words == ["--apply"]:
         crates = []
@@ -429,7 +455,7 @@ def main():
     # (the largest first)
     crates.sort(key=lambda it: -sum(path.stat().st_size for path in (TOP / "crates" / it).glob("src/**/*.rt")))
     with ThreadPoolExecutor(int(jobs) if jobs.isdigit() and int(jobs) else len(os.sched_getaffinity(0))) as pool:
-        for one in as_completed([pool.submit(tried_crate, lib, it) for it in crates]):
+        for one in as_completed([pool.submit(tried_crate, lib, it, anew) for it in crates]):
             said, count_of, bad, kept = one.result()
             total, failed, harmless = total + count_of, failed + bad, harmless + kept
             print(said, flush=True)

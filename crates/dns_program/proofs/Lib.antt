@@ -1,1 +1,2 @@
 mod SentJournal
+pub mod Leaving

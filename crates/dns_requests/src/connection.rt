@@ -63,12 +63,14 @@ pub fn serve_connection<T: RequestHandler, R: Source, W: Sink, C: Clock>(
         }
         let at = clock.now();
         let (piece, _) = room.split_at(count);
-        match session.hear(at, piece)? {
+        let heard = session.hear(at, piece)?;
+        match heard {
             Heard::Late { since } => return Err(ServeFault::TimedOut { since, limit, at }),
             Heard::InTime => {}
         }
         ask.at = at;
-        taken += answer(alloc, handler, access, &mut ask, &mut session, &mut replies)?;
+        let messages = answer(alloc, handler, access, &mut ask, &mut session, &mut replies)?;
+        taken += messages;
         send(sink, &mut replies)?;
     }
     Err(ServeFault::Turns { reads })

@@ -115,7 +115,10 @@ pub fn next_frame(bytes: &[u8], most: u64) -> Option<(&[u8], &[u8])>
     if most == 0 {
         return None;
     }
-    first_frame(bytes)
+    match first_frame(bytes) {
+        Some((message, after)) => Some((message, after)),
+        None => None,
+    }
 }
 
 /// Puts these bytes in place of others, into the same buffer. Where memory runs out, the buffer has nothing of use.

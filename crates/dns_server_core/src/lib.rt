@@ -18,6 +18,6 @@ pub use dns_book::{
 };
 pub use event::{Event, Out, Receiver};
 pub use fault::RunFault;
-pub use handler::{Answered, RequestHandler, refill};
+pub use handler::{Answered, RequestHandler, next_frame, refill};
 pub use server::Server;
 pub use session::{Heard, Session};

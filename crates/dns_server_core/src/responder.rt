@@ -177,8 +177,9 @@ impl<H: RequestHandler> Responder<H> {
         ensures ran { OnOk result (Hands H.serves self.old (heard_messages at connection.old (piece_at at piece.now)) self.new) }
         ensures err { OnErr result (Breaks H.serves H.skips self.old (heard_messages at connection.old (piece_at at piece.now)) self.new) }
     {
-        match connection.hear(at, piece)? {
-            Heard::Late { since: _ } => Ok(false),
+        let heard = connection.hear(at, piece)?;
+        match heard {
+            Heard::Late { since: _since } => Ok(false),
             Heard::InTime => {
                 let answered = self.settle_unread(alloc, &*connection, at)?;
                 connection.settled(at, answered);

@@ -1,4 +1,5 @@
 use Rattle.dns_program.specs.HostFiles.{file_rows, file_may_leave}
+use Rattle.dns_program.proofs.Leaving.{leaves_told, leaves_whole}
 use Rattle.dns_program.proofs.file_journal.FileJournalKeeper.append.Goals as goal
 
 pub returns-clause-ok : goal.returns-clause-ok
@@ -15,8 +16,8 @@ returns-clause-ascending c = c.append.ensures.ascending
 
 pub returns-clause-alone : goal.returns-clause-alone
 unfolding file_rows file_may_leave
-returns-clause-alone c = c.append.ensures.alone
+returns-clause-alone c = λ some. leaves_told _ _ _ (c.append.ensures.alone some)
 
 pub returns-clause-left : goal.returns-clause-left
 unfolding file_rows file_may_leave
-returns-clause-left c = c.append.ensures.left
+returns-clause-left c = leaves_whole _ _ _ _ _ _ _ c.append.ensures.falls c.append.ensures.left c.append.ensures.same

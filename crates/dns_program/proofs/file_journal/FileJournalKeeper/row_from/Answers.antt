@@ -1,6 +1,7 @@
 use Rattle.std.proofs.Common.{rules, w64}
 use Rattle.std.proofs.lemmas.Int.{to_z-of_z}
 use Rattle.dns_program.specs.HostFiles.{file_rows, file_may_leave}
+use Rattle.dns_program.proofs.Leaving.{leaves_no_other}
 use Rattle.dns_program.proofs.file_journal.FileJournalKeeper.row_from.Goals as goal
 
 pub returns-clause-found : goal.returns-clause-found
@@ -21,7 +22,7 @@ returns-clause-kept c = c.row_from.ensures.kept
 
 pub returns-clause-left : goal.returns-clause-left
 unfolding file_may_leave
-returns-clause-left c = c.row_from.ensures.left
+returns-clause-left c = leaves_no_other _ _ c.row_from.ensures.falls c.row_from.ensures.left
 
 pub returns-clause-uncounted : goal.returns-clause-uncounted
 returns-clause-uncounted c = λ e. c.row_from.ensures.uncounted (λ p. search rules)

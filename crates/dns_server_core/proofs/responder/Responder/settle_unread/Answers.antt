@@ -24,7 +24,7 @@ returns-in_err-settle_message-clause-err g c =
     let front = subst (λ (k : Cut). HandsFront g.H.RequestHandler.serves c.args.self.now all c.loop-message.self (map asked k.messages)) c.in-Some.ensures.some c.loop-message.invariant.front in
     on_err c.from_residual-in_err-settle_message.result
     (Breaks-within g.H.RequestHandler.serves g.H.RequestHandler.skips c.args.self.now c.loop-message.self c.settle_message.new.self all
-    (asked c.in-Some.message.now ∷ []) (map asked (frames c.in-Some.after.now).messages) front c.in_err-settle_message.ensures.err)
+    (asked c.in-Some.message.now ∷ []) (map asked (frames c.in-Some.after.now).messages) front (rw (c.number.ensures, c.peer.ensures, c.in_ok-from_slice.ensures) at c.in_err-settle_message.ensures.err))
 
 pub loop-message-preserved : goal.loop-message-preserved
 loop-message-preserved g c =
@@ -33,7 +33,7 @@ loop-message-preserved g c =
     let front = subst (λ (k : Cut). HandsFront g.H.RequestHandler.serves c.args.self.now all c.loop-message.self (map asked k.messages)) c.in-Some.ensures.some c.loop-message.invariant.front in
     record {
       front = Front-more g.H.RequestHandler.serves c.args.self.now c.loop-message.self c.settle_message.new.self all (map asked (frames c.in-Some.after.now).messages)
-          (asked c.in-Some.message.now) front c.in_ok-settle_message.ensures.ok;
+          (asked c.in-Some.message.now) front (rw (c.number.ensures, c.peer.ensures, c.in_ok-from_slice.ensures) at c.in_ok-settle_message.ensures.ok);
       count = omega (arith, c.loop-message.invariant.count, ap (λ (k : Cut). length k.messages) c.in-Some.ensures.some);
       rest = sym (ap (λ (k : Cut). k.rest) c.in-Some.ensures.some) ∙ c.loop-message.invariant.rest;
       shorter = omega (arith, c.loop-message.invariant.shorter, c.in-Some.ensures.inside, ap length c.in-Some.ensures.left, length-drop (2 + length c.in-Some.message.now) c.loop-message.left.now);
