@@ -1,5 +1,5 @@
 -- All whole messages that the connection has unread were settled, and let go.
-use Rattle.std.proofs.Common.{◌∙◌, length, ap, arith}
+use Rattle.std.proofs.Common.{length, ap, arith}
 use Rattle.dns_server_core.specs.Connections.{Connection}
 use Rattle.dns_server_core.proofs.LongerRuns.{on_err}
 use Rattle.dns_requests.proofs.answering.answer.Goals as goal

@@ -1,7 +1,6 @@
 -- As many as there are.
 use Rattle.std.proofs.Common.{◌≡◌, ◌≤◌, ℕ, List, IfOk, OnOk, OnErr, map, length, subst, arith}
 use Rattle.dns_frames.specs.Frames.{frames}
-use Rattle.dns_book.specs.declared.ask.Ask.{Ask}
 use Rattle.dns_server_core.specs.FrameRuns.{Adds, Halts}
 use Rattle.dns_server_core.proofs.FirstFrames.{few_messages, first_all, behind_all}
 use Rattle.dns_requests.proofs.answering.settle_all.Goals as goal

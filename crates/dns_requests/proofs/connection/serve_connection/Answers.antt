@@ -3,10 +3,9 @@ use Rattle.std.proofs.Common.{◌≡◌, ◌≢◌, ◌∙◌, ◌+◌, ◌++◌
 use Rattle.std.proofs.lemmas.List.{length-take-le}
 use Rattle.std.proofs.lemmas.Result.{err_from_is_err_and}
 use Rattle.dns_io.proofs.ToldContents.{Keeps-same, Keeps-more}
-use Rattle.dns_io.specs.declared.peer.Protocol.TheVariants.{Tcp}
 use Rattle.dns_book.specs.declared.ask.Ask.{Ask}
 use Rattle.dns_frames.specs.Frames.{frames}
-use Rattle.dns_requests.specs.Arrivals.{ask_at, opened}
+use Rattle.dns_requests.specs.Arrivals.{ask_at}
 use Rattle.dns_requests.specs.Ends.{Parts, Terms}
 use Rattle.dns_server_core.specs.Connections.{Connection}
 use Rattle.dns_server_core.specs.FrameRuns.{Adds, Halts}

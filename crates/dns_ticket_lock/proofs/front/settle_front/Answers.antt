@@ -1,5 +1,5 @@
 -- Messages behind those of which nothing came.
-use Rattle.std.proofs.Common.{◌≡◌, ◌∷◌, ◌+◌, ◌-◌, ℕ, List, length, true, refl, sym, ap, subst, ◌∙◌, arith}
+use Rattle.std.proofs.Common.{◌≡◌, ◌∷◌, ◌+◌, ◌-◌, ℕ, length, true, refl, sym, ap, subst, ◌∙◌, arith}
 use Rattle.dns_book.specs.declared.ask.Ask.{Ask}
 use Rattle.dns_book.specs.Book.{Settles}
 use Rattle.dns_book.specs.Into.{SettlesInto}
@@ -9,17 +9,20 @@ use Rattle.dns_server_core.specs.FrameRuns.{AddsFront, behind_first, first_asks,
 use Rattle.dns_ticket_lock.specs.declared.held.Told.{Told}
 use Rattle.dns_ticket_lock.specs.Rule.{settled}
 use Rattle.dns_ticket_lock.specs.Settling.{SettledAs, done_by, receipt_in}
-use Rattle.dns_ticket_lock.proofs.Fronts.{Quiet-begun, Quiet-more, Quiet-end, Quiet-halts, one_more, if_ok, on_ok, on_err}
+use Rattle.dns_ticket_lock.proofs.Fronts.{Quiet, Quiet-begun, Quiet-more, Quiet-end, Quiet-halts, one_more, if_ok, on_ok, on_err}
 use Rattle.dns_ticket_lock.proofs.front.settle_front.Goals as goal
 
 pub loop-message-init : goal.loop-message-init
 loop-message-init g c =
+    let bytes = c.args.bytes.now in
+    let none : c.args.most - 0 ≡ c.args.most = omega arith in
     record {
       ask = refl;
       within = (omega arith, omega arith);
-      quiet = Quiet-begun g.K.Keeper.keeper c.args.access.now c.args.ask.now c.args.book.now c.args.most c.args.bytes.now c.args.replies.now.items;
-      behind = refl;
-      count = omega arith;
+      quiet = subst (λ (n : ℕ). Quiet g.K.Keeper.keeper c.args.access.now c.args.ask.now c.args.book.now c.args.book.now c.args.most n bytes bytes c.args.replies.now.items c.args.replies.now.items 0) (sym none)
+          (Quiet-begun g.K.Keeper.keeper c.args.access.now c.args.ask.now c.args.book.now c.args.most bytes c.args.replies.now.items);
+      count = omega (arith, ap (λ (n : ℕ). length (first_messages n bytes)) none);
+      behind = ap (λ (n : ℕ). behind_first n bytes) none;
       shorter = omega arith;
     }
 

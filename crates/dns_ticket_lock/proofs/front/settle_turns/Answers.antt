@@ -1,5 +1,5 @@
 -- One turn more, or a turn in which memory ran out.
-use Rattle.std.proofs.Common.{ℕ, List, [], sym, ap, subst, ◌∙◌, arith}
+use Rattle.std.proofs.Common.{◌≡◌, ◌+◌, ◌-◌, ℕ, List, [], length, sym, ap, subst, ◌∙◌, arith}
 use Rattle.std.proofs.lemmas.List.{append-nil}
 use Rattle.dns_book.specs.declared.ask.Ask.{Ask}
 use Rattle.dns_server_core.specs.FrameRuns.{AddsFront, Halts, behind_first, first_asks, first_messages}

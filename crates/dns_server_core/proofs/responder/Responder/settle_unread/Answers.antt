@@ -1,5 +1,5 @@
 -- One message more, or a message in front of which it stopped.
-use Rattle.std.proofs.Common.{◌∙◌, ◌∷◌, [], ◌+◌, ℕ, List, map, length, subst, ap, sym, refl, inl, arith, length-drop}
+use Rattle.std.proofs.Common.{◌∙◌, ◌∷◌, [], ◌+◌, map, length, subst, ap, sym, refl, inl, arith, length-drop}
 use Rattle.dns_frames.specs.Frames.{Cut, frames}
 use Rattle.dns_server_core.specs.Connections.{message_of}
 use Rattle.dns_server_core.specs.Handing.{HandsFront}
