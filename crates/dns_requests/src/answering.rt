@@ -24,11 +24,13 @@ pub(crate) fn answer<T: RequestHandler>(
     replies: &mut Vec<u8>,
 ) -> Result<u64, OutOfMemory>
     requires { ask.old.at < 2 ^ 47 }
-    ensures ok { OnOk result (Adds (T.serves access.now) handler.old (map (λ m. record ask.old { bytes = m }) (frames session.old.rest).messages) handler.new replies.old.items replies.new.items) }
+    ensures ok { OnOk result (Adds (T.serves access.now) handler.old
+        (map (λ m. record ask.old { bytes = m }) (frames session.old.rest).messages) handler.new replies.old.items replies.new.items) }
     ensures count { IfOk result (λ n. n ≡ length (frames session.old.rest).messages) }
     ensures fed { OnOk result (session.new ≡ fed_by session.old ask.old.at (frames session.old.rest)) }
     ensures shorter { IfOk result (λ n. 2 * n + length session.new.rest ≤ length session.old.rest) }
-    ensures err { OnErr result (Halts (T.serves access.now) T.skips handler.old (map (λ m. record ask.old { bytes = m }) (frames session.old.rest).messages) handler.new) }
+    ensures err { OnErr result (Halts (T.serves access.now) T.skips handler.old
+        (map (λ m. record ask.old { bytes = m }) (frames session.old.rest).messages) handler.new) }
     ensures ask { ask.new ≡ record ask.old { bytes = ask.new.bytes } }
 {
     let answered = settle_all(alloc, handler, access, ask, session.unread(), replies)?;
@@ -46,11 +48,13 @@ fn settle_all<T: RequestHandler>(
     replies: &mut Vec<u8>,
 ) -> Result<Answered, OutOfMemory>
     requires { ask.old.at < 2 ^ 47 }
-    ensures ok { OnOk result (Adds (T.serves access.now) handler.old (map (λ m. record ask.old { bytes = m }) (frames bytes.now).messages) handler.new replies.old.items replies.new.items) }
+    ensures ok { OnOk result (Adds (T.serves access.now) handler.old
+        (map (λ m. record ask.old { bytes = m }) (frames bytes.now).messages) handler.new replies.old.items replies.new.items) }
     ensures count { IfOk result (λ a. a.messages ≡ length (frames bytes.now).messages) }
     ensures rest { IfOk result (λ a. a.rest ≡ length (frames bytes.now).rest) }
     ensures shorter { IfOk result (λ a. 2 * a.messages + a.rest ≤ length bytes.now) }
-    ensures err { OnErr result (Halts (T.serves access.now) T.skips handler.old (map (λ m. record ask.old { bytes = m }) (frames bytes.now).messages) handler.new) }
+    ensures err { OnErr result (Halts (T.serves access.now) T.skips handler.old
+        (map (λ m. record ask.old { bytes = m }) (frames bytes.now).messages) handler.new) }
     ensures ask { ask.new ≡ record ask.old { bytes = ask.new.bytes } }
 {
     handler.handle_frames(alloc, access, ask, bytes, MOST_MESSAGES, replies)

@@ -80,7 +80,8 @@ pub trait RequestHandler {
         replies: &mut Vec<u8>,
     ) -> Result<Answered, OutOfMemory>
         requires { ask.old.at < 2 ^ 47 }
-        ensures ok { OnOk result (Adds (serves access.now) self.old (first_asks ask.old most bytes.now) self.new replies.old.items replies.new.items) }
+        ensures ok { OnOk result (Adds (serves access.now) self.old
+            (first_asks ask.old most bytes.now) self.new replies.old.items replies.new.items) }
         ensures count { IfOk result (λ a. a.messages ≡ length (first_messages most bytes.now)) }
         ensures rest { IfOk result (λ a. a.rest ≡ length (behind_first most bytes.now)) }
         ensures shorter { IfOk result (λ a. 2 * a.messages + a.rest ≤ length bytes.now) }

@@ -104,12 +104,16 @@ fn settle_front<'a, K: Keeper>(
     requires moment { ask.old.at < 2 ^ 47 }
     requires some { 0 < length (first_messages most bytes.now) }
     ensures ok { IfOk result.0 (λ f. (t : Terms) (rows : List Row) (a : Account) → HasTerms t book.old → NamesRows K.keeper book.old rows → StartsWith rows a.seen
-        → AddsFront (SettledAs K.keeper t access.now ask.old.client) a (first_asks ask.old most bytes.now) (settled rows (done_by K.keeper ask.old.client rows book.new result.1) a) (first_asks ask.old (most - f.messages) f.left.now) replies.old.items replies.new.items) }
+        → AddsFront (SettledAs K.keeper t access.now ask.old.client) a (first_asks ask.old most bytes.now)
+        (settled rows (done_by K.keeper ask.old.client rows book.new result.1) a)
+        (first_asks ask.old (most - f.messages) f.left.now) replies.old.items replies.new.items) }
     ensures err { OnErr result.0 ((t : Terms) (rows : List Row) (a : Account) → HasTerms t book.old → NamesRows K.keeper book.old rows → StartsWith rows a.seen
-        → Halts (SettledAs K.keeper t access.now ask.old.client) LeftAs a (first_asks ask.old most bytes.now) (settled rows (done_by K.keeper ask.old.client rows book.new result.1) a)) }
+        → Halts (SettledAs K.keeper t access.now ask.old.client) LeftAs a (first_asks ask.old most bytes.now)
+        (settled rows (done_by K.keeper ask.old.client rows book.new result.1) a)) }
     ensures some { IfOk result.0 (λ f. 0 < f.messages) }
     ensures few { IfOk result.0 (λ f. (f.messages ≤ most) × (f.messages ≤ 64)) }
-    ensures count { IfOk result.0 (λ f. f.messages + length (first_messages (most - f.messages) f.left.now) ≡ length (first_messages most bytes.now)) }
+    ensures count { IfOk result.0 (λ f. f.messages + length (first_messages (most - f.messages) f.left.now)
+        ≡ length (first_messages most bytes.now)) }
     ensures behind { IfOk result.0 (λ f. behind_first (most - f.messages) f.left.now ≡ behind_first most bytes.now) }
     ensures shorter { IfOk result.0 (λ f. 2 * f.messages + length f.left.now ≤ length bytes.now) }
     ensures advances { Advances K.keeper ask.old.client book.old result.1.receipt result.1.count book.new }
@@ -148,12 +152,16 @@ fn settle_held_front<'a, K: Keeper>(
     requires some { 0 < length (first_messages most bytes.now) }
     requires low { low < length held.old.members.items }
     ensures ok { IfOk result.0 (λ f. (t : Terms) (rows : List Row) (a : Account) → HasTerms t held.old.book → NamesRows K.keeper held.old.book rows → StartsWith rows a.seen
-        → AddsFront (SettledAs K.keeper t access.now ask.old.client) a (first_asks ask.old most bytes.now) (settled rows (done_by K.keeper ask.old.client rows held.new.book result.1) a) (first_asks ask.old (most - f.messages) f.left.now) replies.old.items replies.new.items) }
+        → AddsFront (SettledAs K.keeper t access.now ask.old.client) a (first_asks ask.old most bytes.now)
+        (settled rows (done_by K.keeper ask.old.client rows held.new.book result.1) a)
+        (first_asks ask.old (most - f.messages) f.left.now) replies.old.items replies.new.items) }
     ensures err { OnErr result.0 ((t : Terms) (rows : List Row) (a : Account) → HasTerms t held.old.book → NamesRows K.keeper held.old.book rows → StartsWith rows a.seen
-        → Halts (SettledAs K.keeper t access.now ask.old.client) LeftAs a (first_asks ask.old most bytes.now) (settled rows (done_by K.keeper ask.old.client rows held.new.book result.1) a)) }
+        → Halts (SettledAs K.keeper t access.now ask.old.client) LeftAs a (first_asks ask.old most bytes.now)
+        (settled rows (done_by K.keeper ask.old.client rows held.new.book result.1) a)) }
     ensures some { IfOk result.0 (λ f. 0 < f.messages) }
     ensures few { IfOk result.0 (λ f. (f.messages ≤ most) × (f.messages ≤ 64)) }
-    ensures count { IfOk result.0 (λ f. f.messages + length (first_messages (most - f.messages) f.left.now) ≡ length (first_messages most bytes.now)) }
+    ensures count { IfOk result.0 (λ f. f.messages + length (first_messages (most - f.messages) f.left.now)
+        ≡ length (first_messages most bytes.now)) }
     ensures behind { IfOk result.0 (λ f. behind_first (most - f.messages) f.left.now ≡ behind_first most bytes.now) }
     ensures shorter { IfOk result.0 (λ f. 2 * f.messages + length f.left.now ≤ length bytes.now) }
     ensures advances { Advances K.keeper ask.old.client held.old.book result.1.receipt result.1.count held.new.book }
@@ -189,11 +197,15 @@ fn settle_turn<'a, K: Keeper, R: Wait>(
     ensures idle { (seat.new.me.1 ≡ []) × (seat.new.me.0.phase ≡ 0) × (length seat.new.me.0.accounts ≡ 1) }
     ensures low { (seat.new.me.0.low ≡ seat.old.me.0.low) × (seat.new.me.0.terms ≡ seat.old.me.0.terms) }
     ensures seen { length (own seat.new.me.0.accounts).seen ≡ result.1 }
-    ensures ok { IfOk result.0 (λ f. AddsFront (SettledAs K.keeper seat.old.me.0.terms access.now ask.old.client) (own seat.old.me.0.accounts) (first_asks ask.old most bytes.now) (own seat.new.me.0.accounts) (first_asks ask.old (most - f.messages) f.left.now) replies.old.items replies.new.items) }
-    ensures err { OnErr result.0 (Halts (SettledAs K.keeper seat.old.me.0.terms access.now ask.old.client) LeftAs (own seat.old.me.0.accounts) (first_asks ask.old most bytes.now) (own seat.new.me.0.accounts)) }
+    ensures ok { IfOk result.0 (λ f. AddsFront (SettledAs K.keeper seat.old.me.0.terms access.now ask.old.client)
+        (own seat.old.me.0.accounts) (first_asks ask.old most bytes.now) (own seat.new.me.0.accounts)
+        (first_asks ask.old (most - f.messages) f.left.now) replies.old.items replies.new.items) }
+    ensures err { OnErr result.0 (Halts (SettledAs K.keeper seat.old.me.0.terms access.now ask.old.client) LeftAs
+        (own seat.old.me.0.accounts) (first_asks ask.old most bytes.now) (own seat.new.me.0.accounts)) }
     ensures some { IfOk result.0 (λ f. 0 < f.messages) }
     ensures few { IfOk result.0 (λ f. (f.messages ≤ most) × (f.messages ≤ 64)) }
-    ensures count { IfOk result.0 (λ f. f.messages + length (first_messages (most - f.messages) f.left.now) ≡ length (first_messages most bytes.now)) }
+    ensures count { IfOk result.0 (λ f. f.messages + length (first_messages (most - f.messages) f.left.now)
+        ≡ length (first_messages most bytes.now)) }
     ensures behind { IfOk result.0 (λ f. behind_first (most - f.messages) f.left.now ≡ behind_first most bytes.now) }
     ensures shorter { IfOk result.0 (λ f. 2 * f.messages + length f.left.now ≤ length bytes.now) }
     ensures ask { ask.new ≡ record ask.old { bytes = ask.new.bytes } }
@@ -238,8 +250,10 @@ fn settle_turns<K: Keeper, R: Wait>(
     ensures idle { (seat.new.me.1 ≡ []) × (seat.new.me.0.phase ≡ 0) × (length seat.new.me.0.accounts ≡ 1) }
     ensures low { (seat.new.me.0.low ≡ seat.old.me.0.low) × (seat.new.me.0.terms ≡ seat.old.me.0.terms) }
     ensures seen { length (own seat.new.me.0.accounts).seen ≡ seen.new }
-    ensures ok { OnOk result (Adds (SettledAs K.keeper seat.old.me.0.terms access.now ask.old.client) (own seat.old.me.0.accounts) (first_asks ask.old most bytes.now) (own seat.new.me.0.accounts) replies.old.items replies.new.items) }
-    ensures err { OnErr result (Halts (SettledAs K.keeper seat.old.me.0.terms access.now ask.old.client) LeftAs (own seat.old.me.0.accounts) (first_asks ask.old most bytes.now) (own seat.new.me.0.accounts)) }
+    ensures ok { OnOk result (Adds (SettledAs K.keeper seat.old.me.0.terms access.now ask.old.client) (own seat.old.me.0.accounts)
+        (first_asks ask.old most bytes.now) (own seat.new.me.0.accounts) replies.old.items replies.new.items) }
+    ensures err { OnErr result (Halts (SettledAs K.keeper seat.old.me.0.terms access.now ask.old.client) LeftAs
+        (own seat.old.me.0.accounts) (first_asks ask.old most bytes.now) (own seat.new.me.0.accounts)) }
     ensures count { IfOk result (λ a. a.messages ≡ length (first_messages most bytes.now)) }
     ensures rest { IfOk result (λ a. a.rest ≡ length (behind_first most bytes.now)) }
     ensures shorter { IfOk result (λ a. 2 * a.messages + a.rest ≤ length bytes.now) }
@@ -281,11 +295,13 @@ impl<K: Keeper> TicketBook<K> {
         requires pass { pass.old.book ≡ self.now.id }
         requires moment { ask.old.at < 2 ^ 47 }
         ensures book { pass.new.book ≡ pass.old.book }
-        ensures ok { OnOk result (Adds (SettledBy K.keeper access.now) pass.old (first_asks ask.old most bytes.now) pass.new replies.old.items replies.new.items) }
+        ensures ok { OnOk result (Adds (SettledBy K.keeper access.now) pass.old
+            (first_asks ask.old most bytes.now) pass.new replies.old.items replies.new.items) }
         ensures count { IfOk result (λ a. a.messages ≡ length (first_messages most bytes.now)) }
         ensures rest { IfOk result (λ a. a.rest ≡ length (behind_first most bytes.now)) }
         ensures shorter { IfOk result (λ a. 2 * a.messages + a.rest ≤ length bytes.now) }
-        ensures err { OnErr result (Halts (SettledBy K.keeper access.now) LeftBy pass.old (first_asks ask.old most bytes.now) pass.new) }
+        ensures err { OnErr result (Halts (SettledBy K.keeper access.now) LeftBy pass.old
+            (first_asks ask.old most bytes.now) pass.new) }
         ensures ask { ask.new ≡ record ask.old { bytes = ask.new.bytes } }
     {
         let client = mem::replace(&mut ask.client, pass.number);
