@@ -143,7 +143,8 @@ impl<K: Keeper> Server<Book<K>> {
     pub fn failed_updates(&self)
         ensures rose { (access : Access) (before later : SeenOf K) (asks : List Completed) (outs : List Sent)
             → (ran : Run (Settles K.keeper access) before asks outs later)
-            → RoseBy (failures K.keeper access before asks outs later ran) (K.keeper.told before.keeper).faults (K.keeper.told later.keeper).faults }
+            → RoseBy (failures K.keeper access before asks outs later ran) (K.keeper.told before.keeper).faults
+            (K.keeper.told later.keeper).faults }
         ensures calm { (access : Access) (before later : SeenOf K) (asks : List Completed) (outs : List Sent)
             → (ran : Run (Settles K.keeper access) before asks outs later)
             → failures K.keeper access before asks outs later ran ≡ 0

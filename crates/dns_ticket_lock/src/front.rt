@@ -75,12 +75,14 @@ fn settle_next<K: Keeper>(
 ) -> (Result<SettledInto, OutOfMemory>, Told)
     requires moment { ask.old.at < 2 ^ 47 }
     requires bytes { length message.now ≤ 65535 }
-    ensures ok { IfOk result.0 (SettlesInto (λ settled. Settles K.keeper access.now book.old (record ask.old { bytes = message.now }) settled book.new) true replies.old.items replies.new.items) }
+    ensures ok { IfOk result.0 (SettlesInto (λ settled. Settles K.keeper access.now book.old
+        (record ask.old { bytes = message.now }) settled book.new) true replies.old.items replies.new.items) }
     ensures err { OnErr result.0 (IsLeft K.keeper book.old book.new) }
     ensures advances { Advances K.keeper ask.old.client book.old result.1.receipt result.1.count book.new }
     ensures receipt { result.1.receipt ≡ receipt_in result.0 }
     ensures rise { (K.keeper.told book.old.keeper).faults + result.1.rise ≡ (K.keeper.told book.new.keeper).faults }
-    ensures rose { OnOk result.0 (Rose (K.keeper.told book.old.keeper).faults (K.keeper.told book.new.keeper).faults → (0 < result.1.rise) ⊎ (result.1.mark ≡ true)) }
+    ensures rose { OnOk result.0 (Rose (K.keeper.told book.old.keeper).faults (K.keeper.told book.new.keeper).faults
+        → (0 < result.1.rise) ⊎ (result.1.mark ≡ true)) }
     ensures mark { result.1.mark ≡ true → (K.keeper.told book.old.keeper).faults ≡ last }
     ensures ask { ask.new ≡ record ask.old { bytes = ask.new.bytes } }
 {
@@ -103,11 +105,13 @@ fn settle_front<'a, K: Keeper>(
 ) -> (Result<Front<'a>, OutOfMemory>, Told)
     requires moment { ask.old.at < 2 ^ 47 }
     requires some { 0 < length (first_messages most bytes.now) }
-    ensures ok { IfOk result.0 (λ f. (t : Terms) (rows : List Row) (a : Account) → HasTerms t book.old → NamesRows K.keeper book.old rows → StartsWith rows a.seen
+    ensures ok { IfOk result.0 (λ f. (t : Terms) (rows : List Row) (a : Account) → HasTerms t book.old → NamesRows K.keeper book.old rows
+        → StartsWith rows a.seen
         → AddsFront (SettledAs K.keeper t access.now ask.old.client) a (first_asks ask.old most bytes.now)
         (settled rows (done_by K.keeper ask.old.client rows book.new result.1) a)
         (first_asks ask.old (most - f.messages) f.left.now) replies.old.items replies.new.items) }
-    ensures err { OnErr result.0 ((t : Terms) (rows : List Row) (a : Account) → HasTerms t book.old → NamesRows K.keeper book.old rows → StartsWith rows a.seen
+    ensures err { OnErr result.0 ((t : Terms) (rows : List Row) (a : Account) → HasTerms t book.old → NamesRows K.keeper book.old rows
+        → StartsWith rows a.seen
         → Halts (SettledAs K.keeper t access.now ask.old.client) LeftAs a (first_asks ask.old most bytes.now)
         (settled rows (done_by K.keeper ask.old.client rows book.new result.1) a)) }
     ensures some { IfOk result.0 (λ f. 0 < f.messages) }
@@ -151,11 +155,13 @@ fn settle_held_front<'a, K: Keeper>(
     requires moment { ask.old.at < 2 ^ 47 }
     requires some { 0 < length (first_messages most bytes.now) }
     requires low { low < length held.old.members.items }
-    ensures ok { IfOk result.0 (λ f. (t : Terms) (rows : List Row) (a : Account) → HasTerms t held.old.book → NamesRows K.keeper held.old.book rows → StartsWith rows a.seen
+    ensures ok { IfOk result.0 (λ f. (t : Terms) (rows : List Row) (a : Account) → HasTerms t held.old.book
+        → NamesRows K.keeper held.old.book rows → StartsWith rows a.seen
         → AddsFront (SettledAs K.keeper t access.now ask.old.client) a (first_asks ask.old most bytes.now)
         (settled rows (done_by K.keeper ask.old.client rows held.new.book result.1) a)
         (first_asks ask.old (most - f.messages) f.left.now) replies.old.items replies.new.items) }
-    ensures err { OnErr result.0 ((t : Terms) (rows : List Row) (a : Account) → HasTerms t held.old.book → NamesRows K.keeper held.old.book rows → StartsWith rows a.seen
+    ensures err { OnErr result.0 ((t : Terms) (rows : List Row) (a : Account) → HasTerms t held.old.book
+        → NamesRows K.keeper held.old.book rows → StartsWith rows a.seen
         → Halts (SettledAs K.keeper t access.now ask.old.client) LeftAs a (first_asks ask.old most bytes.now)
         (settled rows (done_by K.keeper ask.old.client rows held.new.book result.1) a)) }
     ensures some { IfOk result.0 (λ f. 0 < f.messages) }

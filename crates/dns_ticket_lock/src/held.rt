@@ -159,7 +159,8 @@ pub(crate) fn settle_book<K: Keeper>(
     ensures receipt { result.1.receipt ≡ receipt_in result.0 }
     ensures rise { (K.keeper.told book.old.keeper).faults + result.1.rise ≡ (K.keeper.told book.new.keeper).faults }
     ensures fits { (K.keeper.told book.new.keeper).faults < 2 ^ 64 }
-    ensures rose { Rose (K.keeper.told book.old.keeper).faults (K.keeper.told book.new.keeper).faults → (0 < result.1.rise) ⊎ (result.1.mark ≡ true) }
+    ensures rose { Rose (K.keeper.told book.old.keeper).faults (K.keeper.told book.new.keeper).faults
+        → (0 < result.1.rise) ⊎ (result.1.mark ≡ true) }
     ensures mark { result.1.mark ≡ true → (K.keeper.told book.old.keeper).faults ≡ last }
 {
     let before = book.journal_len();
@@ -192,7 +193,8 @@ pub(crate) fn settle_held<K: Keeper>(
     ensures advances { Advances K.keeper ask.now.client held.old.book result.1.receipt result.1.count held.new.book }
     ensures receipt { result.1.receipt ≡ receipt_in result.0 }
     ensures rise { (K.keeper.told held.old.book.keeper).faults + result.1.rise ≡ (K.keeper.told held.new.book.keeper).faults }
-    ensures rose { Rose (K.keeper.told held.old.book.keeper).faults (K.keeper.told held.new.book.keeper).faults → (0 < result.1.rise) ⊎ (result.1.mark ≡ true) }
+    ensures rose { Rose (K.keeper.told held.old.book.keeper).faults (K.keeper.told held.new.book.keeper).faults
+        → (0 < result.1.rise) ⊎ (result.1.mark ≡ true) }
     ensures members { (m : _) → get_elem? held.old.members.items low ≡ some m → held.new.members.items ≡ slice_set held.old.members.items low (record { share = m.share + result.1.rise; mark = m.mark || result.1.mark }) }
     ensures start { held.new.start ≡ held.old.start }
 {
