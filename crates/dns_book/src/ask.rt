@@ -77,17 +77,8 @@ impl Settled {
         Ok(self.put_into(out, is_framed))
     }
 
-    /// A law: this call does nothing. A reply has at most 65,535 bytes.
-    pub fn is_short(&self)
-        ensures { IfSome self.now.reply (λ bytes. length bytes ≤ 65535) }
-    {
-        if let Some(reply) = &self.reply {
-            let _len = reply.len();
-        }
-    }
-
-    /// Adds the reply, where one is owed, to a buffer that has the room for it and for the two bytes of its length. Takes no memory.
-    pub fn put_into(&self, out: &mut Vec<u8>, is_framed: bool) -> SettledInto
+    /// Adds the reply, where one is owed, to a buffer that has the room. Takes no memory.
+    pub(crate) fn put_into(&self, out: &mut Vec<u8>, is_framed: bool) -> SettledInto
         requires { IfSome self.now.reply (λ bytes. vec_len out.old + (length bytes + 2) ≤ vec_capacity out.old) }
         ensures { SettlesInto (λ settled. settled ≡ self.now) is_framed out.old.items out.new.items result }
     {

@@ -8,12 +8,8 @@ use dns_book::{AccessControl, Ask, Book, Settled, SettledInto};
 use dns_frames::first_frame;
 use dns_io::{Octets, OutOfMemory};
 use dns_keeper::Keeper;
-use dns_wire::limits::MAX_MESSAGE_LEN;
 use std::alloc::Global;
 use std::mem;
-
-/// The most bytes that a reply adds to a buffer, behind the two bytes of its length.
-const MOST_ADDED: usize = MAX_MESSAGE_LEN as usize + 2;
 
 /// How many messages were settled, and how many bytes stand behind them.
 #[derive(Clone, Copy)]
@@ -46,8 +42,6 @@ pub trait RequestHandler {
 
     /// Settles one message as `handle_request` does, and adds the reply that it is owed to what a buffer has: as it is, or behind the two
     /// bytes of its length, as it goes over a connection (RFC 1035 4.2.2). Where memory ran out, part of a reply may have been added.
-    ///
-    /// Here it makes room for the longest reply, and then calls `handle_request`.
     fn handle_into(
         &mut self,
         access: &AccessControl,
@@ -58,13 +52,7 @@ pub trait RequestHandler {
         requires moment { ask.now.at < 2 ^ 47 }
         requires bytes { length ask.now.bytes ≤ 65535 }
         ensures ok { IfOk result (SettlesInto (λ settled. serves access.now self.old ask.now settled self.new) is_framed out.old.items out.new.items) }
-        ensures err { OnErr result (skips self.old self.new) }
-    {
-        out.reserve(MOST_ADDED)?;
-        let settled = self.handle_request(access, ask)?;
-        settled.is_short();
-        Ok(settled.put_into(out, is_framed))
-    }
+        ensures err { OnErr result (skips self.old self.new) };
 
     /// Settles, in order, the whole messages at the front of what came over a connection, at most so many, each behind its length (RFC 1035
     /// 4.2.2), and adds the replies that they are owed to what a buffer has, each behind its length. Each is handed over as `ask`, whose

@@ -3,7 +3,7 @@
 ghost use Rattle.std.specs.Prelude.{◌≤◌, length};
 
 use dns_io::OutOfMemory;
-use dns_server_core::{AccessControl, Ask, ReplyBytes, RequestHandler, Settled};
+use dns_server_core::{AccessControl, Ask, ReplyBytes, RequestHandler, Settled, SettledInto};
 use dns_wire::Protocol;
 use std::test::Fail;
 
@@ -50,6 +50,16 @@ impl RequestHandler for Echo {
             length: 0,
             receipt: None,
         })
+    }
+
+    fn handle_into(
+        &mut self,
+        access: &AccessControl,
+        ask: &Ask,
+        out: &mut Vec<u8>,
+        is_framed: bool,
+    ) -> Result<SettledInto, OutOfMemory> {
+        self.handle_request(access, ask)?.add_to(out, is_framed)
     }
 }
 
