@@ -1,5 +1,5 @@
 -- A run of a book whose keeper fails raises its count of faults.
-use Rattle.std.proofs.Common.{◌≡◌, ℕ, ◌+◌, List, [], ◌∷◌, Option, Bool, if◌then◌else◌, sym, ap, arith}
+use Rattle.std.proofs.Common.{◌≡◌, ◌∙◌, ℕ, ◌+◌, List, [], ◌∷◌, Option, Bool, if◌then◌else◌, sym, ap, arith}
 use Rattle.dns_keeper.specs.Keeping.{KeeperOf}
 use Rattle.dns_wire.specs.declared.record.Record.{Record}
 use Rattle.dns_book.specs.declared.ask.Ask.{Ask}
@@ -37,13 +37,13 @@ module _ {K : Type 0} (keeper : KeeperOf K) where
       RoseBy-more (if ran.3.failed then 1 else 0) (failures keeper access ran.1 cs ran.2 later ran.5) (keeper.told before.keeper).faults (keeper.told ran.1.keeper).faults (keeper.told later.keeper).faults
       (Settles-rose access before c.ask ran.0 ran.1 ran.3) (few_failures access ran.1 later cs ran.2 ran.5)
 
-  Ends-calm : (before : SeenOf K) (ask : Ask) (batch : List Record) (flag : Bool) (receipt : Option Receipt) (after : SeenOf K) → Ends keeper before ask batch flag receipt after → (if flag then 1 else 0) ≡ 0
+  Ends-calm : (before : SeenOf K) (ask : Ask) (batch : List Record) (flag : Bool) (receipt : Option Receipt) (after : SeenOf K) → Ends keeper before ask batch flag receipt after → ◌≡◌ {A = ℕ} (if flag then 1 else 0) 0
       → (keeper.told after.keeper).faults ≡ (keeper.told before.keeper).faults
   Ends-calm before ask batch flag receipt after (idle none) e = refl
   Ends-calm before ask batch flag receipt after (journalled some held grown later) e = later
   Ends-calm before ask batch flag receipt after (failed some held kept later rose) e = absurd (omega (arith, e))
 
-  Settles-calm : (access : Access) (before : SeenOf K) (ask : Ask) (settled : Settled) (after : SeenOf K) → (s : Settles keeper access before ask settled after) → (if s.failed then 1 else 0) ≡ 0
+  Settles-calm : (access : Access) (before : SeenOf K) (ask : Ask) (settled : Settled) (after : SeenOf K) → (s : Settles keeper access before ask settled after) → ◌≡◌ {A = ℕ} (if s.failed then 1 else 0) 0
       → (keeper.told after.keeper).faults ≡ (keeper.told before.keeper).faults
   Settles-calm access before ask settled after s e = rw (s.counted) (Ends-calm before ask _ s.failed settled.receipt s.ended s.ends e)
 
