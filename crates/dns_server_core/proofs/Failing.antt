@@ -1,5 +1,5 @@
 -- A run of a book whose keeper fails raises its count of faults.
-use Rattle.std.proofs.Common.{◌≡◌, ◌∙◌, ℕ, ◌+◌, List, [], ◌∷◌, Option, Bool, if◌then◌else◌, sym, ap, arith}
+use Rattle.std.proofs.Common.{◌≡◌, ◌∙◌, ℕ, ◌+◌, List, [], ◌∷◌, Option, Bool, if◌then◌else◌, refl, sym, ap, arith}
 use Rattle.dns_keeper.specs.Keeping.{KeeperOf}
 use Rattle.dns_wire.specs.declared.record.Record.{Record}
 use Rattle.dns_book.specs.declared.ask.Ask.{Ask}
