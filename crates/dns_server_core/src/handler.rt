@@ -126,9 +126,9 @@ pub fn refill(alloc: Global, bytes: &mut Octets, message: &[u8]) -> Result<(), O
 impl<K: Keeper> RequestHandler for Book<K> {
     ghost use Rattle.dns_book.specs.Book.{Settles, IsLeft};
 
-    ghost serves = { Settles K.rows K.faults };
+    ghost serves = { Settles K.keeper };
 
-    ghost skips = { IsLeft K.rows K.faults };
+    ghost skips = { IsLeft K.keeper };
 
     fn handle_request(
         &mut self,

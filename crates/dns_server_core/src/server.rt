@@ -139,11 +139,16 @@ impl<T: RequestHandler> Server<T> {
 
 impl<K: Keeper> Server<Book<K>> {
     /// A law: this call does nothing. In a run of a book over messages no more updates get ServFail than its keeper's count
-    /// of faults rose, unless that stands at its last value.
+    /// of faults rose, unless that stands at its last value; and where none gets it, that count is as it was.
     pub fn failed_updates(&self)
-        ensures { (access : Access) (before later : SeenOf K) (asks : List Completed) (outs : List Sent)
-            → (ran : Run (Settles K.rows K.faults access) before asks outs later)
-            → RoseBy (failures K.rows K.faults access before asks outs later ran) (K.faults before.keeper) (K.faults later.keeper) }
+        ensures rose { (access : Access) (before later : SeenOf K) (asks : List Completed) (outs : List Sent)
+            → (ran : Run (Settles K.keeper access) before asks outs later)
+            → RoseBy (failures K.keeper access before asks outs later ran) (K.keeper.told before.keeper).faults
+            (K.keeper.told later.keeper).faults }
+        ensures calm { (access : Access) (before later : SeenOf K) (asks : List Completed) (outs : List Sent)
+            → (ran : Run (Settles K.keeper access) before asks outs later)
+            → failures K.keeper access before asks outs later ran ≡ 0
+            → (K.keeper.told later.keeper).faults ≡ (K.keeper.told before.keeper).faults }
     {}
 
     /// The serial of the zone's SOA.
@@ -156,7 +161,7 @@ impl<K: Keeper> Server<Book<K>> {
     /// How many rows the journal has.
     pub fn journal_len(&self) -> u64
         ensures is { result ≡ self.now.handler.row_count }
-        ensures book { IsBook K.rows self.now.handler }
+        ensures book { IsBook K.keeper self.now.handler }
     {
         self.responder.handler().journal_len()
     }

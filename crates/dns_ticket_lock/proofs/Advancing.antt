@@ -6,6 +6,7 @@ use Rattle.dns_io.specs.declared.fault.OutOfMemory.{OutOfMemory}
 use Rattle.dns_io.specs.Told.{Told, Keeps}
 use Rattle.dns_wire.specs.declared.record.Record.{Record}
 use Rattle.dns_keeper.specs.declared.row.Row.{Row}
+use Rattle.dns_keeper.specs.Keeping.{KeeperOf}
 use Rattle.dns_keeper.specs.Rows.{rows_of, last_id}
 use Rattle.dns_keeper.specs.Keeping.{GrowsByBatch}
 use Rattle.dns_book.specs.Access.{Access}
@@ -47,13 +48,13 @@ pub keeps_itself : (rows : Option (List Row)) → Keeps rows rows
 keeps_itself None = tt
 keeps_itself (Some rows) = refl
 
-module _ {K : Type 0} (krows : K → Option (List Row)) (kfaults : K → ℕ) where
-  ended_advances : (before : SeenOf K) (ask : Ask) (batch : List Record) (failed : Bool) (receipt : Option Receipt) (after : SeenOf K) → Ends krows kfaults before ask batch failed receipt after
-      → (count : ℕ) × Advances krows kfaults ask.client before receipt count after
+module _ {K : Type 0} (keeper : KeeperOf K) where
+  ended_advances : (before : SeenOf K) (ask : Ask) (batch : List Record) (failed : Bool) (receipt : Option Receipt) (after : SeenOf K) → Ends keeper before ask batch failed receipt after
+      → (count : ℕ) × Advances keeper ask.client before receipt count after
   ended_advances before ask batch false None after (Ends.idle none) = (
     0,
     record {
-      rows = no_batch (krows before.keeper) (krows before.keeper) ask.client (keeps_itself (krows before.keeper));
+      rows = no_batch (keeper.told before.keeper).rows (keeper.told before.keeper).rows ask.client (keeps_itself (keeper.told before.keeper).rows);
       counted = omega arith;
       places = refl;
       origin = refl;
@@ -61,21 +62,21 @@ module _ {K : Type 0} (krows : K → Option (List Row)) (kfaults : K → ℕ) wh
       faults = omega arith;
     },
   )
-  ended_advances before ask batch false (Some receipt) after (Ends.journalled more keeper grown later) = (
+  ended_advances before ask batch false (Some receipt) after (Ends.journalled more held grown later) = (
     length batch,
     record {
-      rows = batch_of (krows before.keeper) (krows keeper) ask.client _ _ batch grown;
+      rows = batch_of (keeper.told before.keeper).rows (keeper.told held).rows ask.client _ _ batch grown;
       counted = refl;
       places = append-nil (places_from (before.row_count + 1) (length batch));
       origin = refl;
       updates = refl;
-      faults = later;
+      faults = omega (arith, later);
     },
   )
-  ended_advances before ask batch true None after (Ends.failed more keeper kept later rose) = (
+  ended_advances before ask batch true None after (Ends.failed more held kept later rose) = (
     0,
     record {
-      rows = no_batch (krows before.keeper) (krows keeper) ask.client kept;
+      rows = no_batch (keeper.told before.keeper).rows (keeper.told held).rows ask.client kept;
       counted = omega arith;
       places = refl;
       origin = refl;
@@ -86,17 +87,17 @@ module _ {K : Type 0} (krows : K → Option (List Row)) (kfaults : K → ℕ) wh
   ended_advances before ask batch true (Some receipt) after x = elim x [ ]
 
   pub advances : (access : Access) (before : SeenOf K) (ask : Ask) (framed : Bool) (had has : List ℕ) (answer : Result SettledInto OutOfMemory) (after : SeenOf K)
-      → IfOk answer (SettlesInto (λ settled. Settles krows kfaults access before ask settled after) framed had has) → OnErr answer (IsLeft krows kfaults before after)
-      → (count : ℕ) × Advances krows kfaults ask.client before (receipt_in answer) count after
+      → IfOk answer (SettlesInto (λ settled. Settles keeper access before ask settled after) framed had has) → OnErr answer (IsLeft keeper before after)
+      → (count : ℕ) × Advances keeper ask.client before (receipt_in answer) count after
   advances access before ask framed had has (Ok into) after ok err =
       let e = ended_advances before ask _ ok.is.failed ok.settled.receipt ok.is.ended ok.is.ends in
       let receipt : into.receipt ≡ ok.settled.receipt = ap (λ (t : SettledInto). t.receipt) ok.told in
-      (e.0, subst₂ (λ (r : Option Receipt) (b : SeenOf K). Advances krows kfaults ask.client before r e.0 b) (sym receipt) (sym ok.is.counted) (record { rows = e.1.rows; counted = e.1.counted; places = e.1.places; origin = e.1.origin; updates = e.1.updates; faults = e.1.faults }))
+      (e.0, subst₂ (λ (r : Option Receipt) (b : SeenOf K). Advances keeper ask.client before r e.0 b) (sym receipt) (sym ok.is.counted) (record { rows = e.1.rows; counted = e.1.counted; places = e.1.places; origin = e.1.origin; updates = e.1.updates; faults = e.1.faults }))
   advances access before ask framed had has (Err fault) after ok err =
-      let left : IsLeft krows kfaults before after = err in (
+      let left : IsLeft keeper before after = err in (
         0,
         record {
-          rows = no_batch (krows before.keeper) (krows after.keeper) ask.client left.kept;
+          rows = no_batch (keeper.told before.keeper).rows (keeper.told after.keeper).rows ask.client left.kept;
           counted = (let is = ap (λ (b : SeenOf K). b.row_count) left.same in omega arith);
           places = refl;
           origin = ap (λ (b : SeenOf K). b.zone.origin) left.same;
@@ -137,5 +138,5 @@ named_by None n has = (tt, blanks_many 0 n)
 named_by (Some rows) n has = (refl, has)
 
 -- the opening rows are the book's
-pub opening_named : {K : Type 0} (krows : K → Option (List Row)) (book : SeenOf K) → IsKept krows book → NamesRows krows book (opening_rows (krows book.keeper) book.row_count)
-opening_named krows book kept = let n = named_by (krows book.keeper) book.row_count kept.count in record { told = n.0; count = n.1 }
+pub opening_named : {K : Type 0} (keeper : KeeperOf K) (book : SeenOf K) → IsKept keeper book → NamesRows keeper book (opening_rows (keeper.told book.keeper).rows book.row_count)
+opening_named keeper book kept = let n = named_by (keeper.told book.keeper).rows book.row_count kept.count in record { told = n.0; count = n.1 }

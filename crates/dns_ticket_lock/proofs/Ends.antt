@@ -9,6 +9,7 @@ use lib.ListN.{get_elem?}
 use Rattle.atomic_table.specs.Table.{State, Splits, Joins, opening}
 use Rattle.atomic_table.proofs.Lists.{set_else}
 use Rattle.dns_keeper.specs.declared.row.Row.{Row}
+use Rattle.dns_keeper.specs.Keeping.{KeeperOf}
 use Rattle.dns_ticket_lock.specs.declared.held.Member.{Member}
 use Rattle.dns_ticket_lock.specs.declared.view.Account.{Account}
 use Rattle.dns_ticket_lock.specs.declared.view.Terms.{Terms}
@@ -89,11 +90,11 @@ mark_stands faults (x ∷ xs) zero m all e is =
 mark_stands faults (x ∷ xs) (suc k) m all e is = mark_stands faults xs k m (split_and (cond x.mark (faults == last) true) (marks_stand faults xs) all).1 e is
 
 -- what the accounts of all say of a book that has these rows and members
-pub closed_as : {K : Type 0} (krows : K → Option (List Row)) (kfaults : K → ℕ) (t : Terms) (accounts : List Account) (book : SeenOf K) (rows : List Row) (members : List Member) → NamesRows krows book rows → HasTerms t book
+pub closed_as : {K : Type 0} (keeper : KeeperOf K) (t : Terms) (accounts : List Account) (book : SeenOf K) (rows : List Row) (members : List Member) → NamesRows keeper book rows → HasTerms t book
     → StartsWith rows t.rows → length members ≡ t.seats → length accounts ≡ t.seats
     → ((k : ℕ) (a : Account) → get_elem? accounts k ≡ some a → Meets t rows members k a)
-    → t.start + total share_of members ≡ kfaults book.keeper → all_within t.seats (drop (length t.rows) rows) ≡ true → marks_stand (kfaults book.keeper) members ≡ true → ClosedAs krows kfaults t accounts book
-closed_as krows kfaults t accounts book rows members named terms began many all meets sums numbered marked =
+    → t.start + total share_of members ≡ (keeper.told book.keeper).faults → all_within t.seats (drop (length t.rows) rows) ≡ true → marks_stand (keeper.told book.keeper).faults members ≡ true → ClosedAs keeper t accounts book
+closed_as keeper t accounts book rows members named terms began many all meets sums numbered marked =
     let shares = shares_are accounts members (omega arith) (λ k a e. (meets k a e).member) in
     record {
       rows = rows;
@@ -104,20 +105,20 @@ closed_as krows kfaults t accounts book rows members named terms began many all 
       places = λ k a e. (meets k a e).places;
       numbered = numbered;
       rise = omega arith;
-      marked = λ k a e is. mark_stands (kfaults book.keeper) members k (member_of a) marked (meets k a e).member is;
+      marked = λ k a e is. mark_stands (keeper.told book.keeper).faults members k (member_of a) marked (meets k a e).member is;
     }
 
 -- what all passes say of a book that has these rows and members
-pub closed_for : {K : Type 0} (krows : K → Option (List Row)) (kfaults : K → ℕ) (t : Terms) (passes : List PassSeen) (accounts : List Account) (book : SeenOf K) (rows : List Row) (members its_members : List Member) (its_start : ℕ)
-    → Names krows t rows members book its_members its_start → length members ≡ t.seats → StartsWith rows t.rows → all_within t.seats (drop (length t.rows) rows) ≡ true
+pub closed_for : {K : Type 0} (keeper : KeeperOf K) (t : Terms) (passes : List PassSeen) (accounts : List Account) (book : SeenOf K) (rows : List Row) (members its_members : List Member) (its_start : ℕ)
+    → Names keeper t rows members book its_members its_start → length members ≡ t.seats → StartsWith rows t.rows → all_within t.seats (drop (length t.rows) rows) ≡ true
     → ((k : ℕ) (a : Account) → get_elem? accounts k ≡ some a → Meets t rows members k a) → length accounts ≡ t.seats
-    → its_start + total share_of its_members ≡ kfaults book.keeper → marks_stand (kfaults book.keeper) its_members ≡ true → IsKept krows book
+    → its_start + total share_of its_members ≡ (keeper.told book.keeper).faults → marks_stand (keeper.told book.keeper).faults its_members ≡ true → IsKept keeper book
     → ((i : ℕ) (p : PassSeen) → get_elem? passes i ≡ some p → (k : ℕ) × (p.number ≡ k + 1) × (get_elem? accounts k ≡ some p.account)) → total pass_faults passes ≡ total faults_of accounts
-    → ClosedFor krows kfaults t passes book
-closed_for krows kfaults t passes accounts book rows members its_members its_start n many began numbered meets all sums marked stood found faults =
-    let c = closed_as krows kfaults t accounts book rows its_members n.has_rows n.same_terms began (ap (λ (l : List Member). length l) n.has_members ∙ many) all
+    → ClosedFor keeper t passes book
+closed_for keeper t passes accounts book rows members its_members its_start n many began numbered meets all sums marked stood found faults =
+    let c = closed_as keeper t accounts book rows its_members n.has_rows n.same_terms began (ap (λ (l : List Member). length l) n.has_members ∙ many) all
     (λ k a e. subst (λ (ms : List Member). Meets t rows ms k a) (sym n.has_members) (meets k a e))
-    (subst (λ (s : ℕ). s + total share_of its_members ≡ kfaults book.keeper) n.same_start sums) numbered marked in
+    (subst (λ (s : ℕ). s + total share_of its_members ≡ (keeper.told book.keeper).faults) n.same_start sums) numbered marked in
     record {
       stood = stood;
       terms = c.terms;

@@ -4,6 +4,7 @@ use Rattle.std.proofs.lemmas.List.{length-append, append-nil}
 use Rattle.dns_io.specs.declared.fault.OutOfMemory.{OutOfMemory}
 use Rattle.dns_io.specs.Told.{Rose, Told as ToldOf}
 use Rattle.dns_keeper.specs.declared.row.Row.{Row}
+use Rattle.dns_keeper.specs.Keeping.{KeeperOf}
 use Rattle.dns_book.specs.Access.{Access}
 use Rattle.dns_book.specs.declared.ask.Ask.{Ask}
 use Rattle.dns_book.specs.declared.ask.Receipt.{Receipt}
@@ -88,10 +89,10 @@ pub own_head : (accounts : List Account) (f : Account → Account) → 0 < lengt
 own_head [] f some_own = absurd (omega arith)
 own_head (a ∷ more) f some_own = refl
 
-module _ {K : Type 0} (krows : K → Option (List Row)) (kfaults : K → ℕ) where
-  pub nothing_came : (number : ℕ) (book : SeenOf K) → Advances krows kfaults number book None 0 book
+module _ {K : Type 0} (keeper : KeeperOf K) where
+  pub nothing_came : (number : ℕ) (book : SeenOf K) → Advances keeper number book None 0 book
   nothing_came number book = record {
-    rows = no_batch (krows book.keeper) (krows book.keeper) number (keeps_itself (krows book.keeper));
+    rows = no_batch (keeper.told book.keeper).rows (keeper.told book.keeper).rows number (keeps_itself (keeper.told book.keeper).rows);
     counted = omega arith;
     places = refl;
     origin = refl;
@@ -100,12 +101,12 @@ module _ {K : Type 0} (krows : K → Option (List Row)) (kfaults : K → ℕ) wh
   }
 
   -- nothing came, and then this
-  pub came_then : (number count : ℕ) (before between after : SeenOf K) (receipt : Option Receipt) → Advances krows kfaults number before None 0 between → Advances krows kfaults number between receipt count after
-      → Advances krows kfaults number before receipt count after
+  pub came_then : (number count : ℕ) (before between after : SeenOf K) (receipt : Option Receipt) → Advances keeper number before None 0 between → Advances keeper number between receipt count after
+      → Advances keeper number before receipt count after
   came_then number count before between after receipt p q =
       let same : between.row_count ≡ before.row_count = (let e = p.counted in omega arith) in
       record {
-        rows = no_rows_then number count (krows before.keeper) (krows between.keeper) (krows after.keeper) p.rows q.rows;
+        rows = no_rows_then number count (keeper.told before.keeper).rows (keeper.told between.keeper).rows (keeper.told after.keeper).rows p.rows q.rows;
         counted = q.counted ∙ ap (λ (n : ℕ). n + count) same;
         places = q.places ∙ ap (λ (n : ℕ). places_from (n + 1) count) same;
         origin = q.origin ∙ p.origin;
@@ -114,11 +115,11 @@ module _ {K : Type 0} (krows : K → Option (List Row)) (kfaults : K → ℕ) wh
       }
 
   -- the rows are named as before where nothing came
-  named_still : (number : ℕ) (rows : List Row) (book later : SeenOf K) → NamesRows krows book rows → Advances krows kfaults number book None 0 later → NamesRows krows later rows
+  named_still : (number : ℕ) (rows : List Row) (book later : SeenOf K) → NamesRows keeper book rows → Advances keeper number book None 0 later → NamesRows keeper later rows
   named_still number rows book later named step =
-      let turn : IsTurn krows kfaults number rows book later nothing_told = turn_of krows kfaults number rows book later nothing_told named step in
-      let none : (done_by krows number rows later nothing_told).batch ≡ [] = nil_of _ (sym turn.many) in
-      subst (λ (l : List Row). NamesRows krows later l) (ap (λ (l : List Row). rows ++ l) none ∙ append-nil rows) turn.named
+      let turn : IsTurn keeper number rows book later nothing_told = turn_of keeper number rows book later nothing_told named step in
+      let none : (done_by keeper number rows later nothing_told).batch ≡ [] = nil_of _ (sym turn.many) in
+      subst (λ (l : List Row). NamesRows keeper later l) (ap (λ (l : List Row). rows ++ l) none ∙ append-nil rows) turn.named
 
   -- after so many messages of which nothing came: the account is this
   pub record IsNow (messages : ℕ) (rows : List Row) (a now : Account) : Type 0 where
@@ -138,13 +139,13 @@ module _ {K : Type 0} (krows : K → Option (List Row)) (kfaults : K → ℕ) wh
 
   module _ (access : Access) (ask : Ask) where
     abbrev by_account : Terms → Account → Ask → Settled → Account → Type 0
-    by_account t = SettledAs krows kfaults t access ask.client
+    by_account t = SettledAs keeper t access ask.client
 
     -- so many messages were settled by the book, and nothing came
     pub record Quiet (start book : SeenOf K) (most more : ℕ) (bytes left : List ℕ) (old new : List ℕ) (messages : ℕ) : Type 0 where
-      pub came : Advances krows kfaults ask.client start None 0 book
-      pub uncounted : kfaults book.keeper ≡ kfaults start.keeper
-      pub ran : (t : Terms) (rows : List Row) (a : Account) → HasTerms t start → NamesRows krows start rows → StartsWith rows a.seen
+      pub came : Advances keeper ask.client start None 0 book
+      pub uncounted : (keeper.told book.keeper).faults ≡ (keeper.told start.keeper).faults
+      pub ran : (t : Terms) (rows : List Row) (a : Account) → HasTerms t start → NamesRows keeper start rows → StartsWith rows a.seen
           → (now : Account) × IsNow messages rows a now × AddsFront (by_account t) a (first_asks ask most bytes) now (first_asks ask more left) old new
 
     pub Quiet-begun : (start : SeenOf K) (most : ℕ) (bytes old : List ℕ) → Quiet start start most most bytes bytes old old 0
@@ -157,21 +158,21 @@ module _ {K : Type 0} (krows : K → Option (List Row)) (kfaults : K → ℕ) wh
     -- one message more, whatever came
     pub one_more : (start book later : SeenOf K) (most more less : ℕ) (bytes left after message old mid new : List ℕ) (messages : ℕ) (told : Told) (into : SettledInto)
         → first_messages more left ≡ message ∷ first_messages less after → Quiet start book most more bytes left old mid messages
-        → SettlesInto (λ s. Settles krows kfaults access book (record ask { bytes = message }) s later) true mid new into
-        → Advances krows kfaults ask.client book told.receipt told.count later → told.receipt ≡ into.receipt → kfaults book.keeper + told.rise ≡ kfaults later.keeper
-        → (Rose (kfaults book.keeper) (kfaults later.keeper) → (0 < told.rise) ⊎ (told.mark ≡ true))
-        → (t : Terms) (rows : List Row) (a : Account) → HasTerms t start → NamesRows krows start rows → StartsWith rows a.seen
-        → AddsFront (by_account t) a (first_asks ask most bytes) (settled rows (done_by krows ask.client rows later told) a) (first_asks ask less after) old new
+        → SettlesInto (λ s. Settles keeper access book (record ask { bytes = message }) s later) true mid new into
+        → Advances keeper ask.client book told.receipt told.count later → told.receipt ≡ into.receipt → (keeper.told book.keeper).faults + told.rise ≡ (keeper.told later.keeper).faults
+        → (Rose (keeper.told book.keeper).faults (keeper.told later.keeper).faults → (0 < told.rise) ⊎ (told.mark ≡ true))
+        → (t : Terms) (rows : List Row) (a : Account) → HasTerms t start → NamesRows keeper start rows → StartsWith rows a.seen
+        → AddsFront (by_account t) a (first_asks ask most bytes) (settled rows (done_by keeper ask.client rows later told) a) (first_asks ask less after) old new
     one_more start book later most more less bytes left after message old mid new messages told into cut q ok step receipt rise rose t rows a terms named begins =
         let ran = q.ran t rows a terms named begins in
         let now = ran.0 in
-        let done = done_by krows ask.client rows later told in
+        let done = done_by keeper ask.client rows later told in
         let named_now = named_still ask.client rows start book named q.came in
         let terms_now : HasTerms t book = record { origin = q.came.origin ∙ terms.origin; updates = q.came.updates ∙ terms.updates } in
-        let turn = turn_of krows kfaults ask.client rows book later told named_now step in
+        let turn = turn_of keeper ask.client rows book later told named_now step in
         let asked : Ask = record ask { bytes = message } in
-        let by_now = into_map (λ s. Settles krows kfaults access book asked s later) (λ s. by_account t now asked s (settled rows done now)) true mid new into
-        (λ s is one. settles_one krows kfaults t access ask.client now asked s rows book later told (begins_now messages rows a now ran.1 begins) terms_now named_now refl one turn
+        let by_now = into_map (λ s. Settles keeper access book asked s later) (λ s. by_account t now asked s (settled rows done now)) true mid new into
+        (λ s is one. settles_one keeper t access ask.client now asked s rows book later told (begins_now messages rows a now ran.1 begins) terms_now named_now refl one turn
         (receipt ∙ ap (λ (i : SettledInto). i.receipt) is) rise rose) ok in
         let all : List Ask = first_asks ask most bytes in
         let front = subst (λ (ms : List (List ℕ)). AddsFront (by_account t) a all now (map (λ m. record ask { bytes = m }) ms) old mid) cut ran.2 in
@@ -180,22 +181,22 @@ module _ {K : Type 0} (krows : K → Option (List Row)) (kfaults : K → ℕ) wh
 
     pub Quiet-more : (start book later : SeenOf K) (most more less : ℕ) (bytes left after message old mid new : List ℕ) (messages : ℕ) (told : Told) (into : SettledInto)
         → first_messages more left ≡ message ∷ first_messages less after → Quiet start book most more bytes left old mid messages
-        → SettlesInto (λ s. Settles krows kfaults access book (record ask { bytes = message }) s later) true mid new into
-        → Advances krows kfaults ask.client book told.receipt told.count later → told.receipt ≡ into.receipt → kfaults book.keeper + told.rise ≡ kfaults later.keeper
-        → (Rose (kfaults book.keeper) (kfaults later.keeper) → (0 < told.rise) ⊎ (told.mark ≡ true))
+        → SettlesInto (λ s. Settles keeper access book (record ask { bytes = message }) s later) true mid new into
+        → Advances keeper ask.client book told.receipt told.count later → told.receipt ≡ into.receipt → (keeper.told book.keeper).faults + told.rise ≡ (keeper.told later.keeper).faults
+        → (Rose (keeper.told book.keeper).faults (keeper.told later.keeper).faults → (0 < told.rise) ⊎ (told.mark ≡ true))
         → told.receipt ≡ None → told.rise ≡ 0 → told.mark ≡ false
         → Quiet start later most less bytes after old new (messages + 1)
     Quiet-more start book later most more less bytes left after message old mid new messages told into cut q ok step receipt rise rose no_receipt no_rise no_mark =
         let places : places_of (listed told.receipt) ≡ places_from (book.row_count + 1) told.count = step.places in
         let none : told.count ≡ 0 = none_came (book.row_count + 1) told.count (ap (λ (r : Option Receipt). places_of (listed r)) (sym no_receipt) ∙ places) in
-        let step0 = subst (λ (r : Option Receipt). Advances krows kfaults ask.client book r 0 later) no_receipt (subst (λ (n : ℕ). Advances krows kfaults ask.client book told.receipt n later) none step) in
+        let step0 = subst (λ (r : Option Receipt). Advances keeper ask.client book r 0 later) no_receipt (subst (λ (n : ℕ). Advances keeper ask.client book told.receipt n later) none step) in
         record {
           came = came_then ask.client 0 start book later None q.came step0;
           uncounted = (let u = q.uncounted in omega (arith, u, rise, no_rise));
           ran = λ t rows a terms named begins.
-              let done = done_by krows ask.client rows later told in
+              let done = done_by keeper ask.client rows later told in
               let named_now = named_still ask.client rows start book named q.came in
-              let turn = turn_of krows kfaults ask.client rows book later told named_now step in
+              let turn = turn_of keeper ask.client rows book later told named_now step in
               let batch : done.batch ≡ [] = nil_of done.batch (sym turn.many ∙ none) in (
                 settled rows done a,
                 record { none = λ e. absurd (omega (arith, e)); some = λ l. still rows a done batch no_receipt no_rise no_mark },
@@ -205,27 +206,27 @@ module _ {K : Type 0} (krows : K → Option (List Row)) (kfaults : K → ℕ) wh
 
     -- nothing came of all of them
     pub Quiet-end : (start book : SeenOf K) (most more : ℕ) (bytes left old new : List ℕ) (messages : ℕ) → Quiet start book most more bytes left old new messages → 0 < messages
-        → (t : Terms) (rows : List Row) (a : Account) → HasTerms t start → NamesRows krows start rows → StartsWith rows a.seen
-        → AddsFront (by_account t) a (first_asks ask most bytes) (settled rows (done_by krows ask.client rows book nothing_told) a) (first_asks ask more left) old new
+        → (t : Terms) (rows : List Row) (a : Account) → HasTerms t start → NamesRows keeper start rows → StartsWith rows a.seen
+        → AddsFront (by_account t) a (first_asks ask most bytes) (settled rows (done_by keeper ask.client rows book nothing_told) a) (first_asks ask more left) old new
     Quiet-end start book most more bytes left old new messages q some_did t rows a terms named begins =
         let ran = q.ran t rows a terms named begins in
-        let done = done_by krows ask.client rows book nothing_told in
-        let turn : IsTurn krows kfaults ask.client rows start book nothing_told = turn_of krows kfaults ask.client rows start book nothing_told named q.came in
+        let done = done_by keeper ask.client rows book nothing_told in
+        let turn : IsTurn keeper ask.client rows start book nothing_told = turn_of keeper ask.client rows start book nothing_told named q.came in
         let batch : done.batch ≡ [] = nil_of done.batch (sym turn.many) in
         subst (λ (x : Account). AddsFront (by_account t) a (first_asks ask most bytes) x (first_asks ask more left) old new) (ran.1.some some_did ∙ sym (still rows a done batch refl refl refl)) ran.2
 
     -- behind them memory ran out
     pub Quiet-halts : (start book later : SeenOf K) (most more : ℕ) (bytes left old mid : List ℕ) (messages : ℕ) (told : Told) → Quiet start book most more bytes left old mid messages
-        → IsLeft krows kfaults book later → told.receipt ≡ None → kfaults book.keeper + told.rise ≡ kfaults later.keeper
-        → (t : Terms) (rows : List Row) (a : Account) → HasTerms t start → NamesRows krows start rows → StartsWith rows a.seen
-        → Halts (by_account t) LeftAs a (first_asks ask most bytes) (settled rows (done_by krows ask.client rows later told) a)
+        → IsLeft keeper book later → told.receipt ≡ None → (keeper.told book.keeper).faults + told.rise ≡ (keeper.told later.keeper).faults
+        → (t : Terms) (rows : List Row) (a : Account) → HasTerms t start → NamesRows keeper start rows → StartsWith rows a.seen
+        → Halts (by_account t) LeftAs a (first_asks ask most bytes) (settled rows (done_by keeper ask.client rows later told) a)
     Quiet-halts start book later most more bytes left old mid messages told q err no_receipt rise t rows a terms named begins =
         let ran = q.ran t rows a terms named begins in
         let now = ran.0 in
-        let done = done_by krows ask.client rows later told in
+        let done = done_by keeper ask.client rows later told in
         let same = err.uncounted in
         let skipped : LeftAs now (settled rows done a) = subst (λ (x : Account). LeftAs now x) (settled_now messages rows a now done ran.1)
-        (leaves_one krows kfaults ask.client now rows book later told (begins_now messages rows a now ran.1 begins) no_receipt (omega (arith, same, rise))) in
+        (leaves_one keeper ask.client now rows book later told (begins_now messages rows a now ran.1 begins) no_receipt (omega (arith, same, rise))) in
         let all : List Ask = first_asks ask most bytes in
         let front = subst (λ (l : List Ask). AddsFront (by_account t) a all now l old mid) (sym (append-nil (first_asks ask more left))) ran.2 in
         AddsFront-halts (by_account t) LeftAs a now (settled rows done a) all (first_asks ask more left) [] old mid front (Halts-skips (by_account t) LeftAs now (settled rows done a) (first_asks ask more left) skipped)

@@ -2,6 +2,7 @@
 -- settle, and then the rows that a batch adds are made up: as many as it has, which bear the seat's number.
 use Rattle.std.specs.Prelude.{◌≡◌, ℕ, pos, ◌+◌, ◌≤◌, true, List, [], ◌++◌, length, drop, replicate, Option, Some, None}
 use Rattle.dns_keeper.specs.declared.row.Row.{Row}
+use Rattle.dns_keeper.specs.Keeping.{KeeperOf}
 use Rattle.dns_io.specs.Told.{Told}
 use Rattle.dns_book.specs.declared.ask.Receipt.{Receipt}
 use Rattle.dns_book.specs.Book.{SeenOf}
@@ -14,8 +15,8 @@ AreTold None rows = Unit {0}
 AreTold (Some told) rows = told ≡ rows
 
 -- these are the book's rows: as many as it has, and those that its keeper tells
-pub record NamesRows {K : Type 0} (krows : K → Option (List Row)) (book : SeenOf K) (rows : List Row) : Type 0 where
-  pub told : AreTold (krows book.keeper) rows
+pub record NamesRows {K : Type 0} (keeper : KeeperOf K) (book : SeenOf K) (rows : List Row) : Type 0 where
+  pub told : AreTold (keeper.told book.keeper).rows rows
   pub count : length rows ≡ book.row_count
 
 -- a row of which nothing is known but whose it is
@@ -33,10 +34,10 @@ batch_after number rows None count = replicate count (blank_row number)
 batch_after number rows (Some told) count = drop (length rows) told
 
 -- what is fixed when a book is shared among so many numbers
-abbrev pub terms_at : {K : Type 0} → (K → Option (List Row)) → (K → ℕ) → SeenOf K → ℕ → Terms
-terms_at krows kfaults book seats = record {
-  rows = opening_rows (krows book.keeper) book.row_count;
-  start = kfaults book.keeper;
+abbrev pub terms_at : {K : Type 0} → KeeperOf K → SeenOf K → ℕ → Terms
+terms_at keeper book seats = record {
+  rows = opening_rows (keeper.told book.keeper).rows book.row_count;
+  start = (keeper.told book.keeper).faults;
   seats = seats;
   origin = book.zone.origin;
   allow_update = book.allow_update;
@@ -50,10 +51,10 @@ pub record IsBatch (number count : ℕ) (before after : List Row) : Type 0 where
   pub theirs : all_bear number batch ≡ true
 
 -- what a settle by this number did to the book, whatever it answered: so many rows came, whose places are those of the receipt
-pub record Advances {K : Type 0} (krows : K → Option (List Row)) (kfaults : K → ℕ) (number : ℕ) (before : SeenOf K) (receipt : Option Receipt) (count : ℕ) (after : SeenOf K) : Type 0 where
-  pub rows : Told (IsBatch number count) (krows before.keeper) (krows after.keeper)
+pub record Advances {K : Type 0} (keeper : KeeperOf K) (number : ℕ) (before : SeenOf K) (receipt : Option Receipt) (count : ℕ) (after : SeenOf K) : Type 0 where
+  pub rows : Told (IsBatch number count) (keeper.told before.keeper).rows (keeper.told after.keeper).rows
   pub counted : after.row_count ≡ before.row_count + count
   pub places : places_of (listed receipt) ≡ places_from (before.row_count + 1) count
   pub origin : after.zone.origin ≡ before.zone.origin
   pub updates : after.allow_update ≡ before.allow_update
-  pub faults : kfaults before.keeper ≤ kfaults after.keeper
+  pub faults : (keeper.told before.keeper).faults ≤ (keeper.told after.keeper).faults

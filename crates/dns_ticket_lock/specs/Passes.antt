@@ -4,6 +4,7 @@ use mathlib.Core.Option.{some}
 use lib.ListN.{get_elem?}
 use Rattle.atomic_table.specs.Seated.{TableId}
 use Rattle.dns_keeper.specs.declared.row.Row.{Row}
+use Rattle.dns_keeper.specs.Keeping.{KeeperOf}
 use Rattle.dns_book.specs.declared.ask.Ask.{Ask}
 use Rattle.dns_book.specs.declared.ask.Settled.{Settled}
 use Rattle.dns_book.specs.Access.{Access}
@@ -44,9 +45,9 @@ pub record IsSame (before after : PassSeen) : Type 0 where
   pub number : after.number ≡ before.number
 
 -- one message was settled by the pass
-pub record SettledBy {K : Type 0} (krows : K → Option (List Row)) (kfaults : K → ℕ) (access : Access) (before : PassSeen) (ask : Ask) (settled : Settled) (after : PassSeen) : Type 0 where
+pub record SettledBy {K : Type 0} (keeper : KeeperOf K) (access : Access) (before : PassSeen) (ask : Ask) (settled : Settled) (after : PassSeen) : Type 0 where
   pub same : IsSame before after
-  pub account : SettledAs krows kfaults before.terms access before.number before.account ask settled after.account
+  pub account : SettledAs keeper before.terms access before.number before.account ask settled after.account
 
 -- a settle by the pass found no memory
 pub record LeftBy (before after : PassSeen) : Type 0 where
@@ -80,14 +81,14 @@ pub record AreAll (book : BookId) (count : ℕ) (passes : List PassSeen) : Type 
 -- that was shared. Its rows begin with the opening ones and with all that each pass has seen; the rows past the opening bear numbers
 -- of the passes, and those with a pass's number are exactly those of its receipts, at their places, each once; the keeper's
 -- count rose by the sum of the passes' faults, and where a pass has the mark it stands at its last value.
-pub record ClosedFor {K : Type 0} (krows : K → Option (List Row)) (kfaults : K → ℕ) (t : Terms) (passes : List PassSeen) (book : SeenOf K) : Type 0 where
-  pub stood : IsKept krows book
+pub record ClosedFor {K : Type 0} (keeper : KeeperOf K) (t : Terms) (passes : List PassSeen) (book : SeenOf K) : Type 0 where
+  pub stood : IsKept keeper book
   pub terms : HasTerms t book
   pub rows : List Row
-  pub named : NamesRows krows book rows
+  pub named : NamesRows keeper book rows
   pub began : StartsWith rows t.rows
   pub seen : (i : ℕ) (p : PassSeen) → get_elem? passes i ≡ some p → StartsWith rows p.account.seen
   pub places : (i : ℕ) (p : PassSeen) → get_elem? passes i ≡ some p → bearing p.number (length t.rows + 1) (drop (length t.rows) rows) ≡ places_of p.account.receipts
   pub numbered : all_within t.seats (drop (length t.rows) rows) ≡ true
-  pub rise : t.start + total pass_faults passes ≡ kfaults book.keeper
-  pub marked : (i : ℕ) (p : PassSeen) → get_elem? passes i ≡ some p → p.account.marked ≡ true → kfaults book.keeper ≡ last
+  pub rise : t.start + total pass_faults passes ≡ (keeper.told book.keeper).faults
+  pub marked : (i : ℕ) (p : PassSeen) → get_elem? passes i ≡ some p → p.account.marked ≡ true → (keeper.told book.keeper).faults ≡ last

@@ -79,7 +79,7 @@ impl<K: Keeper> TicketBook<K> {
     /// Gives the book back for all its passes, in any order. It takes no memory.
     pub fn close(self, passes: Vec<Pass>) -> Book<K>
         requires all { AreAll self.id self.terms.seats passes.items }
-        ensures { ClosedFor K.rows K.faults self.terms passes.items result }
+        ensures { ClosedFor K.keeper self.terms passes.items result }
     {
         let TicketBook { table } = self;
         let seats = passes.len() as u32;

@@ -22,9 +22,9 @@ fn note<K: Keeper, J: Batch>(
     requires has { seat.old.me.0.phase ≡ 2 }
     requires done { IsDone (seat.old.me.0.low + 1) seat.old.me.0.rows J.done }
     requires many { (told.now.count ≡ length J.done.batch) × (length seat.old.me.0.rows + length J.done.batch ≡ held.now.value.book.row_count) }
-    requires picked { J.done ≡ done_by K.rows (seat.old.me.0.low + 1) seat.old.me.0.rows held.now.value.book told.now }
+    requires picked { J.done ≡ done_by K.keeper (seat.old.me.0.low + 1) seat.old.me.0.rows held.now.value.book told.now }
     ensures same { seat.new.table_id ≡ seat.old.table_id }
-    ensures counted { seat.new.me ≡ (has_counted (done_by K.rows (seat.old.me.0.low + 1) seat.old.me.0.rows held.now.value.book told.now) seat.old.me.0, seat.old.me.1) }
+    ensures counted { seat.new.me ≡ (has_counted (done_by K.keeper (seat.old.me.0.low + 1) seat.old.me.0.rows held.now.value.book told.now) seat.old.me.0, seat.old.me.1) }
 {
     let _rows = held.book.journal_len();
     count::<Box<Held<K>>, J>(board, seat, told.count);
@@ -39,10 +39,10 @@ pub(crate) fn count_done<K: Keeper>(
 )
     requires board { (board.now.table_id.words ≡ 3) × (board.now.table_id.slots ≡ 1) × (seat.old.table_id ≡ board.now.table_id) }
     requires has { seat.old.me.0.phase ≡ 2 }
-    requires done { IsDone (seat.old.me.0.low + 1) seat.old.me.0.rows (done_by K.rows (seat.old.me.0.low + 1) seat.old.me.0.rows held.now.value.book told.now) }
-    requires many { (told.now.count ≡ length (done_by K.rows (seat.old.me.0.low + 1) seat.old.me.0.rows held.now.value.book told.now).batch) × (length seat.old.me.0.rows + length (done_by K.rows (seat.old.me.0.low + 1) seat.old.me.0.rows held.now.value.book told.now).batch ≡ held.now.value.book.row_count) }
+    requires done { IsDone (seat.old.me.0.low + 1) seat.old.me.0.rows (done_by K.keeper (seat.old.me.0.low + 1) seat.old.me.0.rows held.now.value.book told.now) }
+    requires many { (told.now.count ≡ length (done_by K.keeper (seat.old.me.0.low + 1) seat.old.me.0.rows held.now.value.book told.now).batch) × (length seat.old.me.0.rows + length (done_by K.keeper (seat.old.me.0.low + 1) seat.old.me.0.rows held.now.value.book told.now).batch ≡ held.now.value.book.row_count) }
     ensures same { seat.new.table_id ≡ seat.old.table_id }
-    ensures counted { seat.new.me ≡ (has_counted (done_by K.rows (seat.old.me.0.low + 1) seat.old.me.0.rows held.now.value.book told.now) seat.old.me.0, seat.old.me.1) }
+    ensures counted { seat.new.me ≡ (has_counted (done_by K.keeper (seat.old.me.0.low + 1) seat.old.me.0.rows held.now.value.book told.now) seat.old.me.0, seat.old.me.1) }
 {
     note::<K, Brand>(board, seat, held, told);
 }

@@ -51,8 +51,8 @@ fn write_these<J: Named, K: Keeper>(
     _seats: usize,
 )
     requires desk { (0 < desk.now.table_id.words) × (seat.old.table_id ≡ desk.now.table_id) }
-    requires these { J.terms ≡ terms_at K.rows K.faults _book.now _seats }
-    ensures { seat.new.me ≡ (terms_at K.rows K.faults _book.now _seats, seat.old.me.1) }
+    requires these { J.terms ≡ terms_at K.keeper _book.now _seats }
+    ensures { seat.new.me ≡ (terms_at K.keeper _book.now _seats, seat.old.me.1) }
 {
     write::<J>(desk, seat);
 }
@@ -60,7 +60,7 @@ fn write_these<J: Named, K: Keeper>(
 /// A badge whose view is the terms of a book for so many numbers; none where memory runs out. It has no bytes: a proof alone reads
 /// it.
 pub(crate) fn deed<K: Keeper>(alloc: Global, book: &Book<K>, seats: usize) -> Option<Badge<Terms>>
-    ensures { IfSome result (λ b. b.views ≡ terms_at K.rows K.faults book.now seats ∷ []) }
+    ensures { IfSome result (λ b. b.views ≡ terms_at K.keeper book.now seats ∷ []) }
 {
     let (table, mut seat) = Table::<(), Terms, (), Anything, Global>::of_words(
         alloc,

@@ -75,13 +75,15 @@ fn settle_next<K: Keeper>(
 ) -> (Result<SettledInto, OutOfMemory>, Told)
     requires moment { ask.old.at < 2 ^ 47 }
     requires bytes { length message.now ≤ 65535 }
-    ensures ok { IfOk result.0 (SettlesInto (λ settled. Settles K.rows K.faults access.now book.old (record ask.old { bytes = message.now }) settled book.new) true replies.old.items replies.new.items) }
-    ensures err { OnErr result.0 (IsLeft K.rows K.faults book.old book.new) }
-    ensures advances { Advances K.rows K.faults ask.old.client book.old result.1.receipt result.1.count book.new }
+    ensures ok { IfOk result.0 (SettlesInto (λ settled. Settles K.keeper access.now book.old
+        (record ask.old { bytes = message.now }) settled book.new) true replies.old.items replies.new.items) }
+    ensures err { OnErr result.0 (IsLeft K.keeper book.old book.new) }
+    ensures advances { Advances K.keeper ask.old.client book.old result.1.receipt result.1.count book.new }
     ensures receipt { result.1.receipt ≡ receipt_in result.0 }
-    ensures rise { K.faults book.old.keeper + result.1.rise ≡ K.faults book.new.keeper }
-    ensures rose { OnOk result.0 (Rose (K.faults book.old.keeper) (K.faults book.new.keeper) → (0 < result.1.rise) ⊎ (result.1.mark ≡ true)) }
-    ensures mark { result.1.mark ≡ true → K.faults book.old.keeper ≡ last }
+    ensures rise { (K.keeper.told book.old.keeper).faults + result.1.rise ≡ (K.keeper.told book.new.keeper).faults }
+    ensures rose { OnOk result.0 (Rose (K.keeper.told book.old.keeper).faults (K.keeper.told book.new.keeper).faults
+        → (0 < result.1.rise) ⊎ (result.1.mark ≡ true)) }
+    ensures mark { result.1.mark ≡ true → (K.keeper.told book.old.keeper).faults ≡ last }
     ensures ask { ask.new ≡ record ask.old { bytes = ask.new.bytes } }
 {
     let Ok(()) = refill(alloc, &mut ask.bytes, message) else {
@@ -103,22 +105,24 @@ fn settle_front<'a, K: Keeper>(
 ) -> (Result<Front<'a>, OutOfMemory>, Told)
     requires moment { ask.old.at < 2 ^ 47 }
     requires some { 0 < length (first_messages most bytes.now) }
-    ensures ok { IfOk result.0 (λ f. (t : Terms) (rows : List Row) (a : Account) → HasTerms t book.old → NamesRows K.rows book.old rows → StartsWith rows a.seen
-        → AddsFront (SettledAs K.rows K.faults t access.now ask.old.client) a (first_asks ask.old most bytes.now)
-        (settled rows (done_by K.rows ask.old.client rows book.new result.1) a)
+    ensures ok { IfOk result.0 (λ f. (t : Terms) (rows : List Row) (a : Account) → HasTerms t book.old → NamesRows K.keeper book.old rows
+        → StartsWith rows a.seen
+        → AddsFront (SettledAs K.keeper t access.now ask.old.client) a (first_asks ask.old most bytes.now)
+        (settled rows (done_by K.keeper ask.old.client rows book.new result.1) a)
         (first_asks ask.old (most - f.messages) f.left.now) replies.old.items replies.new.items) }
-    ensures err { OnErr result.0 ((t : Terms) (rows : List Row) (a : Account) → HasTerms t book.old → NamesRows K.rows book.old rows → StartsWith rows a.seen
-        → Halts (SettledAs K.rows K.faults t access.now ask.old.client) LeftAs a (first_asks ask.old most bytes.now)
-        (settled rows (done_by K.rows ask.old.client rows book.new result.1) a)) }
+    ensures err { OnErr result.0 ((t : Terms) (rows : List Row) (a : Account) → HasTerms t book.old → NamesRows K.keeper book.old rows
+        → StartsWith rows a.seen
+        → Halts (SettledAs K.keeper t access.now ask.old.client) LeftAs a (first_asks ask.old most bytes.now)
+        (settled rows (done_by K.keeper ask.old.client rows book.new result.1) a)) }
     ensures some { IfOk result.0 (λ f. 0 < f.messages) }
     ensures few { IfOk result.0 (λ f. (f.messages ≤ most) × (f.messages ≤ 64)) }
     ensures count { IfOk result.0 (λ f. f.messages + length (first_messages (most - f.messages) f.left.now)
         ≡ length (first_messages most bytes.now)) }
     ensures behind { IfOk result.0 (λ f. behind_first (most - f.messages) f.left.now ≡ behind_first most bytes.now) }
     ensures shorter { IfOk result.0 (λ f. 2 * f.messages + length f.left.now ≤ length bytes.now) }
-    ensures advances { Advances K.rows K.faults ask.old.client book.old result.1.receipt result.1.count book.new }
-    ensures rise { K.faults book.old.keeper + result.1.rise ≡ K.faults book.new.keeper }
-    ensures mark { result.1.mark ≡ true → K.faults book.old.keeper ≡ last }
+    ensures advances { Advances K.keeper ask.old.client book.old result.1.receipt result.1.count book.new }
+    ensures rise { (K.keeper.told book.old.keeper).faults + result.1.rise ≡ (K.keeper.told book.new.keeper).faults }
+    ensures mark { result.1.mark ≡ true → (K.keeper.told book.old.keeper).faults ≡ last }
     ensures ask { ask.new ≡ record ask.old { bytes = ask.new.bytes } }
 {
     let mut left = bytes;
@@ -151,20 +155,22 @@ fn settle_held_front<'a, K: Keeper>(
     requires moment { ask.old.at < 2 ^ 47 }
     requires some { 0 < length (first_messages most bytes.now) }
     requires low { low < length held.old.members.items }
-    ensures ok { IfOk result.0 (λ f. (t : Terms) (rows : List Row) (a : Account) → HasTerms t held.old.book → NamesRows K.rows held.old.book rows → StartsWith rows a.seen
-        → AddsFront (SettledAs K.rows K.faults t access.now ask.old.client) a (first_asks ask.old most bytes.now)
-        (settled rows (done_by K.rows ask.old.client rows held.new.book result.1) a)
+    ensures ok { IfOk result.0 (λ f. (t : Terms) (rows : List Row) (a : Account) → HasTerms t held.old.book
+        → NamesRows K.keeper held.old.book rows → StartsWith rows a.seen
+        → AddsFront (SettledAs K.keeper t access.now ask.old.client) a (first_asks ask.old most bytes.now)
+        (settled rows (done_by K.keeper ask.old.client rows held.new.book result.1) a)
         (first_asks ask.old (most - f.messages) f.left.now) replies.old.items replies.new.items) }
-    ensures err { OnErr result.0 ((t : Terms) (rows : List Row) (a : Account) → HasTerms t held.old.book → NamesRows K.rows held.old.book rows → StartsWith rows a.seen
-        → Halts (SettledAs K.rows K.faults t access.now ask.old.client) LeftAs a (first_asks ask.old most bytes.now)
-        (settled rows (done_by K.rows ask.old.client rows held.new.book result.1) a)) }
+    ensures err { OnErr result.0 ((t : Terms) (rows : List Row) (a : Account) → HasTerms t held.old.book
+        → NamesRows K.keeper held.old.book rows → StartsWith rows a.seen
+        → Halts (SettledAs K.keeper t access.now ask.old.client) LeftAs a (first_asks ask.old most bytes.now)
+        (settled rows (done_by K.keeper ask.old.client rows held.new.book result.1) a)) }
     ensures some { IfOk result.0 (λ f. 0 < f.messages) }
     ensures few { IfOk result.0 (λ f. (f.messages ≤ most) × (f.messages ≤ 64)) }
     ensures count { IfOk result.0 (λ f. f.messages + length (first_messages (most - f.messages) f.left.now)
         ≡ length (first_messages most bytes.now)) }
     ensures behind { IfOk result.0 (λ f. behind_first (most - f.messages) f.left.now ≡ behind_first most bytes.now) }
     ensures shorter { IfOk result.0 (λ f. 2 * f.messages + length f.left.now ≤ length bytes.now) }
-    ensures advances { Advances K.rows K.faults ask.old.client held.old.book result.1.receipt result.1.count held.new.book }
+    ensures advances { Advances K.keeper ask.old.client held.old.book result.1.receipt result.1.count held.new.book }
     ensures members { (m : _) → get_elem? held.old.members.items low ≡ some m → held.new.members.items ≡ slice_set held.old.members.items low (record { share = m.share + result.1.rise; mark = m.mark || result.1.mark }) }
     ensures start { held.new.start ≡ held.old.start }
     ensures ask { ask.new ≡ record ask.old { bytes = ask.new.bytes } }
@@ -197,10 +203,10 @@ fn settle_turn<'a, K: Keeper, R: Wait>(
     ensures idle { (seat.new.me.1 ≡ []) × (seat.new.me.0.phase ≡ 0) × (length seat.new.me.0.accounts ≡ 1) }
     ensures low { (seat.new.me.0.low ≡ seat.old.me.0.low) × (seat.new.me.0.terms ≡ seat.old.me.0.terms) }
     ensures seen { length (own seat.new.me.0.accounts).seen ≡ result.1 }
-    ensures ok { IfOk result.0 (λ f. AddsFront (SettledAs K.rows K.faults seat.old.me.0.terms access.now ask.old.client)
+    ensures ok { IfOk result.0 (λ f. AddsFront (SettledAs K.keeper seat.old.me.0.terms access.now ask.old.client)
         (own seat.old.me.0.accounts) (first_asks ask.old most bytes.now) (own seat.new.me.0.accounts)
         (first_asks ask.old (most - f.messages) f.left.now) replies.old.items replies.new.items) }
-    ensures err { OnErr result.0 (Halts (SettledAs K.rows K.faults seat.old.me.0.terms access.now ask.old.client) LeftAs
+    ensures err { OnErr result.0 (Halts (SettledAs K.keeper seat.old.me.0.terms access.now ask.old.client) LeftAs
         (own seat.old.me.0.accounts) (first_asks ask.old most bytes.now) (own seat.new.me.0.accounts)) }
     ensures some { IfOk result.0 (λ f. 0 < f.messages) }
     ensures few { IfOk result.0 (λ f. (f.messages ≤ most) × (f.messages ≤ 64)) }
@@ -250,9 +256,9 @@ fn settle_turns<K: Keeper, R: Wait>(
     ensures idle { (seat.new.me.1 ≡ []) × (seat.new.me.0.phase ≡ 0) × (length seat.new.me.0.accounts ≡ 1) }
     ensures low { (seat.new.me.0.low ≡ seat.old.me.0.low) × (seat.new.me.0.terms ≡ seat.old.me.0.terms) }
     ensures seen { length (own seat.new.me.0.accounts).seen ≡ seen.new }
-    ensures ok { OnOk result (Adds (SettledAs K.rows K.faults seat.old.me.0.terms access.now ask.old.client) (own seat.old.me.0.accounts)
+    ensures ok { OnOk result (Adds (SettledAs K.keeper seat.old.me.0.terms access.now ask.old.client) (own seat.old.me.0.accounts)
         (first_asks ask.old most bytes.now) (own seat.new.me.0.accounts) replies.old.items replies.new.items) }
-    ensures err { OnErr result (Halts (SettledAs K.rows K.faults seat.old.me.0.terms access.now ask.old.client) LeftAs
+    ensures err { OnErr result (Halts (SettledAs K.keeper seat.old.me.0.terms access.now ask.old.client) LeftAs
         (own seat.old.me.0.accounts) (first_asks ask.old most bytes.now) (own seat.new.me.0.accounts)) }
     ensures count { IfOk result (λ a. a.messages ≡ length (first_messages most bytes.now)) }
     ensures rest { IfOk result (λ a. a.rest ≡ length (behind_first most bytes.now)) }
@@ -295,12 +301,12 @@ impl<K: Keeper> TicketBook<K> {
         requires pass { pass.old.book ≡ self.now.id }
         requires moment { ask.old.at < 2 ^ 47 }
         ensures book { pass.new.book ≡ pass.old.book }
-        ensures ok { OnOk result (Adds (SettledBy K.rows K.faults access.now) pass.old
+        ensures ok { OnOk result (Adds (SettledBy K.keeper access.now) pass.old
             (first_asks ask.old most bytes.now) pass.new replies.old.items replies.new.items) }
         ensures count { IfOk result (λ a. a.messages ≡ length (first_messages most bytes.now)) }
         ensures rest { IfOk result (λ a. a.rest ≡ length (behind_first most bytes.now)) }
         ensures shorter { IfOk result (λ a. 2 * a.messages + a.rest ≤ length bytes.now) }
-        ensures err { OnErr result (Halts (SettledBy K.rows K.faults access.now) LeftBy pass.old
+        ensures err { OnErr result (Halts (SettledBy K.keeper access.now) LeftBy pass.old
             (first_asks ask.old most bytes.now) pass.new) }
         ensures ask { ask.new ≡ record ask.old { bytes = ask.new.bytes } }
     {

@@ -33,12 +33,12 @@ pub struct Held<K: Keeper> {
     pub members: Vec<Member>,
     /// The keeper's count of faults when the book was shared.
     pub start: u64,
-    ghost sums: { start + total share_of members.items ≡ K.faults book.keeper },
-    ghost marked: { marks_stand (K.faults book.keeper) members.items ≡ true },
+    ghost sums: { start + total share_of members.items ≡ (K.keeper.told book.keeper).faults },
+    ghost marked: { marks_stand (K.keeper.told book.keeper).faults members.items ≡ true },
 }
 
 impl<K: Keeper> Carried for Box<Held<K>> {
-    ghost names = { λ t rows members h. Names K.rows t rows members h.value.book h.value.members.items h.value.start };
+    ghost names = { λ t rows members h. Names K.keeper t rows members h.value.book h.value.members.items h.value.start };
 }
 
 /// What a settle did, beside its answer.
@@ -90,7 +90,7 @@ pub(crate) fn new_held<K: Keeper>(
 ) -> Result<Box<Held<K>>, Book<K>>
     requires { members.items ≡ replicate (length members.items) new_member }
     ensures members { IfOk result (λ held. held.value.members.items ≡ members.items) }
-    ensures book { IfOk result (λ held. (held.value.book ≡ book) × (held.value.start ≡ K.faults book.keeper)) }
+    ensures book { IfOk result (λ held. (held.value.book ≡ book) × (held.value.start ≡ (K.keeper.told book.keeper).faults)) }
     ensures err { IfErr result (λ back. back ≡ book) }
 {
     let start = book.fault_count();
@@ -107,9 +107,9 @@ pub(crate) fn new_held<K: Keeper>(
 
 /// By how much the keeper's count of faults rose.
 fn rise_since<K: Keeper>(book: &Book<K>, was: u64) -> u64
-    requires { was ≤ K.faults book.now.keeper }
-    ensures rise { was + result ≡ K.faults book.now.keeper }
-    ensures fits { K.faults book.now.keeper < 2 ^ 64 }
+    requires { was ≤ (K.keeper.told book.now.keeper).faults }
+    ensures rise { was + result ≡ (K.keeper.told book.now.keeper).faults }
+    ensures fits { (K.keeper.told book.now.keeper).faults < 2 ^ 64 }
 {
     book.fault_count() - was
 }
@@ -153,14 +153,15 @@ pub(crate) fn settle_book<K: Keeper>(
 ) -> (Result<SettledInto, OutOfMemory>, Told)
     requires moment { ask.now.at < 2 ^ 47 }
     requires bytes { length ask.now.bytes ≤ 65535 }
-    ensures ok { IfOk result.0 (SettlesInto (λ settled. Settles K.rows K.faults access.now book.old ask.now settled book.new) is_framed out.old.items out.new.items) }
-    ensures err { OnErr result.0 (IsLeft K.rows K.faults book.old book.new) }
-    ensures advances { Advances K.rows K.faults ask.now.client book.old result.1.receipt result.1.count book.new }
+    ensures ok { IfOk result.0 (SettlesInto (λ settled. Settles K.keeper access.now book.old ask.now settled book.new) is_framed out.old.items out.new.items) }
+    ensures err { OnErr result.0 (IsLeft K.keeper book.old book.new) }
+    ensures advances { Advances K.keeper ask.now.client book.old result.1.receipt result.1.count book.new }
     ensures receipt { result.1.receipt ≡ receipt_in result.0 }
-    ensures rise { K.faults book.old.keeper + result.1.rise ≡ K.faults book.new.keeper }
-    ensures fits { K.faults book.new.keeper < 2 ^ 64 }
-    ensures rose { Rose (K.faults book.old.keeper) (K.faults book.new.keeper) → (0 < result.1.rise) ⊎ (result.1.mark ≡ true) }
-    ensures mark { result.1.mark ≡ true → K.faults book.old.keeper ≡ last }
+    ensures rise { (K.keeper.told book.old.keeper).faults + result.1.rise ≡ (K.keeper.told book.new.keeper).faults }
+    ensures fits { (K.keeper.told book.new.keeper).faults < 2 ^ 64 }
+    ensures rose { Rose (K.keeper.told book.old.keeper).faults (K.keeper.told book.new.keeper).faults
+        → (0 < result.1.rise) ⊎ (result.1.mark ≡ true) }
+    ensures mark { result.1.mark ≡ true → (K.keeper.told book.old.keeper).faults ≡ last }
 {
     let before = book.journal_len();
     let was = book.fault_count();
@@ -187,12 +188,13 @@ pub(crate) fn settle_held<K: Keeper>(
     requires moment { ask.now.at < 2 ^ 47 }
     requires bytes { length ask.now.bytes ≤ 65535 }
     requires low { low < length held.old.members.items }
-    ensures ok { IfOk result.0 (SettlesInto (λ settled. Settles K.rows K.faults access.now held.old.book ask.now settled held.new.book) is_framed out.old.items out.new.items) }
-    ensures err { OnErr result.0 (IsLeft K.rows K.faults held.old.book held.new.book) }
-    ensures advances { Advances K.rows K.faults ask.now.client held.old.book result.1.receipt result.1.count held.new.book }
+    ensures ok { IfOk result.0 (SettlesInto (λ settled. Settles K.keeper access.now held.old.book ask.now settled held.new.book) is_framed out.old.items out.new.items) }
+    ensures err { OnErr result.0 (IsLeft K.keeper held.old.book held.new.book) }
+    ensures advances { Advances K.keeper ask.now.client held.old.book result.1.receipt result.1.count held.new.book }
     ensures receipt { result.1.receipt ≡ receipt_in result.0 }
-    ensures rise { K.faults held.old.book.keeper + result.1.rise ≡ K.faults held.new.book.keeper }
-    ensures rose { Rose (K.faults held.old.book.keeper) (K.faults held.new.book.keeper) → (0 < result.1.rise) ⊎ (result.1.mark ≡ true) }
+    ensures rise { (K.keeper.told held.old.book.keeper).faults + result.1.rise ≡ (K.keeper.told held.new.book.keeper).faults }
+    ensures rose { Rose (K.keeper.told held.old.book.keeper).faults (K.keeper.told held.new.book.keeper).faults
+        → (0 < result.1.rise) ⊎ (result.1.mark ≡ true) }
     ensures members { (m : _) → get_elem? held.old.members.items low ≡ some m → held.new.members.items ≡ slice_set held.old.members.items low (record { share = m.share + result.1.rise; mark = m.mark || result.1.mark }) }
     ensures start { held.new.start ≡ held.old.start }
 {

@@ -57,7 +57,7 @@ impl<'a, K: Keeper, R: Wait> Seated<'a, K, R> {
 impl<'a, K: Keeper, R: Wait> RequestHandler for Seated<'a, K, R> {
     ghost use Rattle.dns_ticket_lock.specs.Passes.{SettledBy, LeftBy};
 
-    ghost serves = { SettledBy K.rows K.faults };
+    ghost serves = { SettledBy K.keeper };
 
     ghost skips = { LeftBy };
 

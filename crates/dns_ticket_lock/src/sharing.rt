@@ -81,7 +81,7 @@ impl<K: Keeper> TicketBook<K> {
         seats: u32,
     ) -> Result<(TicketBook<K>, Vec<Pass>), (Book<K>, OutOfMemory)>
         requires seats { (0 < seats) × (seats ≤ 1024) }
-        ensures terms { IfOk result (λ r. r.0.terms ≡ terms_at K.rows K.faults book seats) }
+        ensures terms { IfOk result (λ r. r.0.terms ≡ terms_at K.keeper book seats) }
         ensures passes { IfOk result (λ r. ArePasses r.0 r.1.items) }
         ensures err { IfErr result (λ e. e.0 ≡ book) }
     {

@@ -44,11 +44,11 @@ pub(crate) fn end_turn<K: Keeper>(
 )
     requires board { (board.now.table_id.words ≡ 3) × (board.now.table_id.slots ≡ 1) × (seat.old.table_id ≡ board.now.table_id) }
     requires has { (seat.old.me.0.phase ≡ 2) × (seat.old.me.1 ≡ (0, None) ∷ []) }
-    requires done { IsDone (seat.old.me.0.low + 1) seat.old.me.0.rows (done_by K.rows (seat.old.me.0.low + 1) seat.old.me.0.rows held.value.book told.now) }
-    requires many { (told.now.count ≡ length (done_by K.rows (seat.old.me.0.low + 1) seat.old.me.0.rows held.value.book told.now).batch) × (length seat.old.me.0.rows + length (done_by K.rows (seat.old.me.0.low + 1) seat.old.me.0.rows held.value.book told.now).batch ≡ held.value.book.row_count) }
-    requires names { Names K.rows seat.old.me.0.terms (seat.old.me.0.rows ++ (done_by K.rows (seat.old.me.0.low + 1) seat.old.me.0.rows held.value.book told.now).batch) (with_member (with_head (settled seat.old.me.0.rows (done_by K.rows (seat.old.me.0.low + 1) seat.old.me.0.rows held.value.book told.now)) seat.old.me.0.accounts) seat.old.me.0.low seat.old.me.0.members) held.value.book held.value.members.items held.value.start }
+    requires done { IsDone (seat.old.me.0.low + 1) seat.old.me.0.rows (done_by K.keeper (seat.old.me.0.low + 1) seat.old.me.0.rows held.value.book told.now) }
+    requires many { (told.now.count ≡ length (done_by K.keeper (seat.old.me.0.low + 1) seat.old.me.0.rows held.value.book told.now).batch) × (length seat.old.me.0.rows + length (done_by K.keeper (seat.old.me.0.low + 1) seat.old.me.0.rows held.value.book told.now).batch ≡ held.value.book.row_count) }
+    requires names { Names K.keeper seat.old.me.0.terms (seat.old.me.0.rows ++ (done_by K.keeper (seat.old.me.0.low + 1) seat.old.me.0.rows held.value.book told.now).batch) (with_member (with_head (settled seat.old.me.0.rows (done_by K.keeper (seat.old.me.0.low + 1) seat.old.me.0.rows held.value.book told.now)) seat.old.me.0.accounts) seat.old.me.0.low seat.old.me.0.members) held.value.book held.value.members.items held.value.start }
     ensures same { seat.new.table_id ≡ seat.old.table_id }
-    ensures rests { seat.new.me ≡ (rests (has_counted (done_by K.rows (seat.old.me.0.low + 1) seat.old.me.0.rows held.value.book told.now) seat.old.me.0), []) }
+    ensures rests { seat.new.me ≡ (rests (has_counted (done_by K.keeper (seat.old.me.0.low + 1) seat.old.me.0.rows held.value.book told.now) seat.old.me.0), []) }
 {
     count_done(board, seat, &held, told);
     give(board, seat, held);
@@ -75,7 +75,7 @@ fn settle_seat<K: Keeper, R: Wait>(
     ensures idle { (seat.new.me.1 ≡ []) × (seat.new.me.0.phase ≡ 0) × (length seat.new.me.0.accounts ≡ 1) }
     ensures low { (seat.new.me.0.low ≡ seat.old.me.0.low) × (seat.new.me.0.terms ≡ seat.old.me.0.terms) }
     ensures seen { length (own seat.new.me.0.accounts).seen ≡ result.1 }
-    ensures ok { IfOk result.0 (SettlesInto (λ settled. SettledAs K.rows K.faults seat.old.me.0.terms access.now (seat.old.me.0.low + 1) (own seat.old.me.0.accounts) ask.now settled (own seat.new.me.0.accounts)) is_framed out.old.items out.new.items) }
+    ensures ok { IfOk result.0 (SettlesInto (λ settled. SettledAs K.keeper seat.old.me.0.terms access.now (seat.old.me.0.low + 1) (own seat.old.me.0.accounts) ask.now settled (own seat.new.me.0.accounts)) is_framed out.old.items out.new.items) }
     ensures err { OnErr result.0 (LeftAs (own seat.old.me.0.accounts) (own seat.new.me.0.accounts)) }
 {
     let low = ask.client as usize - 1;
@@ -126,7 +126,7 @@ impl<K: Keeper> TicketBook<K> {
         requires pass { pass.old.book ≡ self.now.id }
         requires moment { ask.now.at < 2 ^ 47 }
         requires bytes { length ask.now.bytes ≤ 65535 }
-        ensures ok { IfOk result (λ settled. SettledBy K.rows K.faults access.now pass.old ask.now settled pass.new) }
+        ensures ok { IfOk result (λ settled. SettledBy K.keeper access.now pass.old ask.now settled pass.new) }
         ensures err { OnErr result (LeftBy pass.old pass.new) }
     {
         let mut frame = Vec::new(pass.alloc);
@@ -149,7 +149,7 @@ impl<K: Keeper> TicketBook<K> {
         requires pass { pass.old.book ≡ self.now.id }
         requires moment { ask.now.at < 2 ^ 47 }
         requires bytes { length ask.now.bytes ≤ 65535 }
-        ensures ok { IfOk result (SettlesInto (λ settled. SettledBy K.rows K.faults access.now pass.old ask.now settled pass.new) is_framed out.old.items out.new.items) }
+        ensures ok { IfOk result (SettlesInto (λ settled. SettledBy K.keeper access.now pass.old ask.now settled pass.new) is_framed out.old.items out.new.items) }
         ensures err { OnErr result (LeftBy pass.old pass.new) }
     {
         copy_into(&mut pass.bytes, &ask.bytes)?;

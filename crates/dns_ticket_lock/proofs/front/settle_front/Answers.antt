@@ -19,8 +19,8 @@ loop-message-init g c =
     record {
       ask = refl;
       within = (omega arith, omega arith);
-      quiet = subst (λ (n : ℕ). Quiet g.K.Keeper.rows g.K.Keeper.faults c.args.access.now c.args.ask.now c.args.book.now c.args.book.now c.args.most n bytes bytes c.args.replies.now.items c.args.replies.now.items 0) (sym none)
-          (Quiet-begun g.K.Keeper.rows g.K.Keeper.faults c.args.access.now c.args.ask.now c.args.book.now c.args.most bytes c.args.replies.now.items);
+      quiet = subst (λ (n : ℕ). Quiet g.K.Keeper.keeper c.args.access.now c.args.ask.now c.args.book.now c.args.book.now c.args.most n bytes bytes c.args.replies.now.items c.args.replies.now.items 0) (sym none)
+          (Quiet-begun g.K.Keeper.keeper c.args.access.now c.args.ask.now c.args.book.now c.args.most bytes c.args.replies.now.items);
       count = omega (arith, ap (λ (n : ℕ). length (first_messages n bytes)) none);
       behind = ap (λ (n : ℕ). behind_first n bytes) none;
       shorter = omega arith;
@@ -30,7 +30,7 @@ pub returns-in_default-answer-clause-err : goal.returns-in_default-answer-clause
 returns-in_default-answer-clause-err g c =
     let s = c.settle_next-answer in
     let receipt = s.ensures.receipt ∙ ap receipt_in c.in_default-answer.is in
-    Quiet-halts g.K.Keeper.rows g.K.Keeper.faults c.args.access.now c.args.ask.now c.args.book.now c.loop-message.book s.new.book c.args.most (c.args.most - c.loop-message.messages) c.args.bytes.now c.loop-message.left.now c.args.replies.now.items
+    Quiet-halts g.K.Keeper.keeper c.args.access.now c.args.ask.now c.args.book.now c.loop-message.book s.new.book c.args.most (c.args.most - c.loop-message.messages) c.args.bytes.now c.loop-message.left.now c.args.replies.now.items
     c.loop-message.replies.items c.loop-message.messages s.result.1 c.loop-message.invariant.quiet (on_err s.result.0 c.in_default-answer.field-0 _ c.in_default-answer.is s.ensures.err) receipt s.ensures.rise
 
 pub returns-then-not-goes_on-clause-ok : goal.returns-then-not-goes_on-clause-ok
@@ -44,10 +44,10 @@ returns-then-not-goes_on-clause-ok g c =
     let to_come : first_messages (c.args.most - c.loop-message.messages) c.loop-message.left.now ≡ c.in-Some.message.now ∷ first_messages (c.args.most - (c.loop-message.messages + 1)) c.in-Some.after.now =
     c.in-Some.ensures.messages ∙ ap (λ (n : ℕ). c.in-Some.message.now ∷ first_messages n c.in-Some.after.now) less
     in
-    one_more g.K.Keeper.rows g.K.Keeper.faults access c.args.ask.now c.args.book.now c.loop-message.book s.new.book c.args.most (c.args.most - c.loop-message.messages) (c.args.most - (c.loop-message.messages + 1)) c.args.bytes.now c.loop-message.left.now c.in-Some.after.now c.in-Some.message.now c.args.replies.now.items
+    one_more g.K.Keeper.keeper access c.args.ask.now c.args.book.now c.loop-message.book s.new.book c.args.most (c.args.most - c.loop-message.messages) (c.args.most - (c.loop-message.messages + 1)) c.args.bytes.now c.loop-message.left.now c.in-Some.after.now c.in-Some.message.now c.args.replies.now.items
     c.loop-message.replies.items s.new.replies.items c.loop-message.messages s.result.1 c.in-Ok._settled to_come c.loop-message.invariant.quiet
-    (subst (λ (k : Ask). SettlesInto (λ settled. Settles g.K.Keeper.rows g.K.Keeper.faults access c.loop-message.book k settled s.new.book) true c.loop-message.replies.items s.new.replies.items c.in-Ok._settled) same ok)
-    (subst (λ (n : ℕ). Advances g.K.Keeper.rows g.K.Keeper.faults n c.loop-message.book s.result.1.receipt s.result.1.count s.new.book) client s.ensures.advances)
+    (subst (λ (k : Ask). SettlesInto (λ settled. Settles g.K.Keeper.keeper access c.loop-message.book k settled s.new.book) true c.loop-message.replies.items s.new.replies.items c.in-Ok._settled) same ok)
+    (subst (λ (n : ℕ). Advances g.K.Keeper.keeper n c.loop-message.book s.result.1.receipt s.result.1.count s.new.book) client s.ensures.advances)
     (s.ensures.receipt ∙ ap receipt_in c.in-Ok.is) s.ensures.rise (on_ok s.result.0 c.in-Ok._settled _ c.in-Ok.is s.ensures.rose)
 
 pub loop-message-preserved : goal.loop-message-preserved
@@ -66,10 +66,10 @@ loop-message-preserved g c =
     record {
       ask = s.ensures.ask ∙ ap (λ (x : Ask). record x { bytes = s.new.ask.bytes }) c.loop-message.invariant.ask;
       within = (omega (arith, within.0), within.1);
-      quiet = Quiet-more g.K.Keeper.rows g.K.Keeper.faults access c.args.ask.now c.args.book.now c.loop-message.book s.new.book c.args.most (c.args.most - c.loop-message.messages) (c.args.most - (c.loop-message.messages + 1)) c.args.bytes.now c.loop-message.left.now c.in-Some.after.now c.in-Some.message.now c.args.replies.now.items
+      quiet = Quiet-more g.K.Keeper.keeper access c.args.ask.now c.args.book.now c.loop-message.book s.new.book c.args.most (c.args.most - c.loop-message.messages) (c.args.most - (c.loop-message.messages + 1)) c.args.bytes.now c.loop-message.left.now c.in-Some.after.now c.in-Some.message.now c.args.replies.now.items
           c.loop-message.replies.items s.new.replies.items c.loop-message.messages s.result.1 c.in-Ok._settled to_come c.loop-message.invariant.quiet
-          (subst (λ (k : Ask). SettlesInto (λ settled. Settles g.K.Keeper.rows g.K.Keeper.faults access c.loop-message.book k settled s.new.book) true c.loop-message.replies.items s.new.replies.items c.in-Ok._settled) same ok)
-          (subst (λ (n : ℕ). Advances g.K.Keeper.rows g.K.Keeper.faults n c.loop-message.book s.result.1.receipt s.result.1.count s.new.book) client s.ensures.advances)
+          (subst (λ (k : Ask). SettlesInto (λ settled. Settles g.K.Keeper.keeper access c.loop-message.book k settled s.new.book) true c.loop-message.replies.items s.new.replies.items c.in-Ok._settled) same ok)
+          (subst (λ (n : ℕ). Advances g.K.Keeper.keeper n c.loop-message.book s.result.1.receipt s.result.1.count s.new.book) client s.ensures.advances)
           (s.ensures.receipt ∙ ap receipt_in c.in-Ok.is) s.ensures.rise (on_ok s.result.0 c.in-Ok._settled _ c.in-Ok.is s.ensures.rose) nothing.0 nothing.1 nothing.2;
       count = omega (arith, c.loop-message.invariant.count, ap length to_come);
       behind = sym (c.in-Some.ensures.behind ∙ ap (λ (n : ℕ). behind_first n c.in-Some.after.now) less) ∙ c.loop-message.invariant.behind;
@@ -81,8 +81,8 @@ returns-clause-ok g c t rows a terms named begins =
     let none = ap length c.in_default.ensures.none in
     let some = c.requires.some in
     let count = c.loop-message.invariant.count in
-    subst (λ (told : Told). AddsFront (SettledAs g.K.Keeper.rows g.K.Keeper.faults t c.args.access.now c.args.ask.now.client) a (first_asks c.args.ask.now c.args.most c.args.bytes.now)
-    (settled rows (done_by g.K.Keeper.rows c.args.ask.now.client rows c.loop-message.book told) a) (first_asks c.args.ask.now (c.args.most - c.loop-message.messages) c.loop-message.left.now) c.args.replies.now.items c.loop-message.replies.items)
+    subst (λ (told : Told). AddsFront (SettledAs g.K.Keeper.keeper t c.args.access.now c.args.ask.now.client) a (first_asks c.args.ask.now c.args.most c.args.bytes.now)
+    (settled rows (done_by g.K.Keeper.keeper c.args.ask.now.client rows c.loop-message.book told) a) (first_asks c.args.ask.now (c.args.most - c.loop-message.messages) c.loop-message.left.now) c.args.replies.now.items c.loop-message.replies.items)
     (sym c.nothing_told.ensures)
-    (Quiet-end g.K.Keeper.rows g.K.Keeper.faults c.args.access.now c.args.ask.now c.args.book.now c.loop-message.book c.args.most (c.args.most - c.loop-message.messages) c.args.bytes.now c.loop-message.left.now c.args.replies.now.items c.loop-message.replies.items
+    (Quiet-end g.K.Keeper.keeper c.args.access.now c.args.ask.now c.args.book.now c.loop-message.book c.args.most (c.args.most - c.loop-message.messages) c.args.bytes.now c.loop-message.left.now c.args.replies.now.items c.loop-message.replies.items
     c.loop-message.messages c.loop-message.invariant.quiet (omega arith) t rows a terms named begins)

@@ -15,7 +15,7 @@ pub returns-in_err-front-clause-err : goal.returns-in_err-front-clause-err
 returns-in_err-front-clause-err g c =
     let i = c.loop-message.invariant in
     let s = c.settle_turn-rows in
-    let by : Terms → ℕ → _ = λ t n. SettledAs g.K.Keeper.rows g.K.Keeper.faults t c.args.access.now n in
+    let by : Terms → ℕ → _ = λ t n. SettledAs g.K.Keeper.keeper t c.args.access.now n in
     let start = own c.args.seat.now.me.0.accounts in
     let before = own c.loop-message.seat.me.0.accounts in
     let after = own s.new.seat.me.0.accounts in
@@ -34,7 +34,7 @@ loop-message-preserved g c =
     let i = c.loop-message.invariant in
     let s = c.settle_turn-rows in
     let f = c.in_ok-front.front in
-    let by : Terms → ℕ → _ = λ t n. SettledAs g.K.Keeper.rows g.K.Keeper.faults t c.args.access.now n in
+    let by : Terms → ℕ → _ = λ t n. SettledAs g.K.Keeper.keeper t c.args.access.now n in
     let before = own c.loop-message.seat.me.0.accounts in
     let after = own s.new.seat.me.0.accounts in
     let left = c.loop-message.left.now in

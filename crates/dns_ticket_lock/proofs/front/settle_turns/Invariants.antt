@@ -13,7 +13,7 @@ invariant-loop-message g l =
       low : (l.seat.me.0.low ≡ l.fn.seat.me.0.low) × (l.seat.me.0.terms ≡ l.fn.seat.me.0.terms);
       seen : length (own l.seat.me.0.accounts).seen ≡ l.seen;
       ask : l.ask ≡ record l.fn.ask { bytes = l.ask.bytes };
-      front : AddsFront (SettledAs g.K.Keeper.rows g.K.Keeper.faults l.fn.seat.me.0.terms l.access l.fn.ask.client) (own l.fn.seat.me.0.accounts) (first_asks l.fn.ask l.most l.bytes) (own l.seat.me.0.accounts) (first_asks l.fn.ask (l.most - l.messages) l.left) l.fn.replies.items l.replies.items;
+      front : AddsFront (SettledAs g.K.Keeper.keeper l.fn.seat.me.0.terms l.access l.fn.ask.client) (own l.fn.seat.me.0.accounts) (first_asks l.fn.ask l.most l.bytes) (own l.seat.me.0.accounts) (first_asks l.fn.ask (l.most - l.messages) l.left) l.fn.replies.items l.replies.items;
       within : l.messages ≤ l.most;
       count : l.messages + length (first_messages (l.most - l.messages) l.left) ≡ length (first_messages l.most l.bytes);
       behind : behind_first (l.most - l.messages) l.left ≡ behind_first l.most l.bytes;

@@ -12,5 +12,5 @@ invariant_of-held g c =
     let none = ap (λ (l : List Member). total share_of l) c.requires ∙ no_shares n in
     record {
       sums = omega arith;
-      marked = ap (marks_stand (g.K.Keeper.faults c.args.book.keeper)) c.requires ∙ no_marks (g.K.Keeper.faults c.args.book.keeper) n;
+      marked = ap (marks_stand (g.K.Keeper.keeper.told c.args.book.keeper).faults) c.requires ∙ no_marks (g.K.Keeper.keeper.told c.args.book.keeper).faults n;
     }

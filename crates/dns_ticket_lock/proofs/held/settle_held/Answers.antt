@@ -33,10 +33,10 @@ invariant_of-held g c =
     let is = c.member_after.ensures in
     let share : now.share ≡ m.share + told.rise = ap share_of is in
     let change = total_set share_of h.members.items c.args.low m now at in
-    let later : (g.K.Keeper.faults h.book.keeper) ≡ last → (g.K.Keeper.faults book.keeper) ≡ last = λ top. omega arith in
+    let later : (g.K.Keeper.keeper.told h.book.keeper).faults ≡ last → (g.K.Keeper.keeper.told book.keeper).faults ≡ last = λ top. omega arith in
     record {
       sums = omega arith;
-      marked = marks_after (g.K.Keeper.faults h.book.keeper) (g.K.Keeper.faults book.keeper) h.members.items c.args.low m now told.mark later (λ marked. later (c.settle_book-answer.ensures.mark marked)) at (ap (λ (x : Member). x.mark) is) h.marked;
+      marked = marks_after (g.K.Keeper.keeper.told h.book.keeper).faults (g.K.Keeper.keeper.told book.keeper).faults h.members.items c.args.low m now told.mark later (λ marked. later (c.settle_book-answer.ensures.mark marked)) at (ap (λ (x : Member). x.mark) is) h.marked;
     }
 
 pub returns-clause-members : goal.returns-clause-members

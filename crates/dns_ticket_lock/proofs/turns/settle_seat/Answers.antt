@@ -19,7 +19,7 @@ settle_held-answer-requires-clause-low g c =
     let v : View = c.args.seat.now.me.0 in
     let was = c.as_mut.result.now in
     let took = c.begin_turn-held.ensures.took in
-    let n : Names g.K.Keeper.rows v.terms took.1 took.2 was.book was.members.items was.start = subst (λ (x : _). Names g.K.Keeper.rows v.terms took.1 took.2 x.book x.members.items x.start) (sym c.as_mut.ensures.value) took.4.0 in
+    let n : Names g.K.Keeper.keeper v.terms took.1 took.2 was.book was.members.items was.start = subst (λ (x : _). Names g.K.Keeper.keeper v.terms took.1 took.2 x.book x.members.items x.start) (sym c.as_mut.ensures.value) took.4.0 in
     let one = c.requires.idle.2 in
     let small = finds_place v.accounts v.low took.1 took.2 (omega arith) took.4.1 in
     let many = ap (λ (l : List Member). length l) n.has_members in
@@ -33,11 +33,11 @@ end_turn-requires-clause-done g c =
     let now = c.settle_held-answer.result in
     let then = c.settle_held-answer.new.held in
     let took = c.begin_turn-held.ensures.took in
-    let n : Names g.K.Keeper.rows v.terms took.1 took.2 was.book was.members.items was.start = subst (λ (x : _). Names g.K.Keeper.rows v.terms took.1 took.2 x.book x.members.items x.start) (sym c.as_mut.ensures.value) took.4.0 in
+    let n : Names g.K.Keeper.keeper v.terms took.1 took.2 was.book was.members.items was.start = subst (λ (x : _). Names g.K.Keeper.keeper v.terms took.1 took.2 x.book x.members.items x.start) (sym c.as_mut.ensures.value) took.4.0 in
     let view : c.begin_turn-held.new.seat.me.0 ≡ has took.1 took.2 (waits took.0 v) = ap (λ (m : Me _ View). m.0) took.3 in
-    let step = subst (λ (n : ℕ). Advances g.K.Keeper.rows g.K.Keeper.faults n was.book now.1.receipt now.1.count then.book) c.requires.number c.settle_held-answer.ensures.advances in
-    let turn = turn_of g.K.Keeper.rows g.K.Keeper.faults (v.low + 1) took.1 was.book then.book now.1 n.has_rows step in
-    subst (λ (x : View). IsDone (x.low + 1) x.rows (done_by g.K.Keeper.rows (x.low + 1) x.rows then.book now.1)) (sym view) turn.fit
+    let step = subst (λ (n : ℕ). Advances g.K.Keeper.keeper n was.book now.1.receipt now.1.count then.book) c.requires.number c.settle_held-answer.ensures.advances in
+    let turn = turn_of g.K.Keeper.keeper (v.low + 1) took.1 was.book then.book now.1 n.has_rows step in
+    subst (λ (x : View). IsDone (x.low + 1) x.rows (done_by g.K.Keeper.keeper (x.low + 1) x.rows then.book now.1)) (sym view) turn.fit
 
 pub end_turn-requires-clause-many : goal.end_turn-requires-clause-many
 end_turn-requires-clause-many g c =
@@ -46,11 +46,11 @@ end_turn-requires-clause-many g c =
     let now = c.settle_held-answer.result in
     let then = c.settle_held-answer.new.held in
     let took = c.begin_turn-held.ensures.took in
-    let n : Names g.K.Keeper.rows v.terms took.1 took.2 was.book was.members.items was.start = subst (λ (x : _). Names g.K.Keeper.rows v.terms took.1 took.2 x.book x.members.items x.start) (sym c.as_mut.ensures.value) took.4.0 in
+    let n : Names g.K.Keeper.keeper v.terms took.1 took.2 was.book was.members.items was.start = subst (λ (x : _). Names g.K.Keeper.keeper v.terms took.1 took.2 x.book x.members.items x.start) (sym c.as_mut.ensures.value) took.4.0 in
     let view : c.begin_turn-held.new.seat.me.0 ≡ has took.1 took.2 (waits took.0 v) = ap (λ (m : Me _ View). m.0) took.3 in
-    let step = subst (λ (n : ℕ). Advances g.K.Keeper.rows g.K.Keeper.faults n was.book now.1.receipt now.1.count then.book) c.requires.number c.settle_held-answer.ensures.advances in
-    let turn = turn_of g.K.Keeper.rows g.K.Keeper.faults (v.low + 1) took.1 was.book then.book now.1 n.has_rows step in
-    subst (λ (x : View). (now.1.count ≡ length (done_by g.K.Keeper.rows (x.low + 1) x.rows then.book now.1).batch) × (length x.rows + length (done_by g.K.Keeper.rows (x.low + 1) x.rows then.book now.1).batch ≡ then.book.row_count))
+    let step = subst (λ (n : ℕ). Advances g.K.Keeper.keeper n was.book now.1.receipt now.1.count then.book) c.requires.number c.settle_held-answer.ensures.advances in
+    let turn = turn_of g.K.Keeper.keeper (v.low + 1) took.1 was.book then.book now.1 n.has_rows step in
+    subst (λ (x : View). (now.1.count ≡ length (done_by g.K.Keeper.keeper (x.low + 1) x.rows then.book now.1).batch) × (length x.rows + length (done_by g.K.Keeper.keeper (x.low + 1) x.rows then.book now.1).batch ≡ then.book.row_count))
     (sym view) (turn.many, turn.long)
 
 pub end_turn-requires-clause-names : goal.end_turn-requires-clause-names
@@ -60,19 +60,19 @@ end_turn-requires-clause-names g c =
     let now = c.settle_held-answer.result in
     let then = c.settle_held-answer.new.held in
     let took = c.begin_turn-held.ensures.took in
-    let n : Names g.K.Keeper.rows v.terms took.1 took.2 was.book was.members.items was.start = subst (λ (x : _). Names g.K.Keeper.rows v.terms took.1 took.2 x.book x.members.items x.start) (sym c.as_mut.ensures.value) took.4.0 in
+    let n : Names g.K.Keeper.keeper v.terms took.1 took.2 was.book was.members.items was.start = subst (λ (x : _). Names g.K.Keeper.keeper v.terms took.1 took.2 x.book x.members.items x.start) (sym c.as_mut.ensures.value) took.4.0 in
     let one = c.requires.idle.2 in
     let client = c.requires.number in
     let view : c.begin_turn-held.new.seat.me.0 ≡ has took.1 took.2 (waits took.0 v) = ap (λ (m : Me _ View). m.0) took.3 in
-    let step = subst (λ (n : ℕ). Advances g.K.Keeper.rows g.K.Keeper.faults n was.book now.1.receipt now.1.count then.book) c.requires.number c.settle_held-answer.ensures.advances in
-    let turn = turn_of g.K.Keeper.rows g.K.Keeper.faults (v.low + 1) took.1 was.book then.book now.1 n.has_rows step in
-    let done = done_by g.K.Keeper.rows (v.low + 1) took.1 then.book now.1 in
+    let step = subst (λ (n : ℕ). Advances g.K.Keeper.keeper n was.book now.1.receipt now.1.count then.book) c.requires.number c.settle_held-answer.ensures.advances in
+    let turn = turn_of g.K.Keeper.keeper (v.low + 1) took.1 was.book then.book now.1 n.has_rows step in
+    let done = done_by g.K.Keeper.keeper (v.low + 1) took.1 then.book now.1 in
     let low : c.args.ask.now.client - 1 ≡ v.low = omega arith in
     let later = subst₂ (λ (ms : List Member) (i : ℕ). (m : Member) → get_elem? ms i ≡ some m → then.members.items ≡ set ms i (record { share = m.share + now.1.rise; mark = m.mark || now.1.mark }))
     n.has_members low c.settle_held-answer.ensures.members in
     let members = members_are v.accounts v.low took.1 took.2 then.members.items done (omega arith) took.4.1 later in
     let start = c.settle_held-answer.ensures.start in
-    subst (λ (x : View). Names g.K.Keeper.rows x.terms (x.rows ++ (done_by g.K.Keeper.rows (x.low + 1) x.rows then.book now.1).batch) (with_member (with_head (settled x.rows (done_by g.K.Keeper.rows (x.low + 1) x.rows then.book now.1)) x.accounts) x.low x.members) then.book then.members.items then.start)
+    subst (λ (x : View). Names g.K.Keeper.keeper x.terms (x.rows ++ (done_by g.K.Keeper.keeper (x.low + 1) x.rows then.book now.1).batch) (with_member (with_head (settled x.rows (done_by g.K.Keeper.keeper (x.low + 1) x.rows then.book now.1)) x.accounts) x.low x.members) then.book then.members.items then.start)
     (sym view) (record {
       has_rows = turn.named;
       has_members = members;
@@ -87,16 +87,16 @@ returns-clause-seen g c =
     let now = c.settle_held-answer.result in
     let then = c.settle_held-answer.new.held in
     let took = c.begin_turn-held.ensures.took in
-    let n : Names g.K.Keeper.rows v.terms took.1 took.2 was.book was.members.items was.start = subst (λ (x : _). Names g.K.Keeper.rows v.terms took.1 took.2 x.book x.members.items x.start) (sym c.as_mut.ensures.value) took.4.0 in
+    let n : Names g.K.Keeper.keeper v.terms took.1 took.2 was.book was.members.items was.start = subst (λ (x : _). Names g.K.Keeper.keeper v.terms took.1 took.2 x.book x.members.items x.start) (sym c.as_mut.ensures.value) took.4.0 in
     let one = c.requires.idle.2 in
     let view : c.begin_turn-held.new.seat.me.0 ≡ has took.1 took.2 (waits took.0 v) = ap (λ (m : Me _ View). m.0) took.3 in
-    let step = subst (λ (n : ℕ). Advances g.K.Keeper.rows g.K.Keeper.faults n was.book now.1.receipt now.1.count then.book) c.requires.number c.settle_held-answer.ensures.advances in
-    let turn = turn_of g.K.Keeper.rows g.K.Keeper.faults (v.low + 1) took.1 was.book then.book now.1 n.has_rows step in
-    let done = done_by g.K.Keeper.rows (v.low + 1) took.1 then.book now.1 in
+    let step = subst (λ (n : ℕ). Advances g.K.Keeper.keeper n was.book now.1.receipt now.1.count then.book) c.requires.number c.settle_held-answer.ensures.advances in
+    let turn = turn_of g.K.Keeper.keeper (v.low + 1) took.1 was.book then.book now.1 n.has_rows step in
+    let done = done_by g.K.Keeper.keeper (v.low + 1) took.1 then.book now.1 in
     let accounts : c.end_turn.new.seat.me.0.accounts ≡ with_head (settled took.1 done) v.accounts =
     ap (λ (m : Me _ View). m.0.accounts) c.end_turn.ensures.rests
-    ∙ ap (λ (x : View). with_head (settled x.rows (done_by g.K.Keeper.rows (x.low + 1) x.rows then.book now.1)) x.accounts) view in
-    ap (λ (l : List Account). length (own l).seen) accounts ∙ (ap (λ (l : List Row). length l) (seen_is g.K.Keeper.rows g.K.Keeper.faults v.accounts took.1 done (omega arith)) ∙ (turn.named.count ∙ (ap (λ (x : _). x.book.row_count) (sym c.deref.ensures) ∙ sym c.journal_len-rows.ensures.is)))
+    ∙ ap (λ (x : View). with_head (settled x.rows (done_by g.K.Keeper.keeper (x.low + 1) x.rows then.book now.1)) x.accounts) view in
+    ap (λ (l : List Account). length (own l).seen) accounts ∙ (ap (λ (l : List Row). length l) (seen_is g.K.Keeper.keeper v.accounts took.1 done (omega arith)) ∙ (turn.named.count ∙ (ap (λ (x : _). x.book.row_count) (sym c.deref.ensures) ∙ sym c.journal_len-rows.ensures.is)))
 
 pub returns-clause-ok : goal.returns-clause-ok
 returns-clause-ok g c =
@@ -105,18 +105,18 @@ returns-clause-ok g c =
     let now = c.settle_held-answer.result in
     let then = c.settle_held-answer.new.held in
     let took = c.begin_turn-held.ensures.took in
-    let n : Names g.K.Keeper.rows v.terms took.1 took.2 was.book was.members.items was.start = subst (λ (x : _). Names g.K.Keeper.rows v.terms took.1 took.2 x.book x.members.items x.start) (sym c.as_mut.ensures.value) took.4.0 in
+    let n : Names g.K.Keeper.keeper v.terms took.1 took.2 was.book was.members.items was.start = subst (λ (x : _). Names g.K.Keeper.keeper v.terms took.1 took.2 x.book x.members.items x.start) (sym c.as_mut.ensures.value) took.4.0 in
     let one = c.requires.idle.2 in
     let e = c.settle_held-answer.ensures in
     let view : c.begin_turn-held.new.seat.me.0 ≡ has took.1 took.2 (waits took.0 v) = ap (λ (m : Me _ View). m.0) took.3 in
-    let step = subst (λ (n : ℕ). Advances g.K.Keeper.rows g.K.Keeper.faults n was.book now.1.receipt now.1.count then.book) c.requires.number e.advances in
-    let turn = turn_of g.K.Keeper.rows g.K.Keeper.faults (v.low + 1) took.1 was.book then.book now.1 n.has_rows step in
-    let done = done_by g.K.Keeper.rows (v.low + 1) took.1 then.book now.1 in
+    let step = subst (λ (n : ℕ). Advances g.K.Keeper.keeper n was.book now.1.receipt now.1.count then.book) c.requires.number e.advances in
+    let turn = turn_of g.K.Keeper.keeper (v.low + 1) took.1 was.book then.book now.1 n.has_rows step in
+    let done = done_by g.K.Keeper.keeper (v.low + 1) took.1 then.book now.1 in
     let accounts : c.end_turn.new.seat.me.0.accounts ≡ with_head (settled took.1 done) v.accounts =
     ap (λ (m : Me _ View). m.0.accounts) c.end_turn.ensures.rests
-    ∙ ap (λ (x : View). with_head (settled x.rows (done_by g.K.Keeper.rows (x.low + 1) x.rows then.book now.1)) x.accounts) view in
-    subst (λ (l : List Account). IfOk now.0 (SettlesInto (λ s. SettledAs g.K.Keeper.rows g.K.Keeper.faults v.terms c.args.access.now (v.low + 1) (own v.accounts) c.args.ask.now s (own l)) c.args.is_framed c.args.out.now.items c.settle_held-answer.new.out.items)) (sym accounts)
-    (answered g.K.Keeper.rows g.K.Keeper.faults v.terms c.args.access.now (v.low + 1) v.accounts v.low took.2 c.args.ask.now _ _ _ now.0 took.1 was.book then.book now.1 (omega arith) took.4.1 n.same_terms n.has_rows c.requires.number e.ok turn e.receipt e.rise e.rose)
+    ∙ ap (λ (x : View). with_head (settled x.rows (done_by g.K.Keeper.keeper (x.low + 1) x.rows then.book now.1)) x.accounts) view in
+    subst (λ (l : List Account). IfOk now.0 (SettlesInto (λ s. SettledAs g.K.Keeper.keeper v.terms c.args.access.now (v.low + 1) (own v.accounts) c.args.ask.now s (own l)) c.args.is_framed c.args.out.now.items c.settle_held-answer.new.out.items)) (sym accounts)
+    (answered g.K.Keeper.keeper v.terms c.args.access.now (v.low + 1) v.accounts v.low took.2 c.args.ask.now _ _ _ now.0 took.1 was.book then.book now.1 (omega arith) took.4.1 n.same_terms n.has_rows c.requires.number e.ok turn e.receipt e.rise e.rose)
 
 pub returns-clause-err : goal.returns-clause-err
 returns-clause-err g c =
@@ -125,13 +125,13 @@ returns-clause-err g c =
     let now = c.settle_held-answer.result in
     let then = c.settle_held-answer.new.held in
     let took = c.begin_turn-held.ensures.took in
-    let n : Names g.K.Keeper.rows v.terms took.1 took.2 was.book was.members.items was.start = subst (λ (x : _). Names g.K.Keeper.rows v.terms took.1 took.2 x.book x.members.items x.start) (sym c.as_mut.ensures.value) took.4.0 in
+    let n : Names g.K.Keeper.keeper v.terms took.1 took.2 was.book was.members.items was.start = subst (λ (x : _). Names g.K.Keeper.keeper v.terms took.1 took.2 x.book x.members.items x.start) (sym c.as_mut.ensures.value) took.4.0 in
     let one = c.requires.idle.2 in
     let e = c.settle_held-answer.ensures in
     let view : c.begin_turn-held.new.seat.me.0 ≡ has took.1 took.2 (waits took.0 v) = ap (λ (m : Me _ View). m.0) took.3 in
-    let done = done_by g.K.Keeper.rows (v.low + 1) took.1 then.book now.1 in
+    let done = done_by g.K.Keeper.keeper (v.low + 1) took.1 then.book now.1 in
     let accounts : c.end_turn.new.seat.me.0.accounts ≡ with_head (settled took.1 done) v.accounts =
     ap (λ (m : Me _ View). m.0.accounts) c.end_turn.ensures.rests
-    ∙ ap (λ (x : View). with_head (settled x.rows (done_by g.K.Keeper.rows (x.low + 1) x.rows then.book now.1)) x.accounts) view in
+    ∙ ap (λ (x : View). with_head (settled x.rows (done_by g.K.Keeper.keeper (x.low + 1) x.rows then.book now.1)) x.accounts) view in
     subst (λ (l : List Account). OnErr now.0 (LeftAs (own v.accounts) (own l))) (sym accounts)
-    (unanswered g.K.Keeper.rows g.K.Keeper.faults (v.low + 1) v.accounts v.low took.2 now.0 took.1 was.book then.book now.1 (omega arith) took.4.1 e.err e.receipt e.rise)
+    (unanswered g.K.Keeper.keeper (v.low + 1) v.accounts v.low took.2 now.0 took.1 was.book then.book now.1 (omega arith) took.4.1 e.err e.receipt e.rise)

@@ -58,9 +58,9 @@ returns g c =
     let is_slot : Some got.0 ≡ c.take-slot.result = some-injective (Some got.0) c.take-slot.result (sym there ∙ c.take-slot.ensures.value) in
     let h = c.in-Some.held in
     let same : got.0 ≡ h = some_is got.0 h (is_slot ∙ c.in-Some.is) in
-    let n : Names g.K.Keeper.rows t got.2 got.3 h.value.book h.value.members.items h.value.start = subst (λ (y : _). Names g.K.Keeper.rows t got.2 got.3 y.value.book y.value.members.items y.value.start) same got.4 in
+    let n : Names g.K.Keeper.keeper t got.2 got.3 h.value.book h.value.members.items h.value.start = subst (λ (y : _). Names g.K.Keeper.keeper t got.2 got.3 y.value.book y.value.members.items y.value.start) same got.4 in
     let back : c.book_of-book.result ≡ h.value.book = c.book_of-book.ensures ∙ ap (λ (x : _). x.book) c.into_inner.ensures in
-    let kept = subst (λ (b : _). IsKept g.K.Keeper.rows b) back c.journal_len-rows.ensures.book in
-    subst₂ (λ (t2 : BookSeen) (b : _). ClosedFor g.K.Keeper.rows g.K.Keeper.faults t2.terms c.args.passes.items b) (sym is) (sym back)
-    (closed_for g.K.Keeper.rows g.K.Keeper.faults t c.args.passes.items seat.me.0.accounts h.value.book got.2 got.3 h.value.members.items h.value.start n got.5 got.6 got.7 got.8 many h.value.sums h.value.marked kept
+    let kept = subst (λ (b : _). IsKept g.K.Keeper.keeper b) back c.journal_len-rows.ensures.book in
+    subst₂ (λ (t2 : BookSeen) (b : _). ClosedFor g.K.Keeper.keeper t2.terms c.args.passes.items b) (sym is) (sym back)
+    (closed_for g.K.Keeper.keeper t c.args.passes.items seat.me.0.accounts h.value.book got.2 got.3 h.value.members.items h.value.start n got.5 got.6 got.7 got.8 many h.value.sums h.value.marked kept
     c.join_all-seat.ensures.found c.join_all-seat.ensures.faults)

@@ -12,16 +12,16 @@ pub new-requires : goal.new-requires
 new-requires g c =
     let h = c.in-Ok-new_held.held in
     let book = c.args.book in
-    let t : Terms = terms_at g.K.Keeper.rows g.K.Keeper.faults book c.args.seats in
+    let t : Terms = terms_at g.K.Keeper.keeper book c.args.seats in
     let made = c.in-Ok-new_held.ensures.book in
     let deed : terms_of c.in-Some-deed.terms.views ≡ t = ap terms_of c.in-Some-deed.ensures in
     let is : c.push_reserved.new.self.items ≡ Some h ∷ [] = c.push_reserved.ensures.items ∙ ap (λ (xs : List (Option _)). xs ++ Some h ∷ []) c.in-Ok-with_capacity.ensures.items in
-    let named = opening_named g.K.Keeper.rows book c.journal_len-rows.ensures.book in
-    subst₂ (λ (x : Terms) (xs : List (Option _)). Kept (λ t rows members h. Names g.K.Keeper.rows t rows members h.value.book h.value.members.items h.value.start) x (opening (0 ∷ 0 ∷ c.journal_len-rows.result ∷ []) xs (first_view x))) (sym deed) (sym is)
-    (opens (λ t rows members h. Names g.K.Keeper.rows t rows members h.value.book h.value.members.items h.value.start) t c.journal_len-rows.result h t.rows h.value.members.items
+    let named = opening_named g.K.Keeper.keeper book c.journal_len-rows.ensures.book in
+    subst₂ (λ (x : Terms) (xs : List (Option _)). Kept (λ t rows members h. Names g.K.Keeper.keeper t rows members h.value.book h.value.members.items h.value.start) x (opening (0 ∷ 0 ∷ c.journal_len-rows.result ∷ []) xs (first_view x))) (sym deed) (sym is)
+    (opens (λ t rows members h. Names g.K.Keeper.keeper t rows members h.value.book h.value.members.items h.value.start) t c.journal_len-rows.result h t.rows h.value.members.items
     (c.journal_len-rows.ensures.is ∙ sym named.count) c.requires.seats.1
     (record {
-      has_rows = subst (λ (b : _). NamesRows g.K.Keeper.rows b t.rows) (sym made.0) named;
+      has_rows = subst (λ (b : _). NamesRows g.K.Keeper.keeper b t.rows) (sym made.0) named;
       has_members = refl;
       same_start = made.1;
       same_terms = record { origin = ap (λ (b : _). b.zone.origin) made.0; updates = ap (λ (b : _). b.allow_update) made.0 };
@@ -36,8 +36,8 @@ held_back-requires g c =
 pub share_out-passes-requires-clause-seen : goal.share_out-passes-requires-clause-seen
 share_out-passes-requires-clause-seen g c =
     let book = c.args.book in
-    let t : Terms = terms_at g.K.Keeper.rows g.K.Keeper.faults book c.args.seats in
+    let t : Terms = terms_at g.K.Keeper.keeper book c.args.seats in
     let deed : terms_of c.in-Some-deed.terms.views ≡ t = ap terms_of c.in-Some-deed.ensures in
     let key = ap (λ (b : _). terms_of b.views) c.in-Ok-new.ensures.ok.5 in
-    let named = opening_named g.K.Keeper.rows book c.journal_len-rows.ensures.book in
+    let named = opening_named g.K.Keeper.keeper book c.journal_len-rows.ensures.book in
     ap (λ (x : Terms). length x.rows) (key ∙ deed) ∙ (named.count ∙ sym c.journal_len-rows.ensures.is)

@@ -7,4 +7,4 @@ from_frame-requires g c = frame_into _ _ _ c.in_ok-into.into c.new-frame.ensures
 
 pub returns-clause-ok : goal.returns-clause-ok
 returns-clause-ok g c =
-    settled_back (λ s. SettledBy g.K.Keeper.rows g.K.Keeper.faults c.args.access.now c.args.pass.now c.args.ask.now s c.settle_into.new.pass) _ _ c.in_ok-into.into c.from_frame.result c.new-frame.ensures.items c.in_ok-into.ensures.ok c.from_frame.ensures
+    settled_back (λ s. SettledBy g.K.Keeper.keeper c.args.access.now c.args.pass.now c.args.ask.now s c.settle_into.new.pass) _ _ c.in_ok-into.into c.from_frame.result c.new-frame.ensures.items c.in_ok-into.ensures.ok c.from_frame.ensures

@@ -41,8 +41,8 @@ returns-clause-ok g c =
     (ap (λ (x : View). x.terms) view2 ∙ (e.low.1 ∙ sym terms))
     (sym (ap (λ (x : PassSeen). x.number) is))
     (ap (λ (x : View). own x.accounts) view2) in
-    let by : Terms → ℕ → _ = λ t n. SettledAs g.K.Keeper.rows g.K.Keeper.faults t c.args.access.now n in
-    let by_pass = SettledBy g.K.Keeper.rows g.K.Keeper.faults c.args.access.now in
+    let by : Terms → ℕ → _ = λ t n. SettledAs g.K.Keeper.keeper t c.args.access.now n in
+    let by_pass = SettledBy g.K.Keeper.keeper c.args.access.now in
     let asks : List Ask = first_asks c.args.ask.now c.args.most c.args.bytes.now in
     let had = c.args.replies.now.items in
     let now = c.settle_turns-answer.new.replies.items in
@@ -51,7 +51,7 @@ returns-clause-ok g c =
     let numbered = subst (λ (n : ℕ). Adds (by old.terms n) (own old.accounts) (first_asks (asked_by n c.args.ask.now) c.args.most c.args.bytes.now) (own new.accounts) had now) client x in
     let mine = subst (λ (t : Terms). Adds (by t p.number) (own old.accounts) (first_asks (asked_by p.number c.args.ask.now) c.args.most c.args.bytes.now) (own new.accounts) had now) (sym terms) numbered in
     subst₂ (λ (one other : PassSeen). Adds by_pass one asks other had now) before (sym after)
-    (passes-adds g.K.Keeper.rows g.K.Keeper.faults c.args.access.now p c.args.ask.now (first_messages c.args.most c.args.bytes.now) (own old.accounts) (own new.accounts) had now mine)) e.ok
+    (passes-adds g.K.Keeper.keeper c.args.access.now p c.args.ask.now (first_messages c.args.most c.args.bytes.now) (own old.accounts) (own new.accounts) had now mine)) e.ok
 
 pub returns-clause-err : goal.returns-clause-err
 returns-clause-err g c =
@@ -76,12 +76,12 @@ returns-clause-err g c =
     (ap (λ (x : View). x.terms) view2 ∙ (e.low.1 ∙ sym terms))
     (sym (ap (λ (x : PassSeen). x.number) is))
     (ap (λ (x : View). own x.accounts) view2) in
-    let by : Terms → ℕ → _ = λ t n. SettledAs g.K.Keeper.rows g.K.Keeper.faults t c.args.access.now n in
-    let by_pass = SettledBy g.K.Keeper.rows g.K.Keeper.faults c.args.access.now in
+    let by : Terms → ℕ → _ = λ t n. SettledAs g.K.Keeper.keeper t c.args.access.now n in
+    let by_pass = SettledBy g.K.Keeper.keeper c.args.access.now in
     let asks : List Ask = first_asks c.args.ask.now c.args.most c.args.bytes.now in
     on_err_map c.settle_turns-answer.result _ _
     (λ x.
     let numbered = subst (λ (n : ℕ). Halts (by old.terms n) LeftAs (own old.accounts) (first_asks (asked_by n c.args.ask.now) c.args.most c.args.bytes.now) (own new.accounts)) client x in
     let mine = subst (λ (t : Terms). Halts (by t p.number) LeftAs (own old.accounts) (first_asks (asked_by p.number c.args.ask.now) c.args.most c.args.bytes.now) (own new.accounts)) (sym terms) numbered in
     subst₂ (λ (one other : PassSeen). Halts by_pass LeftBy one asks other) before (sym after)
-    (passes-halts g.K.Keeper.rows g.K.Keeper.faults c.args.access.now p c.args.ask.now (first_messages c.args.most c.args.bytes.now) (own old.accounts) (own new.accounts) mine)) e.err
+    (passes-halts g.K.Keeper.keeper c.args.access.now p c.args.ask.now (first_messages c.args.most c.args.bytes.now) (own old.accounts) (own new.accounts) mine)) e.err

@@ -28,9 +28,9 @@ returns-clause-ok g c =
       terms = ap (λ (x : View). x.terms) view2 ∙ (e.low.1 ∙ (ap (λ (x : View). x.terms) (sym view) ∙ sym (ap (λ (p : PassSeen). p.terms) is)));
       number = sym (ap (λ (p : PassSeen). p.number) is);
     } in
-    into_ok (λ s. SettledAs g.K.Keeper.rows g.K.Keeper.faults old.terms c.args.access.now (old.low + 1) (own old.accounts) c.asked_as-asked.result s (own new.accounts))
-    (λ s. SettledBy g.K.Keeper.rows g.K.Keeper.faults c.args.access.now before c.args.ask.now s after) _ _ _ c.settle_seat-answer.result.0
-    (λ s. settled_by g.K.Keeper.rows g.K.Keeper.faults c.args.access.now before after c.args.ask.now c.asked_as-asked.result s old new
+    into_ok (λ s. SettledAs g.K.Keeper.keeper old.terms c.args.access.now (old.low + 1) (own old.accounts) c.asked_as-asked.result s (own new.accounts))
+    (λ s. SettledBy g.K.Keeper.keeper c.args.access.now before c.args.ask.now s after) _ _ _ c.settle_seat-answer.result.0
+    (λ s. settled_by g.K.Keeper.keeper c.args.access.now before after c.args.ask.now c.asked_as-asked.result s old new
     (ap (λ (p : PassSeen). p.terms) is ∙ ap (λ (x : View). x.terms) view)
     (ap (λ (p : PassSeen). p.number) is ∙ number)
     (ap (λ (p : PassSeen). p.account) is ∙ ap (λ (x : View). own x.accounts) view)
