@@ -1,7 +1,9 @@
 #!/usr/bin/env python3
-"""Reads the texts that other tools read: the pages for man, the shell scripts, the units for systemd.
+"""Reads the texts that people and other tools read: the pages of docs/, those for man, the shell scripts, the units for systemd.
 
-- the pages name each option and each status that `--help` names;
+- each link from a page of docs/ to another, and each page and file that a text names by its path, leads to what is there;
+- each file that docs/MAP.md names is there;
+- the pages for man name each option and each status that `--help` names;
 - `mandoc -Tlint`, `shellcheck` and `systemd-analyze verify` find no fault in them, each where it is installed, and else it is passed over with a line.
 
 It needs no built program: the help stands in the sources. Uses the standard library alone.
@@ -17,6 +19,9 @@ from pathlib import Path
 TOP = Path(__file__).resolve().parent.parent
 PAGES = {"man/dns.8": "crates/dns_command/src/help.rt", "man/dns-nsupdate.1": "crates/dns_update_client/src/help.rt"}
 SCRIPTS = ["dns", ".ci/run"]
+MAP = TOP / "docs/MAP.md"
+# What a text names that stands at the top of the repository: a page, a script, an example.
+NAMED = re.compile(r"(?<![\w/.-])(?:docs|checks|bench|examples|man|crates)/[\w./*-]*[\w*]")
 UNITS = ["examples/dns.service", "examples/dns.socket"]
 
 
@@ -28,6 +33,61 @@ def lacks(page, source):
     statuses = re.findall(r"^  (\d+) ", told[told.index("Exit status") :], re.M)
     faults = [f"--{it}" for it in options if f"Fl -{it}" not in text and f"| -{it}" not in text]
     return faults + [f"status {it}" for it in statuses if f".It {it}\n" not in text]
+
+
+def pages_of_docs():
+    """The pages that people read, in Markdown."""
+    return sorted([*TOP.glob("*.md"), *(TOP / "docs").rglob("*.md")])
+
+
+def lost_links():
+    """The links of the pages that lead to no file, and the paths of texts that no file has. A `*` in a path stands for any name; what a build
+    makes (`out`) may be there or not."""
+    faults = []
+    for page in pages_of_docs():
+        for target in re.findall(r"\]\(([^)#\s]+)[^)]*\)", page.read_text(encoding="utf-8")):
+            if "://" not in target and not (page.parent / target).exists():
+                faults.append(f"{page.relative_to(TOP)}: no file for the link {target}")
+    sources = [*(TOP / "crates").glob("*/src/*.rt"), *(TOP / "crates").glob("*/specs/*.antt"), *(TOP / "checks").rglob("*.py"), *(TOP / "bench").glob("*.py")]
+    for text in [*pages_of_docs(), *sorted(sources)]:
+        for named in sorted(set(NAMED.findall(text.read_text(encoding="utf-8")))):
+            if not re.search(r"/(CRATE|out)\b", named) and not list(TOP.glob(named)):
+                faults.append(f"{text.relative_to(TOP)}: no file {named}")
+    return faults
+
+
+def files_named(cell, folder):
+    """The files that a cell of a table names in backticks, each with the folder in which it should be: a path that begins with a crate gives
+    the folder of the names behind it, and one that begins with src/ or specs/ stands in the folder's crate."""
+    found = []
+    for name in re.findall(r"`([^`\s]+\.(?:rt|antt))`", cell):
+        if re.match(r"dns_\w+/", name):
+            folder = (TOP / "crates" / name).parent
+            found.append(TOP / "crates" / name)
+        elif "/" in name and folder:
+            found.append((folder if folder.parent.name == "crates" else folder.parent) / name)
+        elif folder:
+            found.append(folder / name)
+    return found
+
+
+def lost_files():
+    """The files that the map names, and that are not there. In a table each cell is read by itself, with the crate of the row's first cell before
+    it; elsewhere a name alone is looked for in all crates."""
+    faults = []
+    all_names = {it.name for it in (TOP / "crates").glob("*/*/*") if it.suffix in (".rt", ".antt")}
+    for number, line in enumerate(MAP.read_text(encoding="utf-8").splitlines(), 1):
+        if line.startswith("|"):
+            first, *cells = line.strip("|").split("|")
+            crate = TOP / "crates" / first.strip()
+            names = [it for cell in cells for it in files_named(cell, crate if crate.is_dir() else None)]
+            lost = [str(it.relative_to(TOP)) for it in names if not it.exists()]
+        else:
+            named = re.findall(r"`([^`\s]+\.(?:rt|antt))`", line)
+            lost = [it for it in named if "/" in it and it.startswith("dns_") and not (TOP / "crates" / it).exists()]
+            lost += [it for it in named if it.rsplit("/", 1)[-1] not in all_names]
+        faults += [f"docs/MAP.md line {number}: no file {it}" for it in lost]
+    return faults
 
 
 def lint(words, what):
@@ -49,7 +109,8 @@ def units(home):
 
 
 def main():
-    faults = [f"{page} does not name {it}" for page, source in PAGES.items() for it in lacks(page, source)]
+    faults = lost_links() + lost_files()
+    faults += [f"{page} does not name {it}" for page, source in PAGES.items() for it in lacks(page, source)]
     pages = sorted(str(it.relative_to(TOP)) for it in (TOP / "man").iterdir())
     with tempfile.TemporaryDirectory() as home:
         said = [
@@ -60,7 +121,7 @@ def main():
     faults += [it for text in said for it in text.splitlines()]
     for fault in faults:
         print(f"texts: {fault}")
-    print(f"texts: {len(pages)} pages, {len(SCRIPTS)} scripts, {len(UNITS)} units, {len(faults)} faults")
+    print(f"texts: {len(pages_of_docs())} pages of docs, {len(pages)} for man, {len(SCRIPTS)} scripts, {len(UNITS)} units, {len(faults)} faults")
     sys.exit(1 if faults else 0)
 
 
