@@ -71,9 +71,18 @@ def files_named(cell, folder):
     return found
 
 
+def lost_words(cell):
+    """The words that stand in brackets behind a file in a cell, in backticks, and that the file does not have."""
+    lost = []
+    for name, words in re.findall(r"`(dns_\w+/[^`\s]+)` \(((?:`[^`]+`(?:, )?)+)\)", cell):
+        text = (TOP / "crates" / name).read_text(encoding="utf-8") if (TOP / "crates" / name).exists() else ""
+        lost += [f"{word} in {name}" for word in re.findall(r"`([^`]+)`", words) if word not in text]
+    return lost
+
+
 def lost_files():
     """The files that the map names, and that are not there. In a table each cell is read by itself, with the crate of the row's first cell before
-    it; elsewhere a name alone is looked for in all crates."""
+    it; elsewhere a name alone is looked for in all crates. A word in brackets behind a file has to stand in it."""
     faults = []
     all_names = {it.name for it in (TOP / "crates").glob("*/*/*") if it.suffix in (".rt", ".antt")}
     for number, line in enumerate(MAP.read_text(encoding="utf-8").splitlines(), 1):
@@ -81,12 +90,12 @@ def lost_files():
             first, *cells = line.strip("|").split("|")
             crate = TOP / "crates" / first.strip()
             names = [it for cell in cells for it in files_named(cell, crate if crate.is_dir() else None)]
-            lost = [str(it.relative_to(TOP)) for it in names if not it.exists()]
+            lost = [str(it.relative_to(TOP)) for it in names if not it.exists()] + [it for cell in cells for it in lost_words(cell)]
         else:
             named = re.findall(r"`([^`\s]+\.(?:rt|antt))`", line)
             lost = [it for it in named if "/" in it and it.startswith("dns_") and not (TOP / "crates" / it).exists()]
             lost += [it for it in named if it.rsplit("/", 1)[-1] not in all_names]
-        faults += [f"docs/MAP.md line {number}: no file {it}" for it in lost]
+        faults += [f"docs/MAP.md line {number}: there is no {it}" for it in lost]
     return faults
 
 
