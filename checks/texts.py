@@ -2,7 +2,7 @@
 """Reads the texts that people and other tools read: the pages of docs/, those for man, the shell scripts, the units for systemd.
 
 - each link from a page of docs/ to another, and each page and file that a text names by its path, leads to what is there;
-- each file that docs/MAP.md names is there;
+- each file that docs/MAP.md names is there, and so is each line of the contract that docs/CONTRACTS.md copies;
 - the pages for man name each option and each status that `--help` names;
 - `mandoc -Tlint`, `shellcheck` and `systemd-analyze verify` find no fault in them, each where it is installed, and else it is passed over with a line.
 
@@ -20,6 +20,8 @@ TOP = Path(__file__).resolve().parent.parent
 PAGES = {"man/dns.8": "crates/dns_command/src/help.rt", "man/dns-nsupdate.1": "crates/dns_update_client/src/help.rt"}
 SCRIPTS = ["dns", ".ci/run"]
 MAP = TOP / "docs/MAP.md"
+CONTRACTS = TOP / "docs/CONTRACTS.md"
+READ_ALOUD = ["crates/dns_book/src/book.rt", "crates/dns_book/specs/Book.antt"]
 # What a text names that stands at the top of the repository: a page, a script, an example.
 NAMED = re.compile(r"(?<![\w/.-])(?:docs|checks|bench|examples|man|crates)/[\w./*-]*[\w*]")
 UNITS = ["examples/dns.service", "examples/dns.socket"]
@@ -99,6 +101,15 @@ def lost_files():
     return faults
 
 
+def stale_lines():
+    """The lines of the contract that docs/CONTRACTS.md reads aloud which stand in none of the files that it is copied from."""
+    page = CONTRACTS.read_text(encoding="utf-8")
+    section = page[page.index("## One contract, read aloud") :].split("\n## ")[0]
+    copied = [it.strip() for it in section.splitlines() if it.startswith("    ")]
+    there = {it.strip() for file in READ_ALOUD for it in (TOP / file).read_text(encoding="utf-8").splitlines()}
+    return [f"docs/CONTRACTS.md: this line stands in the sources no more: {it}" for it in copied if it not in there]
+
+
 def lint(words, what):
     """What a tool says of files, or nothing; where it is not installed, a line says so."""
     if not shutil.which(words[0]):
@@ -118,7 +129,7 @@ def units(home):
 
 
 def main():
-    faults = lost_links() + lost_files()
+    faults = lost_links() + lost_files() + stale_lines()
     faults += [f"{page} does not name {it}" for page, source in PAGES.items() for it in lacks(page, source)]
     pages = sorted(str(it.relative_to(TOP)) for it in (TOP / "man").iterdir())
     with tempfile.TemporaryDirectory() as home:
