@@ -4,18 +4,19 @@ ghost use Rattle.std.specs.Prelude.{◌≡◌, ◌≤◌, ◌<◌, IfOk, length}
 
 use crate::quic::put_taken;
 use crate::steps::{Steps, all_steps};
-use crate::words::{number, numbers, put, show, two};
+use crate::words::{put, show};
 use bytes::Bytes;
 use dns_io::{IoFault, Octets};
 use dns_net::{BodyPieces, MemoryBody, NetError, fetch_body};
+use dns_rows::{first_field, numbers_of, size};
 use std::alloc::Global;
 use std::collections::LinkedList;
 use std::test::Fail;
 
 /// What is done with a body: `LENGTHS|FAILING CALLS|STEPS`.
 pub fn body(alloc: Global, fields: &str, answer: &mut String) -> Result<(), Fail> {
-    let (lengths, rest) = two(fields);
-    let (failing, steps) = two(rest);
+    let (lengths, rest) = first_field(fields);
+    let (failing, steps) = first_field(rest);
     let mut body = body_of(alloc, lengths, failing)?;
     all_steps(alloc, &mut body, steps, answer)
 }
@@ -28,11 +29,11 @@ pub fn body_of(alloc: Global, lengths: &str, failing: &str) -> Result<MemoryBody
     let mut pieces = LinkedList::new(alloc);
     for word in lengths.split(' ') {
         match word.split_once('*') {
-            Some((_, count)) => add_single(&mut pieces, number(count))?,
+            Some((_, count)) => add_single(&mut pieces, size(count))?,
             None => add_piece(alloc, &mut pieces, word)?,
         }
     }
-    Ok(MemoryBody::new(pieces, numbers(alloc, failing)?))
+    Ok(MemoryBody::new(pieces, numbers_of(alloc, failing)?))
 }
 
 /// Adds a piece of this length, where it is a number.
@@ -89,8 +90,8 @@ fn put_piece(piece: Result<Option<Bytes>, IoFault>, answer: &mut String) -> Resu
 
 /// What comes of a body of so many bytes, wherever it is cut in two.
 pub fn cut(alloc: Global, fields: &str, answer: &mut String) -> Result<(), Fail> {
-    let (count, places) = two(fields);
-    let mut whole = Bytes::from_vec(vec![in alloc; 7u8; number(count)]?)?;
+    let (count, places) = first_field(fields);
+    let mut whole = Bytes::from_vec(vec![in alloc; 7u8; size(count)]?)?;
     all_steps(alloc, &mut whole, places, answer)
 }
 
@@ -103,7 +104,7 @@ impl Steps for Bytes {
         _with: &str,
         answer: &mut String,
     ) -> Result<(), Fail> {
-        let mut body = cut_at(alloc, self, number(word).min(self.len()))?;
+        let mut body = cut_at(alloc, self, size(word).min(self.len()))?;
         put_fetched(fetch_body(alloc, &mut body, None), answer)
     }
 }
@@ -130,12 +131,12 @@ pub fn reply_in_pieces(alloc: Global, size: usize, failing: &str) -> Result<Memo
     for piece in REPLY.chunks(size) {
         pieces.push_back(Bytes::copy_from_slice(alloc, piece)?)?;
     }
-    Ok(MemoryBody::new(pieces, numbers(alloc, failing)?))
+    Ok(MemoryBody::new(pieces, numbers_of(alloc, failing)?))
 }
 
 /// What is done with the reply in pieces of so many bytes.
 pub fn reply(alloc: Global, fields: &str, answer: &mut String) -> Result<(), Fail> {
-    let (size, steps) = two(fields);
-    let mut body = reply_in_pieces(alloc, number(size).max(1), "")?;
+    let (size, steps) = first_field(fields);
+    let mut body = reply_in_pieces(alloc, size(size).max(1), "")?;
     all_steps(alloc, &mut body, steps, answer)
 }

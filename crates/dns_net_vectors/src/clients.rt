@@ -6,12 +6,13 @@ ghost use Rattle.dns_quic.specs.Memory.{AreFresh};
 use crate::halves::{send_of, taking};
 use crate::quic::put_received;
 use crate::steps::{Steps, all_steps};
-use crate::words::{bytes_of, numbers, put, put_bytes, say, show, two};
+use crate::words::{put, say, show};
 use dns_io::{Ip, Octets, Peer};
 use dns_name::Name;
 use dns_quic::{
     MemoryRecv, MemorySend, MemoryStreams, QuicClientStream, QuicStream, QuicStreams, StreamCall,
 };
+use dns_rows::{bytes_of, first_field, numbers_of, put_bytes};
 use dns_transport::NetError;
 use dns_wire::{Data, Message, Record};
 use std::alloc::Global;
@@ -80,9 +81,9 @@ fn client_of(
 ) -> Result<QuicClientStream<MemoryStreams>, Fail>
     requires { AreFresh streams }
 {
-    let (failing, late) = two(calls);
-    let failing = numbers(alloc, failing)?;
-    let late = numbers(alloc, late)?;
+    let (failing, late) = first_field(calls);
+    let failing = numbers_of(alloc, failing)?;
+    let late = numbers_of(alloc, late)?;
     let none = LinkedList::new(alloc);
     let opener = MemoryStreams::new(alloc, streams, none, failing, late, Vec::new(alloc));
     let mut builder = QuicClientStream::<MemoryStreams>::builder();
@@ -97,8 +98,8 @@ fn client_of(
 /// What is done with a client: `FAILING SENDS|WHAT COMES|FAILING OPENINGS|LATE OPENINGS|STEPS`.
 pub fn quic_client(alloc: Global, fields: &str, answer: &mut String) -> Result<(), Fail> {
     let (setup, steps) = fields.rsplit_once('|').unwrap_or((fields, ""));
-    let (sends, rest) = two(setup);
-    let (reads, calls) = two(rest);
+    let (sends, rest) = first_field(setup);
+    let (reads, calls) = first_field(rest);
     let mut client = client_of(alloc, streams_of(alloc, sends, reads)?, calls)?;
     all_steps(alloc, &mut client, steps, answer)
 }
@@ -166,9 +167,9 @@ pub fn put_half(send: &MemorySend, answer: &mut String) -> Result<(), Fail> {
 
 /// The streams that the other side opens, of whose acceptings these fail.
 pub fn accepted(alloc: Global, fields: &str, answer: &mut String) -> Result<(), Fail> {
-    let (failing, steps) = two(fields);
+    let (failing, steps) = first_field(fields);
     let coming = streams_of(alloc, "", "")?;
-    let failing = numbers(alloc, failing)?;
+    let failing = numbers_of(alloc, failing)?;
     let none = LinkedList::new(alloc);
     let opener = MemoryStreams::new(
         alloc,

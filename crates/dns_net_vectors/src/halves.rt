@@ -3,9 +3,10 @@
 ghost use Rattle.std.specs.Prelude.{◌≡◌, ◌<◌, IfOk};
 
 use crate::steps::Steps;
-use crate::words::{numbers, put, put_bytes};
+use crate::words::put;
 use dns_io::{IoFault, Octets};
 use dns_quic::{MemoryRecv, MemorySend, RecvHalf};
+use dns_rows::{numbers_of, put_bytes};
 use std::alloc::Global;
 use std::test::Fail;
 
@@ -13,7 +14,7 @@ use std::test::Fail;
 pub fn send_of(alloc: Global, partly: usize, failing: &str) -> Result<MemorySend, Fail>
     ensures { IfOk result (λ send. send.faults ≡ 0) }
 {
-    Ok(MemorySend::new(alloc, partly, numbers(alloc, failing)?))
+    Ok(MemorySend::new(alloc, partly, numbers_of(alloc, failing)?))
 }
 
 /// A receiving half of these bytes, of which a read gives at most `step`, with the numbers of its calls that fail.
@@ -22,7 +23,7 @@ pub fn taking(alloc: Global, bytes: &[u8], step: usize, failing: &str) -> Result
     ensures { IfOk result (λ recv. recv.faults ≡ 0) }
 {
     let bytes = Octets::from_slice(alloc, bytes)?;
-    Ok(MemoryRecv::new(alloc, bytes, step, numbers(alloc, failing)?))
+    Ok(MemoryRecv::new(alloc, bytes, step, numbers_of(alloc, failing)?))
 }
 
 /// Reads at most nine bytes, or tells the codes with which it was stopped, or how many calls failed.

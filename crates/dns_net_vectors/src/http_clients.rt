@@ -10,9 +10,10 @@ use crate::multicast::peer_of;
 use crate::quic::put_received;
 use crate::requests::put_field;
 use crate::steps::part;
-use crate::words::{numbers, put, put_bytes, say, show, two};
+use crate::words::{put, say, show};
 use dns_io::Octets;
 use dns_net::{H3ClientStream, HttpsClientStream, LinkCall, MemoryBody, MemoryLink};
+use dns_rows::{first_field, numbers_of, put_bytes};
 use http::response::Parts;
 use http::{Request, Response, StatusCode};
 use std::alloc::Global;
@@ -21,7 +22,7 @@ use std::test::Fail;
 
 /// The head of a response: `STATUS|CONTENT-TYPE|CONTENT-LENGTH`.
 fn head_of(alloc: Global, status: u16, fields: &str) -> Result<Parts, Fail> {
-    let (kind, length) = two(fields);
+    let (kind, length) = first_field(fields);
     let mut head = Parts::new(alloc);
     head.status = StatusCode::from_u16(status)?;
     put_field(alloc, &mut head.headers, http::header::CONTENT_TYPE, kind)?;
@@ -67,9 +68,9 @@ fn responses_of(
 fn link_of(alloc: Global, setup: &str) -> Result<MemoryLink, Fail> {
     let (setup, late) = setup.rsplit_once('|').unwrap_or((setup, ""));
     let (setup, failing) = setup.rsplit_once('|').unwrap_or((setup, ""));
-    let (status, fields) = two(setup);
-    let failing = numbers(alloc, failing)?;
-    let late = numbers(alloc, late)?;
+    let (status, fields) = first_field(setup);
+    let failing = numbers_of(alloc, failing)?;
+    let late = numbers_of(alloc, late)?;
     Ok(MemoryLink::new(alloc, responses_of(alloc, status, fields)?, failing, late))
 }
 
@@ -120,7 +121,7 @@ pub fn https_client(alloc: Global, fields: &str, answer: &mut String) -> Result<
 
 /// The same over HTTP/3 to this address: `ADDRESS|LINK|OBJECT|STEPS`.
 pub fn h3_client(alloc: Global, fields: &str, answer: &mut String) -> Result<(), Fail> {
-    let (address, fields) = two(fields);
+    let (address, fields) = first_field(fields);
     let (fields, steps) = fields.rsplit_once('|').unwrap_or((fields, ""));
     let (setup, object) = fields.rsplit_once('|').unwrap_or((fields, ""));
     let query = query(alloc)?;

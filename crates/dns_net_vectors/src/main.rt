@@ -16,7 +16,7 @@ mod runtime;
 mod steps;
 mod words;
 
-use crate::words::two;
+use dns_rows::first_field;
 use std::alloc::Global;
 use std::io;
 use std::test::Fail;
@@ -43,7 +43,7 @@ fn tell(rt: &HostRuntime, row: &str) -> Result<(), Fail> {
 
 /// Adds what comes of a row.
 fn answer_to(alloc: Global, given: &str, answer: &mut String) -> Result<(), Fail> {
-    let (kind, fields) = two(given);
+    let (kind, fields) = first_field(given);
     match kind {
         "socket" => runtime::socket(alloc, fields, answer),
         "runtime" => runtime::runtime(alloc, answer),

@@ -4,11 +4,12 @@ ghost use Rattle.std.specs.Prelude.{◌≡◌, IfOk};
 ghost use Rattle.std.specs.Option.{is_some};
 
 use crate::steps::{Steps, all_steps};
-use crate::words::{numbers, show, two};
+use crate::words::show;
 use dns_io::{Ip, Octets, Peer};
 use dns_multicast::{
     MdnsClientStream, MdnsQueryType, MdnsStream, MemoryPackets, Packet, mdns_port,
 };
+use dns_rows::{first_field, numbers_of};
 use dns_transport::{Address, NetError, Poll};
 use std::alloc::Global;
 use std::collections::LinkedList;
@@ -51,8 +52,8 @@ fn source_of(alloc: Global, word: &str) -> Result<MemoryPackets, Fail> {
     let (bytes, calls) = word.split_once('/').unwrap_or((word, ""));
     let (failing, pending) = calls.split_once('/').unwrap_or((calls, ""));
     let packets = packets_of(alloc, bytes.as_bytes())?;
-    let failing = numbers(alloc, failing)?;
-    Ok(MemoryPackets::new(packets, failing, numbers(alloc, pending)?))
+    let failing = numbers_of(alloc, failing)?;
+    Ok(MemoryPackets::new(packets, failing, numbers_of(alloc, pending)?))
 }
 
 /// Packets of one byte each from 192.0.2.1.
@@ -97,10 +98,10 @@ pub fn group(alloc: Global, fields: &str, answer: &mut String) -> Result<(), Fai
 }
 
 fn stream_of(alloc: Global, setup: &str) -> Result<Result<Stream, NetError>, Fail> {
-    let (address, rest) = two(setup);
-    let (kind, sources) = two(rest);
+    let (address, rest) = first_field(setup);
+    let (kind, sources) = first_field(rest);
     let kind = kind_of(kind);
-    let (one, other) = two(sources);
+    let (one, other) = first_field(sources);
     let datagrams = source_if(alloc, kind.sender(), one)?;
     let group = source_if(alloc, kind.join_multicast(), other)?;
     Ok(match address {
@@ -155,10 +156,10 @@ pub fn group_client(alloc: Global, fields: &str, answer: &mut String) -> Result<
 }
 
 fn client_of(alloc: Global, setup: &str) -> Result<Result<Client, NetError>, Fail> {
-    let (address, rest) = two(setup);
-    let (kind, sources) = two(rest);
+    let (address, rest) = first_field(setup);
+    let (kind, sources) = first_field(rest);
     let kind = kind_of(kind);
-    let (one, other) = two(sources);
+    let (one, other) = first_field(sources);
     let datagrams = source_if(alloc, kind.sender(), one)?;
     let group = source_if(alloc, kind.join_multicast(), other)?;
     Ok(match address {

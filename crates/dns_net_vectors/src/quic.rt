@@ -2,9 +2,10 @@
 
 use crate::halves::{send_of, taking};
 use crate::steps::{Steps, all_steps};
-use crate::words::{bytes_of, number, put, put_bytes, say, show, two};
+use crate::words::{put, say, show};
 use dns_io::Octets;
 use dns_quic::{BodyStream, DoqErrorCode, MemoryRecv, MemorySend, QuicStream};
+use dns_rows::{bytes_of, first_field, put_bytes, size};
 use dns_transport::{BodyPieces, NetError};
 use dns_wire::Message;
 use std::alloc::Global;
@@ -26,9 +27,9 @@ fn code_of(word: &str) -> DoqErrorCode {
 /// A stream with bytes to receive, at most so many at once, and the numbers of the calls of its halves that fail:
 /// `BYTES|STEP|FAILING SENDS|FAILING READS`.
 fn stream_of(alloc: Global, setup: &str) -> Result<Stream, Fail> {
-    let (digits, rest) = two(setup);
-    let (step, rest) = two(rest);
-    let (sends, reads) = two(rest);
+    let (digits, rest) = first_field(setup);
+    let (step, rest) = first_field(rest);
+    let (sends, reads) = first_field(rest);
     let send = send_of(alloc, 1, sends)?;
     let recv = recv_of(alloc, digits, step, reads)?;
     Ok(QuicStream::new(send, recv))
@@ -36,7 +37,7 @@ fn stream_of(alloc: Global, setup: &str) -> Result<Stream, Fail> {
 
 pub fn recv_of(alloc: Global, digits: &str, step: &str, failing: &str) -> Result<MemoryRecv, Fail> {
     let bytes = bytes_of(alloc, digits)?;
-    taking(alloc, bytes.as_slice(), number(step).max(1), failing)
+    taking(alloc, bytes.as_slice(), size(step).max(1), failing)
 }
 
 /// What is done with a stream.
@@ -58,7 +59,7 @@ impl Steps for Stream {
             "take" => put_taken(self.receive_bytes(alloc), answer),
             "receive" => put_received(alloc, self.receive(alloc), answer),
             "send" => say(answer, self.send_bytes(with.as_bytes()), "sent"),
-            "many" => send_many(alloc, self, number(with), answer),
+            "many" => send_many(alloc, self, size(with), answer),
             "finish" => say(answer, self.finish(), "finished"),
             "reset" => say(answer, self.reset(code_of(with)), "reset"),
             "stop" => say(answer, self.stop(code_of(with)), "stopped"),
@@ -128,9 +129,9 @@ pub fn halves(alloc: Global, fields: &str, answer: &mut String) -> Result<(), Fa
 
 /// What is done with a receiving half as a body: `BYTES|STEP|FAILING|STEPS`.
 pub fn half_body(alloc: Global, fields: &str, answer: &mut String) -> Result<(), Fail> {
-    let (digits, rest) = two(fields);
-    let (step, rest) = two(rest);
-    let (failing, steps) = two(rest);
+    let (digits, rest) = first_field(fields);
+    let (step, rest) = first_field(rest);
+    let (failing, steps) = first_field(rest);
     let mut body = BodyStream::from(recv_of(alloc, digits, step, failing)?);
     all_steps(alloc, &mut body, steps, answer)
 }
@@ -152,7 +153,7 @@ impl Steps for BodyStream<MemoryRecv> {
 
 /// What a message is as it is sent and received.
 pub fn message(alloc: Global, fields: &str, answer: &mut String) -> Result<(), Fail> {
-    let (digits, steps) = two(fields);
+    let (digits, steps) = first_field(fields);
     let bytes = bytes_of(alloc, digits)?;
     let mut message = Message::from_vec(alloc, bytes.as_slice())?;
     all_steps(alloc, &mut message, steps, answer)

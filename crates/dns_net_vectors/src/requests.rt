@@ -4,8 +4,9 @@ use crate::bodies::body_of;
 use crate::header_objects::TestHeader;
 use crate::quic::put_taken;
 use crate::steps::all_steps;
-use crate::words::{number, put, say, show, two};
+use crate::words::{put, say, show};
 use dns_net::{MemoryBody, RequestContext, SetHeaders, Version, message_from, response, verify};
+use dns_rows::{first_field, size};
 use http::request::Parts;
 use http::{HeaderMap, HeaderName, HeaderValue, Method, Request, Response, Uri};
 use std::alloc::Global;
@@ -42,8 +43,8 @@ fn host_of(word: &str) -> Option<&str> {
 
 /// The head of a POST by HTTP/2: `TARGET|CONTENT-TYPE|ACCEPT`.
 fn post(alloc: Global, fields: &str) -> Result<Parts, Fail> {
-    let (target, rest) = two(fields);
-    let (kind, accept) = two(rest);
+    let (target, rest) = first_field(fields);
+    let (kind, accept) = first_field(rest);
     let mut head = Parts::new(alloc);
     head.method = Method::POST;
     head.version = http::Version::HTTP_2;
@@ -55,8 +56,8 @@ fn post(alloc: Global, fields: &str) -> Result<Parts, Fail> {
 
 /// Whether a request is let in: `VERSION|HOST|TARGET|CONTENT-TYPE|ACCEPT`.
 pub fn verified(alloc: Global, fields: &str, answer: &mut String) -> Result<(), Fail> {
-    let (version, rest) = two(fields);
-    let (host, rest) = two(rest);
+    let (version, rest) = first_field(fields);
+    let (host, rest) = first_field(rest);
     let request = Request::from_parts(post(alloc, rest)?, ());
     let verdict = verify(version_of(version), host_of(host), "/dns-query", &request);
     say(answer, verdict, "let in")
@@ -82,9 +83,9 @@ fn asked(alloc: Global, method: &str, length: &str) -> Result<Parts, Fail> {
 
 /// What comes of a request, and of its body then: `METHOD|CONTENT-LENGTH|LENGTHS OF PIECES|STEPS`.
 pub fn taken(alloc: Global, fields: &str, answer: &mut String) -> Result<(), Fail> {
-    let (method, rest) = two(fields);
-    let (length, rest) = two(rest);
-    let (lengths, steps) = two(rest);
+    let (method, rest) = first_field(fields);
+    let (length, rest) = first_field(rest);
+    let (lengths, steps) = first_field(rest);
     let body = body_of(alloc, lengths, "")?;
     let mut request = Request::from_parts(asked(alloc, method, length)?, body);
     take(alloc, &mut request, answer)?;
@@ -98,8 +99,8 @@ fn take(alloc: Global, request: &mut Request<MemoryBody>, answer: &mut String) -
 
 /// What the requests of a client have in common: `VERSION|NAME|PATH`.
 pub fn context_of(alloc: Global, fields: &str) -> Result<RequestContext, Fail> {
-    let (version, rest) = two(fields);
-    let (name, path) = two(rest);
+    let (version, rest) = first_field(fields);
+    let (name, path) = first_field(rest);
     let server_name = String::from_str(alloc, name)?;
     Ok(RequestContext {
         version: version_of(version),
@@ -144,9 +145,9 @@ fn put_verdict(version: Version, request: &Request<()>, answer: &mut String) -> 
 
 /// The message of a request that is built for one of so many bytes, with a body of pieces of these lengths.
 pub fn posted(alloc: Global, fields: &str, answer: &mut String) -> Result<(), Fail> {
-    let (count, lengths) = two(fields);
+    let (count, lengths) = first_field(fields);
     let context = context_of(alloc, "h2|ns.example.com|/dns-query")?;
-    let (head, ()) = context.build(alloc, number(count))?.into_parts();
+    let (head, ()) = context.build(alloc, size(count))?.into_parts();
     let mut request = Request::from_parts(head, body_of(alloc, lengths, "")?);
     let message = message_from(
         alloc,
@@ -160,8 +161,8 @@ pub fn posted(alloc: Global, fields: &str, answer: &mut String) -> Result<(), Fa
 
 /// The head of a response with a message of so many bytes.
 pub fn responded(alloc: Global, fields: &str, answer: &mut String) -> Result<(), Fail> {
-    let (version, count) = two(fields);
-    match response(alloc, version_of(version), number(count)) {
+    let (version, count) = first_field(fields);
+    match response(alloc, version_of(version), size(count)) {
         Ok(response) => put_head(&response, answer),
         Err(fault) => put(answer, fault),
     }

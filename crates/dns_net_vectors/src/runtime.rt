@@ -1,9 +1,10 @@
 //! The traits of a runtime, by one in memory.
 
 use crate::steps::{Steps, all_steps};
-use crate::words::{numbers, put, put_bytes, show, two};
+use crate::words::{put, show};
 use dns_edges::{MemorySink, MemorySource, Sink, Source};
 use dns_io::{IoFault, Ip, Octets, Peer};
+use dns_rows::{first_field, numbers_of, put_bytes};
 use dns_runtime::{
     DnsTcpStream, DnsUdpSocket, LastTask, MemorySocket, MemoryTime, RuntimeProvider, Spawn, Time,
 };
@@ -20,10 +21,10 @@ const HERE: Peer = Peer {
 
 /// A socket to which datagrams of these bytes come, parted by blanks, the numbers of its calls that fail, and its steps.
 pub fn socket(alloc: Global, fields: &str, answer: &mut String) -> Result<(), Fail> {
-    let (datagrams, fields) = two(fields);
-    let (failing, steps) = two(fields);
+    let (datagrams, fields) = first_field(fields);
+    let (failing, steps) = first_field(fields);
     let coming = datagrams_of(alloc, datagrams)?;
-    let mut socket = MemorySocket::new(alloc, coming, numbers(alloc, failing)?);
+    let mut socket = MemorySocket::new(alloc, coming, numbers_of(alloc, failing)?);
     all_steps(alloc, &mut socket, steps, answer)
 }
 

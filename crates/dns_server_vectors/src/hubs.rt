@@ -3,10 +3,10 @@
 ghost use Rattle.std.specs.Prelude.{◌≤◌, length, IfOk, All};
 ghost use Rattle.dns_ports.specs.Memory.{IsUnusedUdp, IsUnusedTcp};
 
-use crate::words::{bytes_of, hex_of, numbers_of, two};
 use dns_edges::{MemoryClock, MemorySink, MemorySource};
 use dns_io::{Ip, Octets, Peer};
 use dns_ports::{Accepted, MemoryHub, MemoryTcp, MemoryUdp};
+use dns_rows::{bytes_of, hex_of, numbers_of, two};
 use std::alloc::Global;
 use std::test::Fail;
 

@@ -1,33 +1,17 @@
-//! Rows from the specifications, each tried on the compiled libraries. A row is a line of standard input, `KIND|GIVEN|WANTED`: what is
-//! called, what it is given, and the answer that is due. A row with another answer is written with that answer, and at the end the number of
-//! rows. A line that begins with `#` says what the rows below it show.
+//! Rows from the specifications, each tried on the compiled libraries: the program's top call, and the server of threads. A row is a line of
+//! standard input, `KIND|GIVEN|WANTED`: what is called, what it is given, and the answer that is due. A row with another answer is written
+//! with that answer, and at the end the number of rows. A line that begins with `#` says what the rows below it show.
 #![tactic(auto)]
 
-mod asks;
-mod books;
-mod connections;
-mod drawn;
-mod four;
 mod gates;
-mod gateway;
 mod hubs;
-mod journals;
-mod keepers;
-mod limits;
 mod objects;
-mod passes;
-mod readings;
-mod responses;
 mod runs;
-mod scribe;
-mod servers;
 mod threads;
 mod two_listeners;
-mod two_seats;
-mod words;
 mod zones;
 
-use crate::words::parted;
+use dns_rows::parted;
 use std::alloc::Global;
 use std::io;
 use std::sync::Wait;
@@ -68,32 +52,10 @@ fn answer_to<R: Threads + Wait + Sync>(
         "once" => runs::once(rt, alloc, given),
         "twice" => runs::twice(rt, alloc, given),
         "serve" => runs::serve(rt, alloc, given),
-        "four" => four::four(rt, alloc, given),
-        "seats" => two_seats::seats(rt, alloc, given),
         "workers" => threads::workers(rt, alloc, given),
         "failing_calls" => threads::failing_calls(rt, alloc, given),
         "failing_accepts" => threads::failing_accepts(rt, alloc, given),
         "at_once" => two_listeners::at_once(rt, alloc),
-        _ => settled_by_one(alloc, kind, given),
-    }
-}
-
-/// What comes of a row of the libraries below the program's top call, or of those beside them.
-fn settled_by_one(alloc: Global, kind: &str, given: &str) -> Result<String, Fail> {
-    match kind {
-        "keeper" => keepers::calls(alloc, given),
-        "open" => journals::open(alloc, given),
-        "reopen" => journals::reopen(alloc, given),
-        "book" => books::calls(alloc, given),
-        "buffer" => books::buffer(alloc, given),
-        "stream" => connections::stream(alloc, given),
-        "book_stream" => connections::book_stream(alloc, given),
-        "cut" => connections::cut(alloc, given),
-        "limit" => limits::limit(alloc, given),
-        "response" => responses::response(alloc, given),
-        "lists" => servers::lists(alloc, given),
-        "stopped" => servers::stopped(alloc, given),
-        "drawn" => drawn::drawn(alloc, given),
-        _ => gateway::answer_to(alloc, kind, given),
+        _ => Ok("no such kind".to_string(alloc)?),
     }
 }

@@ -1,9 +1,9 @@
 //! The objects of a run: its words, a zone text of seven records, an event text, and its output.
 
-use crate::words::{numbers_of, quoted, two};
 use crate::zones::zone_of;
 use dns_edges::{MemorySink, MemorySource, Source};
 use dns_io::Octets;
+use dns_rows::{numbers_of, quoted, two};
 use std::alloc::Global;
 use std::test::Fail;
 

@@ -3,13 +3,13 @@
 
 use crate::hubs::{hub_of, put_taken};
 use crate::objects::{Objects, made, quoted_left, quoted_output};
-use crate::words::two;
 use crate::zones::keeper;
 use dns_command::run::run;
 use dns_command::{Ended, Status};
 use dns_edges::{MemoryClock, MemorySink};
 use dns_keeper::{Keeper, MemoryKeeper};
 use dns_ports::MemoryHub;
+use dns_rows::two;
 use std::alloc::Global;
 use std::sync::Wait;
 use std::test::Fail;

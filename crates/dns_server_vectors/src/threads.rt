@@ -1,11 +1,11 @@
 //! A server of threads, with two seats.
 
 use crate::hubs::{failing_listener, failing_socket, listener, put_taken, socket};
-use crate::words::two;
 use crate::zones::book;
 use dns_book::AccessControl;
 use dns_keeper::MemoryKeeper;
 use dns_ports::{MemoryTcp, MemoryUdp, TcpPort};
+use dns_rows::two;
 use dns_server::{RegisterFault, ThreadServer};
 use std::alloc::Global;
 use std::sync::Wait;

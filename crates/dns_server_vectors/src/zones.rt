@@ -1,9 +1,9 @@
 //! Zones, and the books and keepers that begin with them.
 
-use crate::words::{numbers_of, two};
 use dns_book::Book;
 use dns_keeper::MemoryKeeper;
 use dns_name::Name;
+use dns_rows::{numbers_of, two};
 use dns_zone::read_zone;
 use std::alloc::Global;
 use std::test::Fail;

@@ -4,9 +4,10 @@
 ghost use Rattle.std.specs.Prelude.{IfOk};
 ghost use Rattle.dns_wire.specs.WireFormat.{IsShort, AreShort};
 
-use crate::words::{bytes_of, parted_at};
+use crate::words::parted_at;
 use dns_journal::{Journal, KeepFault, Keeper, PersistenceError, RecoveryKind, Row};
 use dns_name::{Name, ProtoError};
+use dns_rows::bytes_of;
 use dns_wire::{Data, Record, Records, read_record};
 use sqlite::{Alter, Connection, MemStore};
 use std::alloc::Global;

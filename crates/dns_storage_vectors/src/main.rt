@@ -15,7 +15,7 @@ mod stops;
 mod words;
 mod zone_files;
 
-use crate::words::parted;
+use dns_rows::parted;
 use std::alloc::Global;
 use std::io;
 use std::test::Fail;

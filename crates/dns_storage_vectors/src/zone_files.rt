@@ -7,13 +7,14 @@
 //! "Behaviour"; docs/PROFILE.md, "The zone text").
 
 use crate::configurations::path_of;
-use crate::words::{hex_of, parted_at, text_of};
+use crate::words::{parted_at, text_of};
 use dns_configuration::{
     AxfrPolicy, FileConfig, FileZoneHandler, Files, LoadFault, MemoryFiles, PathText, ZoneType,
 };
 use dns_io::Octets;
 use dns_keeper::KeepFault;
 use dns_name::Name;
+use dns_rows::hex_of;
 use dns_wire::{Question, Record};
 use dns_zone::{Looked, Zone, read_zone};
 use std::alloc::Global;

@@ -1,9 +1,9 @@
 //! The counters by their names and labels, each label with its code. The names, labels and codes were written down by hand
 //! from the registries of DNS parameters (RFC 6895).
 
-use crate::words::two;
 use dns_counts::{Asked, Counts, Direction, Pairs, Replied};
 use dns_io::Protocol;
+use dns_rows::two;
 use dns_wire::Header;
 use std::alloc::Global;
 use std::test::Fail;

@@ -1,7 +1,7 @@
 //! Streams that come in pieces (RFC 1035 4.2.2).
 
-use crate::words::{bytes_of, hex_of};
 use dns_frames::Frames;
+use dns_rows::{bytes_of, hex_of};
 use std::alloc::Global;
 use std::test::Fail;
 

@@ -17,9 +17,8 @@ mod ports;
 mod replies;
 mod sources;
 mod tickets;
-mod words;
 
-use crate::words::parted;
+use dns_rows::parted;
 use std::alloc::Global;
 use std::io;
 use std::test::Fail;

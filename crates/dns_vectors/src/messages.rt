@@ -1,6 +1,6 @@
 //! Messages, questions and records that stand in bytes (RFC 1035 4.1).
 
-use crate::words::{bytes_of, hex_of, number, two};
+use dns_rows::{bytes_of, hex_of, size, two};
 use dns_wire::{Message, Question, Record, read_one_question, read_record};
 use std::alloc::Global;
 use std::test::Fail;
@@ -39,7 +39,7 @@ fn asked(alloc: Global, question: &Question) -> Result<String, Fail> {
 pub fn record(alloc: Global, given: &str) -> Result<String, Fail> {
     let (place, digits) = two(given);
     let bytes = bytes_of(alloc, digits)?;
-    match read_record(alloc, bytes.as_slice(), number(place))? {
+    match read_record(alloc, bytes.as_slice(), size(place))? {
         Some((record, end)) => record_text(alloc, &record, end),
         None => Ok("none".to_string(alloc)?),
     }

@@ -1,7 +1,7 @@
 //! Names (RFC 1035 3.1, 4.1.4 and 5.1).
 
-use crate::words::{bytes_of, hex_of, number, two};
 use dns_name::Name;
+use dns_rows::{bytes_of, hex_of, size, two};
 use std::alloc::Global;
 use std::test::Fail;
 
@@ -25,7 +25,7 @@ fn spelled(alloc: Global, name: &Name) -> Result<String, Fail> {
 pub fn labels(alloc: Global, given: &str) -> Result<String, Fail> {
     let mut text = Vec::new(alloc);
     for word in given.split(' ') {
-        put_label(&mut text, number(word))?;
+        put_label(&mut text, size(word))?;
     }
     match Name::parse_bytes(alloc, text.as_slice()) {
         Ok(name) => sizes(alloc, &name),
@@ -71,7 +71,7 @@ fn are_folded_alike(alloc: Global, one: &Name, other: &Name) -> Result<bool, Fai
 pub fn name_at(alloc: Global, given: &str) -> Result<String, Fail> {
     let (place, digits) = two(given);
     let bytes = bytes_of(alloc, digits)?;
-    match Name::read(alloc, bytes.as_slice(), number(place))? {
+    match Name::read(alloc, bytes.as_slice(), size(place))? {
         Some((name, end)) => name_text(alloc, &name, end),
         None => Ok("none".to_string(alloc)?),
     }

@@ -1,8 +1,8 @@
 //! Records, queries and replies that are written, as long as may be or cut (RFC 1035 4.1 and 4.2.1).
 
-use crate::words::{hex_of, number, two};
 use dns_io::Octets;
 use dns_name::Name;
+use dns_rows::{hex_of, size, two};
 use dns_wire::{Data, Edns, Header, Message, Question, Questions, Record, Records, Reply, Texts};
 use std::alloc::Global;
 use std::test::Fail;
@@ -23,7 +23,7 @@ pub fn empty(alloc: Global, given: &str) -> Result<String, Fail> {
 
 /// The length of a record with so many bytes of data, or why it is not written.
 pub fn record_size(alloc: Global, given: &str) -> Result<String, Fail> {
-    let record = opaque(alloc, number(given))?;
+    let record = opaque(alloc, size(given))?;
     match record.to_vec(alloc) {
         Ok(bytes) => Ok(bytes.len().to_string(alloc)?),
         Err(fault) => Ok(format!(in alloc; "{fault:?}")?),
@@ -50,7 +50,7 @@ pub fn size(alloc: Global, given: &str) -> Result<String, Fail> {
 fn opaque_records(alloc: Global, given: &str) -> Result<Records, Fail> {
     let mut records = Records::new(alloc);
     for word in given.split(' ') {
-        records.push(opaque(alloc, number(word))?)?;
+        records.push(opaque(alloc, size(word))?)?;
     }
     Ok(records)
 }

@@ -1,11 +1,11 @@
 //! Sources, sinks and clocks: over std's readers and writers, which are interrupted and fail, and in memory.
 
-use crate::words::{number, two};
 use dns_edges::{
     Clock, FileSource, MemoryClock, MemorySink, MemorySource, Reading, Sink, Source, SystemClock,
     Writing, read_to_end, write_all,
 };
 use dns_io::Octets;
+use dns_rows::{size, two};
 use std::alloc::Global;
 use std::cell::Cell;
 use std::io::{self, ErrorKind, Read, Write};
@@ -167,7 +167,7 @@ pub fn readings(alloc: Global, given: &str) -> Result<String, Fail> {
 pub fn now(rt: &HostRuntime, given: &str) -> Result<String, Fail> {
     let (first, last) = two(given);
     let now = SystemClock::new(rt).now() as usize;
-    let answer = number(first) < now && now < number(last);
+    let answer = size(first) < now && now < size(last);
     Ok(answer.to_string(rt.alloc())?)
 }
 
@@ -195,8 +195,8 @@ pub fn source(alloc: Global, text: &str) -> Result<String, Fail> {
 /// What reading the bytes `01234` to their end gives, where the read of this number fails and so many bytes may come.
 pub fn to_end(alloc: Global, given: &str) -> Result<String, Fail> {
     let (failing, bound) = two(given);
-    let mut source = source_of(alloc, "01234", number(failing))?;
-    match read_to_end(alloc, &mut source, number(bound).min(9)) {
+    let mut source = source_of(alloc, "01234", size(failing))?;
+    match read_to_end(alloc, &mut source, size(bound).min(9)) {
         Ok(bytes) => Ok(bytes.len().to_string(alloc)?),
         Err(fault) => Ok(format!(in alloc; "{fault:?}")?),
     }

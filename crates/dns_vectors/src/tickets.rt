@@ -1,8 +1,8 @@
 //! Lists of steps of the ticket world.
 
-use crate::words::number;
 use dns_io::Octets;
 use dns_keeper::Row;
+use dns_rows::size;
 use dns_ticket_world::{Rows, Step, TicketWorld};
 use std::alloc::Global;
 use std::test::Fail;
@@ -11,7 +11,7 @@ use std::test::Fail;
 pub fn tickets(alloc: Global, given: &str) -> Result<String, Fail> {
     let (start, steps) = given.split_once(';').unwrap_or((given, ""));
     let (seats, rows) = start.split_once(' ').unwrap_or((start, ""));
-    let rows = batch(alloc, 9, 1, number(rows))?;
+    let rows = batch(alloc, 9, 1, size(rows))?;
     let seats = seat(seats);
     if seats < 1 || seats > 1024 || !rows.are_numbered(0) {
         return Ok("no start".to_string(alloc)?);
@@ -53,13 +53,13 @@ fn joined(one: u32, word: &str) -> Step {
 
 fn counted(alloc: Global, seat: u32, word: &str) -> Result<Step, Fail> {
     let mut parts = word.split('.').skip(2);
-    let client = number(parts.next().unwrap_or(""));
-    let first = number(parts.next().unwrap_or(""));
-    let rows = number(parts.next().unwrap_or(""));
+    let client = size(parts.next().unwrap_or(""));
+    let first = size(parts.next().unwrap_or(""));
+    let rows = size(parts.next().unwrap_or(""));
     Ok(Step::Count {
         seat,
         batch: batch(alloc, client, first, rows)?,
-        faults: number(parts.next().unwrap_or("")) as u64,
+        faults: size(parts.next().unwrap_or("")) as u64,
     })
 }
 
