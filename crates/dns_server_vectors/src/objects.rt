@@ -1,6 +1,6 @@
 //! The objects of a run: its words, a zone text of seven records, an event text, and its output.
 
-use crate::zones::zone_of;
+use crate::zones::SEVEN;
 use dns_edges::{MemorySink, MemorySource, Source};
 use dns_io::Octets;
 use dns_rows::{numbers_of, quoted, two};
@@ -25,7 +25,7 @@ pub fn made(alloc: Global, given: &str) -> Result<Objects, Fail> {
     let (events, writes) = two(head);
     Ok(Objects {
         words: words_of(alloc, words)?,
-        zone: source(alloc, zone_of("seven").1, zone)?,
+        zone: source(alloc, SEVEN, zone)?,
         events: source(alloc, text_of(alloc, lines)?.as_str().as_bytes(), events)?,
         out: MemorySink::new(alloc, 7, numbers_of(alloc, writes)?),
     })

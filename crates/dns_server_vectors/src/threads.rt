@@ -17,7 +17,7 @@ pub type Server<T> = ThreadServer<MemoryKeeper, MemoryUdp, T>;
 
 /// A server with two seats, over a zone of seven records.
 pub fn server<T: TcpPort + Drop>(alloc: Global) -> Result<Server<T>, Fail> {
-    let book = book(alloc, "seven no 0 0")?;
+    let book = book(alloc)?;
     match ThreadServer::new(alloc, book, AccessControl::new(alloc), 2) {
         Ok(server) => Ok(server),
         Err(_) => Err(Fail::from("no server")),
