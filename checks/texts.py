@@ -2,7 +2,8 @@
 """Reads the texts that people and other tools read: the pages of docs/, those for man, the shell scripts, the units for systemd.
 
 - each link from a page of docs/ to another, and each page and file that a text names by its path, leads to what is there;
-- each file that docs/MAP.md names is there, and so is each line of the contract that docs/CONTRACTS.md copies;
+- each file that docs/MAP.md names is there, and the map names each crate; docs/PROVED.md names each that has definitions of its own;
+- each line of the contract that docs/CONTRACTS.md reads aloud stands in the sources;
 - the pages for man name each option and each status that `--help` names;
 - `mandoc -Tlint`, `shellcheck` and `systemd-analyze verify` find no fault in them, each where it is installed, and else it is passed over with a line.
 
@@ -20,6 +21,7 @@ TOP = Path(__file__).resolve().parent.parent
 PAGES = {"man/dns.8": "crates/dns_command/src/help.rt", "man/dns-nsupdate.1": "crates/dns_update_client/src/help.rt"}
 SCRIPTS = ["dns", ".ci/run"]
 MAP = TOP / "docs/MAP.md"
+PROVED = TOP / "docs/PROVED.md"
 CONTRACTS = TOP / "docs/CONTRACTS.md"
 READ_ALOUD = ["crates/dns_book/src/book.rt", "crates/dns_book/specs/Book.antt"]
 # What a text names that stands at the top of the repository: a page, a script, an example.
@@ -101,6 +103,15 @@ def lost_files():
     return faults
 
 
+def left_out():
+    """The crates that the map does not name, and those with definitions of their own of which docs/PROVED.md says nothing."""
+    told = MAP.read_text(encoding="utf-8")
+    proved = "\n".join(re.findall(r"^### .*", PROVED.read_text(encoding="utf-8"), re.M))
+    crates = sorted(it for it in (TOP / "crates").iterdir() if (it / "src").is_dir())
+    faults = [f"docs/MAP.md does not name {it.name}" for it in crates if not re.search(rf"^\| (?:[\w, ]*, )?{it.name}\b", told, re.M)]
+    return faults + [f"docs/PROVED.md does not name {it.name}" for it in crates if (it / "specs").is_dir() and not re.search(rf"\b{it.name}\b", proved)]
+
+
 def stale_lines():
     """The lines of the contract that docs/CONTRACTS.md reads aloud which stand in none of the files that it is copied from."""
     page = CONTRACTS.read_text(encoding="utf-8")
@@ -129,7 +140,7 @@ def units(home):
 
 
 def main():
-    faults = lost_links() + lost_files() + stale_lines()
+    faults = lost_links() + lost_files() + left_out() + stale_lines()
     faults += [f"{page} does not name {it}" for page, source in PAGES.items() for it in lacks(page, source)]
     pages = sorted(str(it.relative_to(TOP)) for it in (TOP / "man").iterdir())
     with tempfile.TemporaryDirectory() as home:
