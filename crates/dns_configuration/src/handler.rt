@@ -1,6 +1,6 @@
 //! A zone that is kept in a file.
 
-ghost use Rattle.std.specs.Prelude.{◌≡◌, ◌≤◌, Ok, IfOk, IfErr};
+ghost use Rattle.std.specs.Prelude.{◌≡◌, Ok, IfOk, IfErr};
 ghost use Rattle.std.specs.Borrow.{Lends, sem};
 ghost use Rattle.std.specs.Option.{option_copied};
 ghost use Rattle.dns_io.specs.Told.{Keeps};
@@ -8,7 +8,7 @@ ghost use Rattle.dns_name.specs.Name.{fold_of};
 ghost use Rattle.dns_zone.specs.contracts.zone.Zone.{the_row as zone_row};
 ghost use Rattle.dns_configuration.specs.contracts.handler.FileZoneHandler.{the_row};
 ghost use Rattle.dns_configuration.specs.Paths.{path_from};
-ghost use Rattle.dns_configuration.specs.Handlers.{Means, TellsLoad, MissesText, TellsText};
+ghost use Rattle.dns_configuration.specs.Handlers.{Means, TellsLoad, MissesText, TellsText, LoadCause};
 ghost use Rattle.dns_configuration.specs.Files.{IsTextAt};
 ghost use Rattle.dns_zone.specs.ZoneText.{zone_of};
 
@@ -107,9 +107,9 @@ impl FileZoneHandler {
         ensures origin { IfOk result (λ handler. handler.zone.origin ≡ fold_of origin) }
         ensures zone_type { IfOk result (λ handler. handler.zone_type ≡ zone_type) }
         ensures axfr_policy { IfOk result (λ handler. handler.axfr_policy ≡ axfr_policy) }
-        ensures fault { IfErr result (TellsLoad (F.files files.new) (F.faults files.old) (F.faults files.new) (path_from (option_copied root_dir.entry) config.now.zone_path) (fold_of origin)) }
+        ensures fault { IfErr result (TellsLoad (F.files files.new) (path_from (option_copied root_dir.entry) config.now.zone_path) (fold_of origin)) }
         ensures kept { Keeps (F.files files.old) (F.files files.new) }
-        ensures later { F.faults files.old ≤ F.faults files.new }
+        ensures cause { LoadCause (F.faults files.old) (F.faults files.new) result }
     {
         let path = match path_from(alloc, root_dir, config.zone_path.as_str()) {
             Ok(path) => path,
@@ -163,9 +163,9 @@ impl FileZoneHandler {
 /// The text at a path.
 fn read_text<F: Files>(path: &str, files: &mut F) -> Result<Octets, LoadFault>
     ensures ok { IfOk result (λ text. IsTextAt (F.files files.new) path.now (Some text)) }
-    ensures err { IfErr result (λ fault. MissesText (F.files files.new) (F.faults files.old) (F.faults files.new) path.now fault) }
+    ensures err { IfErr result (MissesText (F.files files.new) path.now) }
     ensures kept { Keeps (F.files files.old) (F.files files.new) }
-    ensures later { F.faults files.old ≤ F.faults files.new }
+    ensures cause { LoadCause (F.faults files.old) (F.faults files.new) result }
 {
     match files.read_file(path) {
         Ok(Some(text)) => Ok(text),
