@@ -51,7 +51,7 @@ fn answer_to(rt: &HostRuntime, alloc: Global, kind: &str, given: &str) -> Result
         "empty_record" => replies::empty(alloc, given),
         "record_size" => replies::record_size(alloc, given),
         "query" => replies::query(alloc),
-        "message_size" => replies::size(alloc, given),
+        "message_size" => replies::message_size(alloc, given),
         "reply" => replies::reply(alloc, given),
         "same_data" => replies::same_data(alloc, given),
         "doubled" => replies::doubled(alloc),

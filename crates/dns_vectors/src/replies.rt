@@ -38,7 +38,7 @@ pub fn query(alloc: Global) -> Result<String, Fail> {
 }
 
 /// The length of a message with additional records of so many bytes of data, or why there is none.
-pub fn size(alloc: Global, given: &str) -> Result<String, Fail> {
+pub fn message_size(alloc: Global, given: &str) -> Result<String, Fail> {
     let additional = opaque_records(alloc, given)?;
     let message = message_of(alloc, additional)?;
     match message.to_vec(alloc) {
