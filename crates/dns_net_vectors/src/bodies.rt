@@ -136,7 +136,7 @@ pub fn reply_in_pieces(alloc: Global, size: usize, failing: &str) -> Result<Memo
 
 /// What is done with the reply in pieces of so many bytes.
 pub fn reply(alloc: Global, fields: &str, answer: &mut String) -> Result<(), Fail> {
-    let (size, steps) = first_field(fields);
-    let mut body = reply_in_pieces(alloc, size(size).max(1), "")?;
+    let (step, steps) = first_field(fields);
+    let mut body = reply_in_pieces(alloc, size(step).max(1), "")?;
     all_steps(alloc, &mut body, steps, answer)
 }
