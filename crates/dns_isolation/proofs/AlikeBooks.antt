@@ -47,7 +47,7 @@ pub alike-counts : {K : Type 0} (keeper : KeeperOf K) (a b : SeenOf K) (c d : Li
 alike-counts keeper a b c d h = record { zone = h.zone; allow_update = h.allow_update; row_count = h.row_count; told = h.told }
 
 pub alike-unchanged : {K : Type 0} (keeper : KeeperOf K) (a b x y : SeenOf K) → IsUnchanged a x → IsUnchanged b y → AreAlike keeper a b → AreAlike keeper x y
-alike-unchanged {K} rows a b x y p q h =
+alike-unchanged {K} keeper a b x y p q h =
     subst (λ (z : SeenOf K). AreAlike keeper z y) (sym p)
     (subst (λ (z : SeenOf K). AreAlike keeper (record a { counts = x.counts }) z) (sym q) (alike-counts keeper a b x.counts y.counts h))
 
