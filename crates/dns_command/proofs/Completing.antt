@@ -173,7 +173,7 @@ module _ (w : World) (x : IsSound w) where
 pub completes : {K : Type 0} (keeper : KeeperOf K) (w : World) (s : Status) → Ends keeper w s → Completes w s
 completes keeper w s (with_answers text answers written) x = inl refl
 completes keeper w s (with_refusal some refuses written) x = inr (of_refusal w x s refuses.cause)
-completes keeper w s (with_rejection rejects written) x = absurd (none_rejected w x rows rejects)
+completes keeper w s (with_rejection rejects written) x = absurd (none_rejected w x keeper rejects)
 completes keeper w s (with_write_fault rose cut) x = absurd (x.faultless.output rose)
 completes keeper w s (cut_for_memory still cut) x = inr refl
 completes keeper w s (refused_for_memory refuses unwritten) x = inr refl

@@ -2,7 +2,7 @@
 use Rattle.std.proofs.Common.{◌≡◌, ◌⊎◌, ℕ, suc, ◌+◌, List, [], ◌∷◌, ◌++◌, Option, Some, None, Result, Ok, Err, inl, inr, refl, sym, ap, subst, ◌∙◌, arith}
 use Rattle.std.proofs.lemmas.Option.{same_Some}
 use Rattle.dns_edges.specs.Edges.{Around, SourceTold, SinkTold}
-use Rattle.dns_ports.specs.Ports.{HubTold}
+use Rattle.dns_ports.specs.Ports.{HubTold, IsFreshSocket, IsFreshListener}
 use Rattle.dns_io.specs.Told.{Keeps, Rose}
 use Rattle.dns_io.specs.declared.io_fault.IoFault.{IoFault}
 use Rattle.dns_io.specs.declared.io_fault.IoFault.TheVariants.{Failed, OutOfMemory}
@@ -256,8 +256,8 @@ module _ {K U T R W C : Type 0} (m : Meanings K U T R W C) (t : Terms) (access :
   unworked_still : (limit : ℕ) (crew : Crew U T) (free : List PassSeen) → AllByRecursion (IsNewSocket m.socket t) crew.sockets → AllByRecursion (IsNewListener m.listener.told t limit) crew.listeners → AreNew t free
       → ClosedForAll m t (free ++ passes_of crew) last → (m.keeper.told last.keeper).faults ≡ t.start
   unworked_still limit crew free sockets listeners others closed =
-      let a = new_total t 0 _ crew.sockets sockets in
-      let b = new_total t limit _ crew.listeners listeners in
+      let a = new_total t 0 (λ port. IsFreshSocket (m.socket port)) crew.sockets sockets in
+      let b = new_total t limit (λ port. IsFreshListener (m.listener.told port)) crew.listeners listeners in
       let c = free_total t free others in
       let all = total_append pass_faults free (passes_of crew) in
       let both = total_append pass_faults (their_passes crew.sockets) (their_passes crew.listeners) in
@@ -271,14 +271,14 @@ module _ {K U T R W C : Type 0} (m : Meanings K U T R W C) (t : Terms) (access :
       unworked_still limit before free shared.new_sockets shared.new_listeners shared.new_free (subst (λ (c : Crew U T). ClosedForAll m t (free ++ passes_of c) last) same closed)
   stopped_still limit before after free shared (inr worked) closed none =
       still_failed_updates m.keeper access m.socket m.listener before.sockets after.sockets worked.sockets before.listeners after.listeners worked.listeners t last free closed.closed
-      (free_total t free shared.new_free) (new_total t 0 _ before.sockets shared.new_sockets) (new_total t limit _ before.listeners shared.new_listeners) none
+      (free_total t free shared.new_free) (new_total t 0 (λ port. IsFreshSocket (m.socket port)) before.sockets shared.new_sockets) (new_total t limit (λ port. IsFreshListener (m.listener.told port)) before.listeners shared.new_listeners) none
 
   -- nor did what was served to its end
   served_still : (listening : Listening) (before after : Crew U T) → IsNewCrew m listening t before → (worked : WorksToItsEnd m access before after) → ClosedForAll m t (passes_of after) last
       → failed_updates m access before after worked ≡ 0 → (m.keeper.told last.keeper).faults ≡ t.start
   served_still listening before after new worked closed none =
       still_failed_updates m.keeper access m.socket m.listener before.sockets after.sockets worked.sockets before.listeners after.listeners worked.listeners t last [] closed.closed
-      refl (new_total t 0 _ before.sockets new.new_sockets) (new_total t listening.limit _ before.listeners new.new_listeners) none
+      refl (new_total t 0 (λ port. IsFreshSocket (m.socket port)) before.sockets new.new_sockets) (new_total t listening.limit (λ port. IsFreshListener (m.listener.told port)) before.listeners new.new_listeners) none
 
 module _ {K U T R W C : Type 0} (m : Meanings K U T R W C) (words : List (List ℕ)) (z e : Around SourceTold) (out : Around SinkTold) (hub : Around (HubTold U T))
     (b : KeeperTold) (moment : ℕ) (service : Service) (legal : service_of words ≡ Some service) (held left : K) (k : Keeps b.rows (m.keeper.told held).rows) (same : (m.keeper.told held).faults ≡ b.faults)

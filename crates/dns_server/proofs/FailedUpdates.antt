@@ -192,7 +192,7 @@ few_failed_updates keeper access socket listener xs ys m vs ws n t book closed =
 -- among those for which it is closed, which have counted nothing
 pub still_failed_updates : {K U T R W C : Type 0} (keeper : KeeperOf K) (access : Access) (socket : U → UdpTold) (listener : ListenerOf T R W C)
     (xs ys : List (Worker U)) (m : Matches (ServedSocket keeper socket access) xs ys) (vs ws : List (Worker T)) (n : Matches (ServedListener keeper listener access) vs ws)
-    (t : Terms) (book : SeenOf K) (free : List PassSeen) → ClosedFor keeper t (free ++ their_passes ys ++ their_passes ws) book
+    (t : Terms) (book : SeenOf K) (free : List PassSeen) → ClosedFor keeper t (free ++ (their_passes ys ++ their_passes ws)) book
     → total pass_faults free ≡ 0 → total pass_faults (their_passes xs) ≡ 0 → total pass_faults (their_passes vs) ≡ 0
     → added_up (failed_by_socket keeper access socket) xs ys m + added_up (failed_by_listener keeper access listener) vs ws n ≡ 0 → (keeper.told book.keeper).faults ≡ t.start
 still_failed_updates keeper access socket listener xs ys m vs ws n t book free closed others first second none =
