@@ -62,7 +62,7 @@ few_by_step : (flag : Bool) (a b x y : ℕ) (marked : Bool) → b + x ≡ a + y 
 few_by_step true a b x y marked counted later fails = ⊎_elim (λ (less : a < b). inl (omega (arith, less))) (λ (m : marked ≡ true). inr m) (fails refl)
 few_by_step false a b x y marked counted later fails = inl (omega (arith, counted, later))
 
-no_failure : (flag : Bool) → (if flag then 1 else 0) ≡ 0 → flag ≡ false
+no_failure : (flag : Bool) → ◌≡◌ {A = ℕ} (if flag then 1 else 0) 0 → flag ≡ false
 no_failure true none = absurd (omega (arith, none))
 no_failure false none = refl
 
