@@ -5,6 +5,7 @@ use Rattle.dns_io.specs.Told.{Told, WasLonger, Rose}
 use Rattle.dns_name.specs.Name.{fold_of}
 use Rattle.dns_wire.specs.declared.record.Record.{Record}
 use Rattle.dns_keeper.specs.declared.row.Row.{Row}
+use Rattle.dns_keeper.specs.Keeping.{KeeperOf}
 use Rattle.dns_update.specs.declared.replay_kind.ReplayKind.{ReplayKind}
 use Rattle.dns_update.specs.Replay.{Replays}
 use Rattle.dns_update.proofs.Replayed.{replays_one}

@@ -255,29 +255,29 @@ module _ {K U T R W C : Type 0} (m : Meanings K U T R W C) (t : Terms) (access :
   -- nobody worked
   unworked_still : (limit : ℕ) (crew : Crew U T) (free : List PassSeen) → AllByRecursion (IsNewSocket m.socket t) crew.sockets → AllByRecursion (IsNewListener m.listener.told t limit) crew.listeners → AreNew t free
       → ClosedForAll m t (free ++ passes_of crew) last → (m.keeper.told last.keeper).faults ≡ t.start
-  unworked_still limit crew free sockets listeners others closed =
+  unworked_still limit crew free sockets listeners others at_end =
       let a = new_total t 0 (λ port. IsFreshSocket (m.socket port)) crew.sockets sockets in
       let b = new_total t limit (λ port. IsFreshListener (m.listener.told port)) crew.listeners listeners in
       let c = free_total t free others in
       let all = total_append pass_faults free (passes_of crew) in
       let both = total_append pass_faults (their_passes crew.sockets) (their_passes crew.listeners) in
-      let rise = closed.closed.rise in
+      let rise = at_end.closed.rise in
       omega (arith, a, b, c, all, both, rise)
 
   -- what was served so far counted nothing where no update got ServFail
   stopped_still : (limit : ℕ) (before after : Crew U T) (free : List PassSeen) (shared : SharesPasses m t limit access before after free) (worked : (after ≡ before) ⊎ Works m access before after)
       → ClosedForAll m t (free ++ passes_of after) last → failed_so_far m access before after worked ≡ 0 → (m.keeper.told last.keeper).faults ≡ t.start
-  stopped_still limit before after free shared (inl same) closed none =
-      unworked_still limit before free shared.new_sockets shared.new_listeners shared.new_free (subst (λ (c : Crew U T). ClosedForAll m t (free ++ passes_of c) last) same closed)
-  stopped_still limit before after free shared (inr worked) closed none =
-      still_failed_updates m.keeper access m.socket m.listener before.sockets after.sockets worked.sockets before.listeners after.listeners worked.listeners t last free closed.closed
+  stopped_still limit before after free shared (inl same) at_end none =
+      unworked_still limit before free shared.new_sockets shared.new_listeners shared.new_free (subst (λ (c : Crew U T). ClosedForAll m t (free ++ passes_of c) last) same at_end)
+  stopped_still limit before after free shared (inr worked) at_end none =
+      still_failed_updates m.keeper access m.socket m.listener before.sockets after.sockets worked.sockets before.listeners after.listeners worked.listeners t last free at_end.closed
       (free_total t free shared.new_free) (new_total t 0 (λ port. IsFreshSocket (m.socket port)) before.sockets shared.new_sockets) (new_total t limit (λ port. IsFreshListener (m.listener.told port)) before.listeners shared.new_listeners) none
 
   -- nor did what was served to its end
   served_still : (listening : Listening) (before after : Crew U T) → IsNewCrew m listening t before → (worked : WorksToItsEnd m access before after) → ClosedForAll m t (passes_of after) last
       → failed_updates m access before after worked ≡ 0 → (m.keeper.told last.keeper).faults ≡ t.start
-  served_still listening before after new worked closed none =
-      still_failed_updates m.keeper access m.socket m.listener before.sockets after.sockets worked.sockets before.listeners after.listeners worked.listeners t last [] closed.closed
+  served_still listening before after new worked at_end none =
+      still_failed_updates m.keeper access m.socket m.listener before.sockets after.sockets worked.sockets before.listeners after.listeners worked.listeners t last [] at_end.closed
       refl (new_total t 0 (λ port. IsFreshSocket (m.socket port)) before.sockets new.new_sockets) (new_total t listening.limit (λ port. IsFreshListener (m.listener.told port)) before.listeners new.new_listeners) none
 
 module _ {K U T R W C : Type 0} (m : Meanings K U T R W C) (words : List (List ℕ)) (z e : Around SourceTold) (out : Around SinkTold) (hub : Around (HubTold U T))
