@@ -1,5 +1,5 @@
 -- Which counts of faults rose, by how a list of events ended.
-use Rattle.std.proofs.Common.{◌≡◌, ◌⊎◌, ◌<◌, List, take, ℕ, Option, Some, None, MatchOption, inl, inr, refl, sym, ap, ◌∙◌, subst}
+use Rattle.std.proofs.Common.{◌≡◌, ◌⊎◌, List, take, ℕ, Option, Some, None, MatchOption, inl, inr, refl, sym, ap, ◌∙◌, subst}
 use Rattle.dns_io.specs.Told.{Rose}
 use Rattle.dns_edges.specs.Edges.{Around, SourceTold, SinkTold}
 use Rattle.dns_keeper.specs.Keeping.{KeeperTold, KeeperOf}

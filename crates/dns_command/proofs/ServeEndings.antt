@@ -7,7 +7,7 @@ use Rattle.dns_io.specs.Told.{Keeps, Rose}
 use Rattle.dns_io.specs.declared.io_fault.IoFault.{IoFault}
 use Rattle.dns_io.specs.declared.io_fault.IoFault.TheVariants.{Failed, OutOfMemory}
 use Rattle.dns_io.proofs.ToldContents.{Keeps-more}
-use Rattle.dns_keeper.specs.Keeping.{KeeperTold, KeeperOf}
+use Rattle.dns_keeper.specs.Keeping.{KeeperTold}
 use Rattle.dns_zone_map.specs.Zone.{serial_of}
 use Rattle.dns_book.specs.Book.{SeenOf}
 use Rattle.dns_server.proofs.FailedUpdates.{few_failed_updates, still_failed_updates}

@@ -1,5 +1,5 @@
 -- What the program does: the replies owed, and no other bytes.
-use Rattle.std.specs.Prelude.{◌≡◌, ◌≢◌, ℕ, List, length, take, Option, Some, None}
+use Rattle.std.specs.Prelude.{◌≡◌, ◌≢◌, ℕ, List, length, take, Some, None}
 use Rattle.dns_keeper.specs.Keeping.{KeeperTold, KeeperOf}
 use Rattle.dns_io.specs.Told.{Keeps, Rose, GrowsByPrefix}
 use Rattle.dns_zone_map.specs.Zone.{serial_of}
