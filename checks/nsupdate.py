@@ -172,7 +172,12 @@ WORDS = [
     ["--server=7f000001:1", "--id=01"],
     ["--server=7f000001:1", "--id="],
     ["--server=7f000001", "--id=0"],
-    ["--server=127.0.0.1:1", "--id=0"],
+    ["--server=127.0.0.1", "--id=0"],
+    ["--server=127.0.0.1:01", "--id=0"],
+    ["--server=127.0.0.256:1", "--id=0"],
+    ["--server=::1:1", "--id=0"],
+    ["--server=[::1]", "--id=0"],
+    ["--server=localhost:1", "--id=0"],
     ["--server=7f000001:65536", "--id=0"],
     ["--server=7f000001:1", "--server=7f000001:1"],
     ["--server=7f000001:1", "--id=0", "--id=0"],
@@ -377,9 +382,12 @@ def refused():
         taken.bind((HOST, 0))  # nobody listens there
         words = [f"--server={IP}:{taken.getsockname()[1]}", "--id=9"]
         yield "no server", run(words, ADD), (6, "read fault\n")
+        yield "no server, by its address as people write it", run([f"--server={HOST}:{taken.getsockname()[1]}", "--id=9"], ADD), (6, "read fault\n")
         yield "no server, the words in the other order", run(words[::-1], ADD), (1, "usage\n")
         yield "no server, and no message", run(words, "zone a.\n"), (0, "")
         yield "no server, and a line at fault", run(words, "zone\n"), (20, "script line 1: Word\n")
+    with plain(answering(lambda m: framed(reply_to(m)))) as server:
+        yield "the server's address as people write it", sent_to(server.port, ADD, 7, HOST), (0, "0007 0\n")
     with open("/dev/full", "wb") as full, plain(answering(lambda m: framed(reply_to(m)))) as server:
         yield "an output that takes nothing", run([f"--server={IP}:{server.port}", "--id=0"], ADD, stdout=full)[0], 7
     yield "the version", run(["--version"], ""), (0, "dns_nsupdate 0.1.0\n")
