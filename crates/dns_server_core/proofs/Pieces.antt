@@ -92,9 +92,9 @@ in_time-last conn ps a = rw (in_time-push conn ps a (length ps) (omega arith), w
 few_of : (most count : ℕ) → ltb (min most count) most ≡ true → count < most
 few_of most count more = omega (arith, ltb-true _ _ more)
 
-few : (conn : Connection) (ps : List Arrival) → may_go_on conn ps (length ps) ≡ true → length (frames (total conn ps (length ps))).messages < messages_left conn
+pub few_so_far : (conn : Connection) (ps : List Arrival) → may_go_on conn ps (length ps) ≡ true → length (frames (total conn ps (length ps))).messages < messages_left conn
 unfolding whole
-few conn ps more = few_of (messages_left conn) (length (frames (total conn ps (length ps))).messages) more
+few_so_far conn ps more = few_of (messages_left conn) (length (frames (total conn ps (length ps))).messages) more
 
 whole-all : (conn : Connection) (ps : List Arrival) → may_go_on conn ps (length ps) ≡ true → whole conn ps (length ps) ≡ length (frames (total conn ps (length ps))).messages
 unfolding whole
@@ -106,15 +106,15 @@ left-last : (conn : Connection) (ps : List Arrival) → may_go_on conn ps (lengt
 left-last conn ps more = omega (arith, whole-all conn ps more)
 
 -- the messages that one piece more completes
-abbrev next_messages : Connection → List Arrival → Arrival → List (List ℕ)
+abbrev pub next_messages : Connection → List Arrival → Arrival → List (List ℕ)
 next_messages conn ps a = messages_in (left_by conn ps) ((left_by conn ps).rest ++ a.piece)
 
-messages-last : (conn : Connection) (ps : List Arrival) (a : Arrival) → may_go_on conn ps (length ps) ≡ true
+pub messages-last : (conn : Connection) (ps : List Arrival) (a : Arrival) → may_go_on conn ps (length ps) ≡ true
     → first_messages (messages_left conn) (total conn (ps ++ a ∷ []) (suc (length ps))) ≡ (frames (total conn ps (length ps))).messages ++ next_messages conn ps a
 messages-last conn ps a more =
     let before : List ℕ = total conn ps (length ps) in
     ap (first_messages (messages_left conn)) (total-last conn ps a)
-    ∙ first_more (messages_left conn) before a.piece (omega (arith, few conn ps more))
+    ∙ first_more (messages_left conn) before a.piece (omega (arith, few_so_far conn ps more))
     ∙ ap (λ (n : ℕ). (frames before).messages ++ first_messages n ((frames before).rest ++ a.piece)) (left-last conn ps more)
 
 pub whole-last : (conn : Connection) (ps : List Arrival) (a : Arrival) → may_go_on conn ps (length ps) ≡ true
@@ -153,7 +153,7 @@ over-last conn ps a more =
 pub frames-last : (conn : Connection) (ps : List Arrival) (a : Arrival) → frames (total conn (ps ++ a ∷ []) (suc (length ps))) ≡ ahead (frames (total conn ps (length ps))).messages (frames ((left_by conn ps).rest ++ a.piece))
 frames-last conn ps a = ap frames (total-last conn ps a) ∙ frames-more (total conn ps (length ps)) a.piece
 
-abbrev left_with : Connection → List Arrival → Arrival → Connection
+abbrev pub left_with : Connection → List Arrival → Arrival → Connection
 left_with conn ps a = record {
   number = conn.number;
   peer = conn.peer;
@@ -163,7 +163,7 @@ left_with conn ps a = record {
   taken = conn.taken + whole conn (ps ++ a ∷ []) (suc (length ps));
 }
 
-left_by-last : (conn : Connection) (ps : List Arrival) (a : Arrival) → may_go_on conn ps (length ps) ≡ true
+pub left_by-last : (conn : Connection) (ps : List Arrival) (a : Arrival) → may_go_on conn ps (length ps) ≡ true
     → is_over (fed_by (left_by conn ps) a.at ((left_by conn ps).rest ++ a.piece)) ≡ false
     → left_with conn ps a ≡ fed_by (left_by conn ps) a.at ((left_by conn ps).rest ++ a.piece)
 left_by-last conn ps a more goes =
