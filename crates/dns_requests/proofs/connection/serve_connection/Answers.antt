@@ -42,8 +42,9 @@ returns-then-count-eq0-clause-ends g c =
     let now : Parts g.row.T.Denot g.row.R.Denot g.row.W.Denot g.row.C.Denot = record { handler = c.loop-turn.handler; source = c.loop-turn.source; sink = c.loop-turn.sink; clock = c.loop-turn.clock } in
     let piece = take c.in_ok-count.count c.receive.new.room in
     let size : length piece ≡ c.in_ok-count.count = length-take-le c.in_ok-count.count c.receive.new.room c.in_ok-count.ensures.count in
-    ends_served _ _ _ _ _ _ _ now c.loop-turn._turn c.loop-turn.session c.receive.new.source piece
-    c.loop-turn.invariant.going c.loop-turn-test.true c.in_ok-count.ensures.ok (size ∙ c.if-count-eq0.true)
+    rw c.taken.ensures
+    (ends_served _ _ _ _ _ _ _ now c.loop-turn._turn c.loop-turn.session c.receive.new.source piece
+    c.loop-turn.invariant.going c.loop-turn-test.true c.in_ok-count.ensures.ok (size ∙ c.if-count-eq0.true))
 
 pub returns-in_err-heard-clause-ends : goal.returns-in_err-heard-clause-ends
 returns-in_err-heard-clause-ends g c =
