@@ -15,6 +15,8 @@ pub mod laws;
 mod link;
 mod memory;
 mod memory_link;
+mod place;
+mod query;
 mod request;
 mod set_headers;
 mod version;
