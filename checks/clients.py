@@ -62,12 +62,10 @@ ASKED = [
     ("example.com", "NS", "NOERROR", True, ["example.com. 3600 IN NS ns.example.com."], []),
     ("example.net", "A", "REFUSED", False, [], []),
 ]
-PERF_TURNS = 100  # times that dnsperf asks each question
-PERF_WAYS = [("-m", "udp"), ("-m", "tcp"), ("-m", "udp", "-e")]
-LONG = [f"many.example.com. 60 IN A 10.0.0.{place}" for place in range(MANY)]
-
-
 MOST = 100  # messages of a connection, which is closed behind the last of them
+PERF_TURNS = 100  # times that dnsperf asks each question
+PERF_WAYS = [("-m", "udp"), ("-m", "tcp", "-O", f"num-queries-per-conn={MOST}"), ("-m", "udp", "-e")]
+LONG = [f"many.example.com. 60 IN A 10.0.0.{place}" for place in range(MANY)]
 
 
 class Wrong(Exception):
