@@ -7,11 +7,6 @@ use Rattle.dns_transport.specs.declared.error.NetError.{NetError}
 use Rattle.dns_transport.specs.declared.error.NetError.TheVariants.{BadRequest, OutOfMemory, RequestTooLarge}
 use Rattle.dns_transport.specs.declared.error.BadRequestKind.TheVariants.{Base64, Query}
 
--- the parts of a query, between `&`
-abbrev pub parts_of : Option (List ℕ) → List (List ℕ)
-parts_of None = []
-parts_of (Some query) = slice_split (λ b. b == 38) query
-
 -- what stands behind `dns=` in a part that begins so
 abbrev pub value_of : List ℕ → Option (List ℕ)
 value_of part = if bytes_eq (take 4 part) (codes "dns=") then Some (drop 4 part) else None
@@ -26,9 +21,10 @@ abbrev pub first_value : List (List ℕ) → Option (List ℕ)
 first_value [] = None
 first_value (part ∷ parts) = or_else (value_of part) (first_value parts)
 
--- the text of the message that a query says
+-- the text of the message that a query says, whose parts stand between `&`
 abbrev pub text_in : Option (List ℕ) → Option (List ℕ)
-text_in query = first_value (parts_of query)
+text_in None = None
+text_in (Some query) = first_value (slice_split (λ b. b == 38) query)
 
 -- a text stands for these bytes: base64url without padding (RFC 4648 3.2, 5)
 pub record IsTextOf (bytes text : List ℕ) : Type 0 where

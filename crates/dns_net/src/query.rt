@@ -1,7 +1,8 @@
 //! The message in the query of a request by GET (RFC 8484 4.1.1).
 
-ghost use Rattle.std.specs.Prelude.{◌≡◌, [], option_copied, IsErrOf};
-ghost use Rattle.dns_net.specs.Queries.{text_in, value_of, IsDecoded, TellsMessage};
+ghost use Rattle.std.specs.Prelude.{◌≡◌, ◌==◌, option_copied, IsErrOf};
+ghost use Rattle.std.specs.List.{slice_split};
+ghost use Rattle.dns_net.specs.Queries.{first_value, text_in, value_of, IsDecoded, TellsMessage};
 ghost use Rattle.dns_transport.specs.declared.error.NetError.TheVariants.{Io};
 
 use crate::checks::cut;
@@ -31,7 +32,17 @@ pub(crate) fn message_in(alloc: Global, query: Option<&str>) -> Result<Octets, N
 fn text_in(query: Option<&str>) -> Option<&[u8]>
     ensures { option_copied result ≡ text_in (option_copied query.entry) }
 {
-    let mut rest = query;
+    match query {
+        None => None,
+        Some(query) => first_value(query),
+    }
+}
+
+/// What stands behind `dns=` in the first part of a query that begins so.
+fn first_value(query: &str) -> Option<&[u8]>
+    ensures { option_copied result ≡ first_value (slice_split (λ b. b == 38) query.now) }
+{
+    let mut rest = Some(query);
     while let Some(text) = rest {
         let (part, after) = cut(text, '&');
         if let Some(value) = value_of(part) {
