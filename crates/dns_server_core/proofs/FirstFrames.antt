@@ -98,7 +98,7 @@ first_more most xs ys few =
     ∙ take-append-add (frames xs).messages (frames ((frames xs).rest ++ ys)).messages (most - length (frames xs).messages)
 
 sizes : (ms ns : List (List ℕ)) → framed_size (ms ++ ns) ≡ framed_size ms + framed_size ns
-sizes [] ns = refl
+sizes [] ns = omega arith
 sizes (m ∷ ms) ns = omega (arith, sizes ms ns)
 
 all_size : (bytes : List ℕ) → drop (framed_size (frames bytes).messages) bytes ≡ (frames bytes).rest
@@ -129,13 +129,13 @@ base_some base at [] some = absurd (some refl)
 base_some base at (m ∷ ms) some = refl
 
 -- a connection with another base, another rest and another count
+abbrev pub with_these : Connection → ℕ → List ℕ → ℕ → Connection
+with_these k base rest taken = record { number = k.number; peer = k.peer; limit = k.limit; base = base; rest = rest; taken = taken }
+
 pub changed : (k : Connection) (base base_now : ℕ) (rest rest_now : List ℕ) (taken taken_now : ℕ) → base ≡ base_now → rest ≡ rest_now → taken ≡ taken_now
-    → record { number = k.number; peer = k.peer; limit = k.limit; base = base; rest = rest; taken = taken }
-    ≡ record { number = k.number; peer = k.peer; limit = k.limit; base = base_now; rest = rest_now; taken = taken_now }
+    → with_these k base rest taken ≡ with_these k base_now rest_now taken_now
 changed k base base_now rest rest_now taken taken_now b r t =
-    ap (λ (n : ℕ). record { number = k.number; peer = k.peer; limit = k.limit; base = n; rest = rest; taken = taken }) b
-    ∙ ap (λ (l : List ℕ). record { number = k.number; peer = k.peer; limit = k.limit; base = base_now; rest = l; taken = taken }) r
-    ∙ ap (λ (n : ℕ). record { number = k.number; peer = k.peer; limit = k.limit; base = base_now; rest = rest_now; taken = n }) t
+    ap (λ (n : ℕ). with_these k n rest taken) b ∙ ap (λ (l : List ℕ). with_these k base_now l taken) r ∙ ap (λ (n : ℕ). with_these k base_now rest_now n) t
 
 -- what a connection is whose messages were settled: there was none, or one or more
 pub fed_none : (k : Connection) (at : ℕ) → length (messages_in k k.rest) ≡ 0 → k ≡ fed_by k at k.rest

@@ -157,7 +157,9 @@ twice_in at n p q k ks e a w true over = (
 )
 twice_in at n p q k ks e a w false more =
     let v : is_within k.limit (fed k at p).base at ≡ true = still k.limit k.base at (said k p) w in (
-      rw (behind_own at n (p ++ q) k ks e w a, behind_open at n p k ks e w a more, behind_own at n q (fed k at p) ks e v a, fed_twice k at p q more) refl,
+      behind_own at n (p ++ q) k ks e w a
+          ∙ ap (λ (c : Connection). cons_option (unless_over c) ks) (fed_twice k at p q more)
+          ∙ sym (ap (behind at n q) (behind_open at n p k ks e w a more) ∙ behind_own at n q (fed k at p) ks e v a),
       rw (asks_own at n (p ++ q) k ks e w a, asks_own at n p k ks e w a, behind_open at n p k ks e w a more, asks_own at n q (fed k at p) ks e v a, said_twice k at p q more)
           (map-append (message_of at k) (said k p) (said (fed k at p) q)),
     )

@@ -1,5 +1,5 @@
 -- None was whole, or all that it may have are let go.
-use Rattle.std.proofs.Common.{◌≡◌, ◌≤◌, ◌<◌, ◌^◌, ◌+◌, ap, arith, List, ℕ, length, subst, sym}
+use Rattle.std.proofs.Common.{◌≡◌, ◌≤◌, ◌<◌, ◌^◌, ◌+◌, ◌-◌, ap, arith, List, ℕ, length, subst, sym}
 use Rattle.dns_server_core.specs.Connections.{Connection, messages_left}
 use Rattle.dns_server_core.specs.FrameRuns.{behind_first}
 use Rattle.dns_server_core.specs.Steps.{fed_by}
@@ -25,8 +25,8 @@ returns c =
     subst (λ (old : Connection). record { number = s.number; peer = s.peer; limit = s.limit; base = c.args.at; rest = c.keep_last.new.bytes.items; taken = s.taken + c.args.answered.messages } ≡ fed_by old c.args.at old.rest) c.self.view_is
     (fed_some k _ c.args.at c.args.answered.messages c.args.answered.rest messages c.if-answered-eq0.false rest left)
 
-pub overflow_add : goal.overflow_add
-overflow_add c =
+pub overflow_add-self : goal.overflow_add-self
+overflow_add-self c =
     let messages = rw (← c.self.view_is) at c.requires.messages in
     let few = first_count (100 - c.self.inside.taken) c.self.inside.unread.items in
     omega (arith, messages, few)
