@@ -141,7 +141,7 @@ returns-then-is_over-clause-ends g c =
     let replies = c.answer.new.replies.items in
     let adds = subst (λ (x : Ask). Adds serves c.loop-turn.handler (first_asks (record x { at = at }) (messages_left new) new.rest) c.answer.new.handler c.loop-turn.replies.items replies) c.loop-turn.invariant.ask c.in_ok-answer.ensures.ok in
     let added = subst (λ (l : List ℕ). Adds serves c.loop-turn.handler (map (ask_at c.args.peer at) (messages_in new new.rest)) c.answer.new.handler l replies) c.loop-turn.invariant.written adds in
-    rw c.taken.ensures
+    rw c.taken-then-is_over.ensures
     (ends_full serves g.T.RequestHandler.skips g.R.Source.source g.W.Sink.sink g.C.Clock.clock terms before now c.loop-turn._turn c.loop-turn.session
     c.receive.new.source c.now-at.new.self at new c.answer.new.session c.answer.new.handler c.send.new.sink replies heard c.loop-turn-test.true added c.in_ok-send.ensures.ok c.in_ok-send.ensures.counts
     c.in_ok-answer.ensures.fed (sym c.is_over.ensures ∙ c.if-is_over.true))
