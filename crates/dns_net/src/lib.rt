@@ -42,6 +42,7 @@ pub use https::{HttpsClientStream, HttpsClientStreamBuilder};
 pub use link::{HttpLink, LinkCall};
 pub use memory::MemoryBody;
 pub use memory_link::MemoryLink;
+pub use place::Place;
 pub use request::{message_from, verify};
 pub use set_headers::SetHeaders;
 pub use version::{DEFAULT_DNS_QUERY_PATH, Version};
