@@ -1,8 +1,8 @@
 #!/usr/bin/env python3
 """Counts what a query costs that comes over a connection, in user instructions of the built program as it serves on loopback, on zones of
-few and of many names. The program is sent two numbers of queries for names that are there, 64 of them under way at a time, and the
-difference is divided by the queries between them, so that starting it and reading the zone are not in it. All that its worker does is in it:
-reading, cutting, taking its turn of the book, settling, writing.
+few and of many names. The program is sent two numbers of queries for names that are there, 50 of them under way at a time, over a new
+connection behind each hundred, and the difference is divided by the queries between them, so that starting it and reading the zone are not
+in it. All that its worker does is in it: accepting, reading, cutting, taking its turn of the book, settling, writing.
 
     bench/connection.py [NAMES ..]      zones of so many names each, 7 and 50,000 where none are said
 
@@ -26,7 +26,7 @@ import settle
 
 SIZES = (7, 50_000)  # names
 QUERIES = (2_000, 12_000)
-WINDOW = 64
+WINDOW = 50  # a connection has two of them
 BOUND = 600  # seconds
 
 
@@ -48,14 +48,15 @@ def instructions(zone, messages, queries, folder):
     command = ["valgrind", "--tool=cachegrind", "--cache-sim=no", f"--cachegrind-out-file={path}", clients.PROGRAM, "serve", settle.ORIGIN]
     run = subprocess.Popen([*command, f"--zone={zone}", f"--tcp=7f000001:{port}", "--workers=1"], stdin=subprocess.PIPE, stdout=subprocess.PIPE,
                            stderr=subprocess.PIPE)
-    with connected(port) as stream:
-        replies = clients.frames_in(stream)
-        for first in range(0, queries, WINDOW):
-            part = [messages[place % len(messages)] for place in range(first, min(first + WINDOW, queries))]
-            stream.sendall(b"".join(clients.framed(one) for one in part))
-            for one in part:
-                if next(replies)[:2] != one[:2]:
-                    sys.exit("a reply to another query")
+    for begin in range(0, queries, clients.MOST):
+        with connected(port) as stream:
+            replies = clients.frames_in(stream)
+            for first in range(begin, min(begin + clients.MOST, queries), WINDOW):
+                part = [messages[place % len(messages)] for place in range(first, min(first + WINDOW, queries))]
+                stream.sendall(b"".join(clients.framed(one) for one in part))
+                for one in part:
+                    if next(replies)[:2] != one[:2]:
+                        sys.exit("a reply to another query")
     run.communicate(timeout=BOUND)
     if run.returncode != 0:
         sys.exit(f"status {run.returncode}")

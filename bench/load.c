@@ -1,7 +1,8 @@
 /* A load for a server on loopback, and a bare echo to compare it with.
  *
  *   load udp PORT SECONDS WINDOW NAMES   queries over one connected socket, WINDOW of them under way
- *   load tcp PORT SECONDS WINDOW NAMES   queries over one connection, written WINDOW at a time and all read before the next
+ *   load tcp PORT SECONDS WINDOW NAMES [EACH]   queries over a connection, written WINDOW at a time and all read before the next; a new
+ *                                               connection behind each EACH of them, 100 where it does not stand, 0 for one connection
  *   load echo PORT                       gives each datagram back, and all bytes of each connection, one after the other, until
  *                                        standard input ends
  *
@@ -115,24 +116,37 @@ static void write_all(int s, const unsigned char *bytes, size_t size) {
     }
 }
 
-static void ask_stream(int port, double seconds, int window) {
+static int connected(int port) {
     struct sockaddr_in at = loopback(port);
     int s = socket(AF_INET, SOCK_STREAM, 0), on = 1;
     if (s < 0 || connect(s, (struct sockaddr *)&at, sizeof at)) die("connect");
     setsockopt(s, IPPROTO_TCP, TCP_NODELAY, &on, sizeof on);
+    return s;
+}
+
+/* A new connection is made behind each `each` queries; 0 for one connection. */
+static void ask_stream(int port, double seconds, int window, int each) {
     static unsigned char read_[1 << 20];
     unsigned char *out = malloc((size_t)window * 300);
     size_t next = 0, replies = 0;
+    int s = -1, left = 0;
     double begin = now(), end = begin + seconds;
     while (now() < end) {
+        if (s < 0 || (each && !left)) {
+            if (s >= 0) close(s);
+            s = connected(port);
+            left = each;
+        }
         size_t used = 0, have = 0, cut = 0;
-        for (int i = 0; i < window; i++) {
+        int some = each && left < window ? left : window;
+        left -= each ? some : 0;
+        for (int i = 0; i < some; i++) {
             size_t place = places[next++ % count], size = size_of(place) + 2;
             memcpy(out + used, queries + place, size);
             used += size;
         }
         write_all(s, out, used);
-        for (int i = 0; i < window; ) {
+        for (int i = 0; i < some; ) {
             if (have - cut >= 2 && have - cut >= 2 + (size_t)(read_[cut] << 8 | read_[cut + 1])) {
                 cut += 2 + (size_t)(read_[cut] << 8 | read_[cut + 1]);
                 i++, replies++;
@@ -174,12 +188,12 @@ static void echo(int port) {
 
 int main(int many, char **words) {
     if (many == 3 && !strcmp(words[1], "echo")) echo(atoi(words[2]));
-    if (many != 6) {
-        fprintf(stderr, "load udp|tcp PORT SECONDS WINDOW NAMES, or load echo PORT\n");
+    if (many != 6 && many != 7) {
+        fprintf(stderr, "load udp|tcp PORT SECONDS WINDOW NAMES [EACH], or load echo PORT\n");
         return 1;
     }
     read_names(words[5]);
     if (!strcmp(words[1], "udp")) ask_datagrams(atoi(words[2]), atof(words[3]), atoi(words[4]));
-    else ask_stream(atoi(words[2]), atof(words[3]), atoi(words[4]));
+    else ask_stream(atoi(words[2]), atof(words[3]), atoi(words[4]), many == 7 ? atoi(words[6]) : 100);
     return 0;
 }

@@ -13,6 +13,7 @@ which machine, which date and which versions.
 Needs a C compiler (cc), for load.c. Uses loopback alone, and ends each server that it starts by its own number.
 """
 
+import functools
 import os
 import platform
 import random
@@ -234,17 +235,16 @@ def loaded(load, server, way, seconds, names):
 
 
 def updated(server, turn):
-    """Updates that were acknowledged one after another over one connection, and the seconds."""
-    with socket.create_connection(("127.0.0.1", server.port), clients.BOUND) as stream:
-        stream.setsockopt(socket.IPPROTO_TCP, socket.TCP_NODELAY, 1)
-        replies = clients.frames_in(stream)
-        begin = time.perf_counter()
-        for place in range(UPDATES):
-            stream.sendall(clients.framed(clients.added(turn * UPDATES + place)))
-            reply = next(replies, None)
-            if reply is None or reply[3] & 15:
-                sys.exit(f"peers: an update is refused, or the connection ended: {reply and reply[3] & 15}")
-        return UPDATES, time.perf_counter() - begin
+    """Updates that were acknowledged one after another, a hundred over a connection, and the seconds."""
+    begin, done = time.perf_counter(), 0
+    connected = functools.partial(socket.create_connection, ("127.0.0.1", server.port), clients.BOUND)
+    for reply in clients.in_turn(connected, (clients.added(turn * UPDATES + place) for place in range(UPDATES))):
+        if reply[3] & 15:
+            sys.exit(f"peers: an update is refused: {reply[3] & 15}")
+        done += 1
+    if done != UPDATES:
+        sys.exit(f"peers: a connection ended behind {done} updates")
+    return UPDATES, time.perf_counter() - begin
 
 
 def synced(folder):

@@ -141,18 +141,16 @@ def crowds(load, seconds, folder):
 
 
 def updated(folder, turn):
-    """Updates a second over one connection, each acknowledged before the next."""
+    """Updates a second, each acknowledged before the next, a hundred over a connection."""
     zone, _ = zone_of(ZONES[0], folder)
-    with clients.Serving("--update", zone=zone, journal=Path(folder, f"journal{turn}"), workers=1) as server, server.connected() as stream:
-        replies = clients.frames_in(stream)
-        begin = time.perf_counter()
-        for place in range(UPDATES):
-            stream.sendall(clients.framed(clients.added(place)))
-            reply = next(replies, None)
-            if reply is None:
-                sys.exit(f"the connection was ended: an update took longer than its limit of {clients.LIMIT} ms")
+    with clients.Serving("--update", zone=zone, journal=Path(folder, f"journal{turn}"), workers=1) as server:
+        begin, done = time.perf_counter(), 0
+        for reply in clients.in_turn(server.connected, map(clients.added, range(UPDATES))):
             if reply[3] & 15:
                 sys.exit("an update is refused")
+            done += 1
+        if done != UPDATES:
+            sys.exit(f"the connection was ended: an update took longer than its limit of {clients.LIMIT} ms")
         return UPDATES / (time.perf_counter() - begin)
 
 

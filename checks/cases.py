@@ -13,7 +13,7 @@ colon, and behind one space its value:
                  of the repository; before the first case, of every case of the file. Where there are none: events
                  example.com. --zone=@zone
   add: WORDS     words behind these
-  in: LINE       a line of the event text
+  in: LINE       a line of the event text; (HEX)xN in it and a blank stand for these digits N times
   raw: TEXT      event text as it is, with \\n, \\r, \\t, \\\\ and \\xHH for bytes
   ask: NAME TYPE a query by datagram, with RD and the id 1234 (hexadecimal)
   is: CODE [aa]  its reply; behind it
@@ -25,6 +25,7 @@ colon, and behind one space its value:
   do: RECORD     an update record, in the same form
   is: CODE       its reply
   out: LINE      a line of the output. HEX...N at its end stands for a word of N bytes that begins with HEX
+  outs: N LINE   such a line, N times
   end: S J O     the three closing lines: the zone's serial, the rows of the journal, the open connections
   status: N      the exit status, 0 where nothing is said
 
@@ -68,11 +69,14 @@ class Case:
         elif key == "add":
             self.more += value.split()
         elif key == "in":
-            self.events += value.encode() + b"\n"
+            self.events += repeated(value).encode() + b"\n"
         elif key == "raw":
             self.events += unescaped(value)
         elif key == "out":
             self.output.append(value)
+        elif key == "outs":
+            count, line = value.split(" ", 1)
+            self.output += [line] * int(count)
         elif key == "end":
             serial, rows, connections = value.split()
             self.output += [f"serial {serial}", f"journal_len {rows}", f"open {connections}"]
@@ -108,6 +112,11 @@ class Case:
             self.output[-1] = f"P 7f000001 5300 {wire.reply(name, kind, words, answers, authority).hex()}"
         else:
             raise ValueError(f"no key of a case: {key}")
+
+
+def repeated(line):
+    """A line with all digits that it stands for."""
+    return re.sub(r"\(([0-9a-f]+)\)x([0-9]+) ?", lambda found: found[1] * int(found[2]), line)
 
 
 def unescaped(text):

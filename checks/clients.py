@@ -62,8 +62,9 @@ ASKED = [
     ("example.com", "NS", "NOERROR", True, ["example.com. 3600 IN NS ns.example.com."], []),
     ("example.net", "A", "REFUSED", False, [], []),
 ]
+MOST = 100  # messages of a connection, which is closed behind the last of them
 PERF_TURNS = 100  # times that dnsperf asks each question
-PERF_WAYS = [("-m", "udp"), ("-m", "tcp"), ("-m", "udp", "-e")]
+PERF_WAYS = [("-m", "udp"), ("-m", "tcp", "-O", f"num-queries-per-conn={MOST}"), ("-m", "udp", "-e")]
 LONG = [f"many.example.com. 60 IN A 10.0.0.{place}" for place in range(MANY)]
 
 
@@ -343,24 +344,38 @@ def frames_in(stream):
             read = read[2 + size :]
 
 
+def in_turn(connected, messages):
+    """Sends messages one after another, each behind the reply to the one before, and over a new connection behind each hundred: their
+    replies, until a connection cannot be made or ends."""
+    stream, replies = None, None
+    for place, message in enumerate(messages):
+        try:
+            if place % MOST == 0:
+                if stream is not None:
+                    stream.close()
+                stream = connected()
+                stream.setsockopt(socket.IPPROTO_TCP, socket.TCP_NODELAY, 1)
+                replies = frames_in(stream)
+            stream.sendall(framed(message))
+        except OSError:
+            break
+        reply = next(replies, None)
+        if reply is None:
+            break
+        yield reply
+    if stream is not None:
+        stream.close()
+
+
 def acknowledged(server, first, seconds):
-    """Sends updates one after another over one connection until the program is killed: the places that were answered NoError."""
+    """Sends updates one after another until the program is killed: the places that were answered NoError."""
     done = []
     timer = threading.Timer(seconds, server.run.send_signal, [signal.SIGKILL])
-    with server.connected() as stream:
-        timer.start()
-        replies = frames_in(stream)
-        for place in range(first, first + 100_000):
-            try:
-                stream.sendall(framed(added(place)))
-            except OSError:
-                break
-            reply = next(replies, None)
-            if reply is None:
-                break
-            if reply[3] & 15:
-                raise Wrong(f"an update is answered {reply.hex()}")
-            done.append(place)
+    timer.start()
+    for place, reply in enumerate(in_turn(server.connected, map(added, range(first, first + 100_000))), first):
+        if reply[3] & 15:
+            raise Wrong(f"an update is answered {reply.hex()}")
+        done.append(place)
     timer.join()
     server.run.wait(BOUND)
     return done
@@ -369,9 +384,9 @@ def acknowledged(server, first, seconds):
 def is_lost(server, places):
     """Those of the names that are not there."""
     lost = []
-    with server.connected() as stream:
-        for begin in range(0, len(places), 100):
-            part = places[begin : begin + 100]
+    for begin in range(0, len(places), MOST):
+        part = places[begin : begin + MOST]
+        with server.connected() as stream:
             stream.sendall(b"".join(framed(wire.query(f"k{place}.example.com.", "A")) for place in part))
             replies = frames_in(stream)
             lost += [place for place in part if int.from_bytes(next(replies, bytes(8))[6:8], "big") != 1]

@@ -20,6 +20,7 @@ PROGRAM = os.path.join(TOP, "crates", "dns_program", "out", "dns_program")
 ZONE = os.path.join(TOP, "examples", "example.com.zone")
 LISTS = 2_000
 BOUND = 60  # seconds
+MOST = 100  # messages of a connection, which is closed behind the last of them
 GREATEST = 2**47  # no moment and no limit reaches it
 SAFE, NO_PORT, NO_ADDRESS, EVERYBODY = ("7f000001", 53), ("7f000001", 0), ("00000000", 53), ("ffffffff", 53)
 
@@ -71,7 +72,7 @@ def total(pieces, count):
 
 
 def whole(pieces, count):
-    return len(frames(total(pieces, count))[0])
+    return min(MOST, len(frames(total(pieces, count))[0]))
 
 
 def base(begun, pieces, count):
@@ -83,7 +84,7 @@ def base(begun, pieces, count):
 
 
 def in_time(begun, limit, pieces, count):
-    return all(limit == 0 or pieces[i][1] <= base(begun, pieces, i) + limit for i in range(count))
+    return all(whole(pieces, i) < MOST and (limit == 0 or pieces[i][1] <= base(begun, pieces, i) + limit) for i in range(count))
 
 
 def completed(events):
@@ -97,7 +98,7 @@ def completed(events):
         pieces = pieces_of(place, events)
         for i in range(len(pieces)):
             if in_time(event["at"], event["limit"], pieces, i + 1):
-                for message in frames(total(pieces, i + 1))[0][whole(pieces, i) :]:
+                for message in frames(total(pieces, i + 1))[0][whole(pieces, i) : whole(pieces, i + 1)]:
                     found[pieces[i][0]].append((event["conn"], event["peer"], message))
     return [one for place in range(len(events)) for one in found[place]]
 
@@ -114,7 +115,8 @@ def open_count(events):
             continue
         pieces = pieces_of(place, events)
         limit, held = event["limit"], base(event["at"], pieces, len(pieces))
-        if in_time(event["at"], limit, pieces, len(pieces)) and (limit == 0 or last <= held + limit):
+        timely = in_time(event["at"], limit, pieces, len(pieces)) and (limit == 0 or last <= held + limit)
+        if timely and whole(pieces, len(pieces)) < MOST:
             count += 1
     return count
 
@@ -152,8 +154,8 @@ def header(chance):
 
 
 def stream(chance):
-    """Frames of headers, of nothing and of too little, of which the last may be cut."""
-    bytes_ = b""
+    """Frames of headers, of nothing and of too little, of which the last may be cut; in front of them at times many of nothing."""
+    bytes_ = bytes(2 * chance.choice([0] * 6 + [48, 98, 99, 100]))
     for _ in range(chance.randrange(1, 4)):
         message = chance.choice([header(chance), header(chance), b"", b"ab"])
         bytes_ += len(message).to_bytes(2, "big") + message

@@ -10,6 +10,7 @@ from load_model import lines
 from update_model import A, CNAME, IN, NOERROR, NS, NXDOMAIN, SOA, TXT, Record, Server, number, serial_of
 
 LISTS = [(0, 1), (7, 20_000), (7, 20_000), (1, 1), (2**64 - 1, 500), (12_345_678_901_234_567_890, 3_000)]
+MOST = 100  # messages of a connection, which is closed behind the last of them
 ONE = ["messages 1", "replies 1", "bytes 29", "noerror 1", "nxdomain 0", "serial 8", "journal_len 9", "open 4"]
 
 
@@ -36,29 +37,33 @@ def zone():
 
 
 def messages(seed, count):
-    """The messages of a drawn list in order of completion, each with its source, and whether it is a datagram."""
+    """The messages of a drawn list in order of completion, each with its source, and the number of its connection, if it comes over one."""
     sources, begun = {}, {}
     for line in lines(seed, count):
         kind, _, *words = line.split(" ")
         if kind == "A":
             sources[words[0]] = (words[1], int(words[2]))
         elif kind == "D":
-            yield bytes.fromhex(words[2]), (words[0], int(words[1])), True
+            yield bytes.fromhex(words[2]), (words[0], int(words[1])), None
         else:
             stream = begun.pop(words[0], b"") + bytes.fromhex(words[1])
             if len(stream) < 2 + int.from_bytes(stream[:2], "big"):
                 begun[words[0]] = stream
             else:
-                yield stream[2:], sources[words[0]], False
+                yield stream[2:], sources[words[0]], words[0]
 
 
 def due(seed, count):
     """The lines that the model tells."""
-    server, replies = Server(name("example.com."), zone(), True), []
-    for message, source, is_datagram in messages(seed, count):
-        reply = server.settle(message, source, is_datagram)
+    server, replies, taken = Server(name("example.com."), zone(), True), [], dict.fromkeys("1234", 0)
+    for message, source, connection in messages(seed, count):
+        if connection is not None:
+            taken[connection] += 1
+            if taken[connection] > MOST:
+                continue
+        reply = server.settle(message, source, connection is None)
         if reply is not None:
-            replies.append((len(reply) + (0 if is_datagram else 2), reply[3] & 15))
+            replies.append((len(reply) + (0 if connection is None else 2), reply[3] & 15))
     codes = [code for _, code in replies]
     return [
         f"messages {count}",
@@ -68,7 +73,7 @@ def due(seed, count):
         f"nxdomain {codes.count(NXDOMAIN)}",
         f"serial {serial_of(server.zone)}",
         f"journal_len {len(server.rows)}",
-        "open 4",
+        f"open {sum(count < MOST for count in taken.values())}",
     ]
 
 

@@ -27,6 +27,7 @@ TOP = Path(__file__).resolve().parent.parent
 PROGRAM = TOP / "crates" / "dns_program" / "out" / "dns_program"
 CONNECTIONS, SEED = 200, 1035
 BOUND = 20  # seconds for a run, a reply or a connection's end
+MOST = 100  # messages of a connection, which is closed behind the last of them
 LIMIT = 1_000  # milliseconds that a connection may stay without a whole message
 RANDOM = 300  # datagrams of random bytes
 HOST, IP = "127.0.0.1", "7f000001"
@@ -143,6 +144,14 @@ def due_to(messages, options):
     lines = told(options, [f"D 0 {IP} {first + place} {message.hex() or '-'}" for place, message in enumerate(messages)])
     found = {int(line.split()[2]): bytes.fromhex(line.split()[3]) for line in lines if line[0] == "P"}
     return [found.get(first + place) for place in range(len(messages))]
+
+
+def due_over(streams, options):
+    """The bytes that connections get back which come one after another, and the first two closing lines."""
+    events = ((f"A 0 {place} {IP} 5300 0", f"B 0 {place} {stream.hex()}", f"E 0 {place}") for place, stream in enumerate(streams, 1))
+    lines = told(options, [line for three in events for line in three])
+    replies = [line.split() for line in lines if line[0] == "C"]
+    return [b"".join(bytes.fromhex(one[2]) for one in replies if one[1] == str(place)) for place in range(1, len(streams) + 1)], lines[-3:-1]
 
 
 def due_on(stream, options):
@@ -297,16 +306,30 @@ def updates():
 
 
 def updates_between_queries(seed):
-    """Updates with many queries before and behind them, over one connection, all at once and in whatever pieces."""
+    """Updates with many queries before and behind them, over a few connections, all at once and in whatever pieces."""
     other = [wire.query("www.example.com", "A")]
     messages = [*other * 70, NEW, ADD_NEW, NEW, *other * 3, ADD_NEW, ADD_NEW_IF_NOT, ADD_MORE, MORE, OUTSIDE, *other * 100, DELETE_NEW, *[NEW] * 130, ADD_NEW, NEW]
-    stream = b"".join(map(framed, messages))
-    due = due_on(stream, ["--update"])
-    closing = told(["--update"], [f"A 0 1 {IP} 5300 0", f"B 0 1 {stream.hex()}", "E 0 1"])[-3:-1]
-    for place, pieces in enumerate([[stream], *cut_anywhere(stream, f"{seed} updates", 4)]):
+    streams = [b"".join(map(framed, messages[begin : begin + MOST])) for begin in range(0, len(messages), MOST)]
+    due, closing = due_over(streams, ["--update"])
+    ways = [[[stream] for stream in streams], *zip(*(cut_anywhere(stream, f"{seed} updates", 4) for stream in streams))]
+    for place, way in enumerate(ways):
         with serving("--update") as server:
-            yield f"updates between queries {place}", server.exchanged(pieces), due
+            yield f"updates between queries {place}", [server.exchanged(pieces) for pieces in way], due
             yield f"the end behind updates between queries {place}", server.stop()[:2], (0, "".join(line + "\n" for line in closing))
+
+
+def hundreds():
+    """More messages than a connection has: the first of them are answered, and the connection ends in order."""
+    query = framed(wire.query("www.example.com", "A"))
+    with serving() as server:
+        due = due_on(query * MOST, [])
+        yield "a hundred queries over a connection", server.exchanged([query * MOST]), due
+        yield "ten thousand queries over a connection", server.exchanged([query * 10_000]), due
+        yield "one more, in a piece of its own", server.exchanged([query * 60, query * 40, query]), due
+        with server.connected() as tcp:
+            tcp.sendall(query * MOST)
+            yield "the end of a connection that its client leaves open", received(tcp), due
+        yield "ten thousand messages without a reply", server.exchanged([bytes(20_000)]), b""
 
 
 def shut_out():
@@ -445,6 +468,7 @@ def tried(count, seed):
     yield from connections(seed)
     yield from updates()
     yield from updates_between_queries(seed)
+    yield from hundreds()
     yield from shut_out()
     yield from limits()
     yield from at_once(count)

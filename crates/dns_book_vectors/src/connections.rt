@@ -86,6 +86,30 @@ pub fn book_stream(alloc: Global, given: &str) -> Result<String, Fail> {
     Ok(answer)
 }
 
+/// How a book's connection ends over which these bytes come so many times, and how many bytes were written: `COUNT HEX STEP READS` and how it
+/// is served.
+pub fn many(alloc: Global, given: &str) -> Result<String, Fail> {
+    let (count, rest) = two(given);
+    let (digits, rest) = two(rest);
+    let (step, rest) = two(rest);
+    let (reads, rest) = two(rest);
+    let bytes = repeated(alloc, number(count), bytes_of(alloc, digits)?.as_slice())?;
+    let mut source = MemorySource::new(bytes, size(step).max(1), numbers_of(alloc, reads)?);
+    let mut book = book(alloc, "seven yes 0 0")?;
+    let told = served(alloc, &mut book, &mut source, rest)?;
+    let (answer, taken) = told.as_str().rsplit_once(' ').unwrap_or(("", ""));
+    Ok(format!(in alloc; "{answer} {}", taken.len() / 2)?)
+}
+
+/// These bytes, so many times.
+fn repeated(alloc: Global, count: u64, bytes: &[u8]) -> Result<Octets, Fail> {
+    let mut all = Octets::new(alloc);
+    for _copy in 0..count {
+        all.append(bytes)?;
+    }
+    Ok(all)
+}
+
 /// Bytes that come in at most three reads, cut at two places.
 #[derive(Drop)]
 struct Cuts {

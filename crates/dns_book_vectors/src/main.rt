@@ -75,6 +75,7 @@ fn settled_by_one(alloc: Global, kind: &str, given: &str) -> Result<String, Fail
         "buffer" => books::buffer(alloc, given),
         "stream" => connections::stream(alloc, given),
         "book_stream" => connections::book_stream(alloc, given),
+        "many" => connections::many(alloc, given),
         "cut" => connections::cut(alloc, given),
         "limit" => limits::limit(alloc, given),
         "response" => responses::response(alloc, given),

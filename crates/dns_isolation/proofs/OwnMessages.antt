@@ -9,7 +9,7 @@ use Rattle.dns_server_core.specs.declared.event.Receiver.{Receiver}
 use Rattle.dns_server_core.specs.declared.event.Receiver.TheVariants as to
 use Rattle.dns_server_core.specs.Events.{moment}
 use Rattle.dns_server_core.specs.Runs.{Completed}
-use Rattle.dns_server_core.specs.Connections.{Kept, Other, turn_of, is_safe, accepted, message_of, datagram_by, done, done_from}
+use Rattle.dns_server_core.specs.Connections.{Kept, Other, turn_of, is_safe, accepted, message_of, datagram_by, done, done_from, new_connection}
 use Rattle.dns_server_core.specs.Steps.{moved, heard, step, completed_now, open_next}
 use Rattle.dns_server_core.proofs.KeptOrder.{step-number}
 use Rattle.dns_server_core.proofs.AllConnections.{pendings, pendings-push}
@@ -56,7 +56,7 @@ accepted_other r k true h = rw h refl
 accepted_other r k false h = refl
 
 own_accepted : (r : Receiver) (e : Event) → stays r e ≡ true → filter (own r) (accepted e) ≡ accepted e
-own_accepted r (Accepted at conn peer limit) h = accepted_own r (record { number = conn; peer = peer; limit = limit; base = at; rest = [] }) (is_safe peer) h
+own_accepted r (Accepted at conn peer limit) h = accepted_own r (new_connection conn peer limit at) (is_safe peer) h
 own_accepted r (Bytes at conn piece) h = refl
 own_accepted r (Ended at conn) h = refl
 own_accepted r (Datagram at peer bytes) h = refl
@@ -64,7 +64,7 @@ own_accepted r (Tick at) h = refl
 own_accepted r (Stop at) h = refl
 
 other_accepted : (r : Receiver) (e : Event) → stays r e ≡ false → filter (own r) (accepted e) ≡ []
-other_accepted r (Accepted at conn peer limit) h = accepted_other r (record { number = conn; peer = peer; limit = limit; base = at; rest = [] }) (is_safe peer) h
+other_accepted r (Accepted at conn peer limit) h = accepted_other r (new_connection conn peer limit at) (is_safe peer) h
 other_accepted r (Bytes at conn piece) h = refl
 other_accepted r (Ended at conn) h = refl
 other_accepted r (Datagram at peer bytes) h = refl

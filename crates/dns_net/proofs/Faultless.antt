@@ -29,6 +29,8 @@ faultless said (Err (BadRequest bad.Accept)) left rest fetched sound room = absu
 faultless said (Err (BadRequest bad.Version)) left rest fetched sound room = absurd fetched
 faultless said (Err (BadRequest bad.LengthText)) left rest fetched sound room = absurd fetched
 faultless said (Err (BadRequest bad.Method)) left rest fetched sound room = absurd fetched
+faultless said (Err (BadRequest bad.Query)) left rest fetched sound room = absurd fetched
+faultless said (Err (BadRequest bad.Base64)) left rest fetched sound room = absurd fetched
 faultless said (Err Io) left rest fetched sound room = absurd (sound refl)
 faultless said (Err OutOfMemory) left rest fetched sound room = absurd (room refl)
 faultless said (Err (Build kind)) left rest fetched sound room = absurd fetched
@@ -61,6 +63,8 @@ bytes-faultless said (Err (BadRequest bad.Accept)) left rest fetched sound room 
 bytes-faultless said (Err (BadRequest bad.Version)) left rest fetched sound room = absurd fetched
 bytes-faultless said (Err (BadRequest bad.LengthText)) left rest fetched sound room = absurd fetched
 bytes-faultless said (Err (BadRequest bad.Method)) left rest fetched sound room = absurd fetched
+bytes-faultless said (Err (BadRequest bad.Query)) left rest fetched sound room = absurd fetched
+bytes-faultless said (Err (BadRequest bad.Base64)) left rest fetched sound room = absurd fetched
 bytes-faultless said (Err Io) left rest fetched sound room = absurd (sound refl)
 bytes-faultless said (Err OutOfMemory) left rest fetched sound room = absurd (room refl)
 bytes-faultless said (Err (Build kind)) left rest fetched sound room = absurd fetched

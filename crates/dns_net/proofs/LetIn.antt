@@ -1,5 +1,5 @@
 -- A request that is built is let in.
-use Rattle.std.proofs.Common.{◌≡◌, ℕ, List, [], ◌∷◌, Option, Some, None, Bool, true, refl, ap, ◌∙◌, codes, bytes_eq}
+use Rattle.std.proofs.Common.{◌≡◌, ℕ, List, [], ◌∷◌, Option, Some, None, Bool, true, ◌||◌, refl, ap, ◌∙◌, codes, bytes_eq}
 use Rattle.std.proofs.lemmas.Slice.Eq.{bytes_eq-Decides}
 use Rattle.std.specs.Str.{trim_start, trim_end, chars}
 use lib.Utf8.{encode}
@@ -12,7 +12,7 @@ use Rattle.dns_transport.specs.declared.error.NetError.{NetError}
 use Rattle.dns_net.specs.declared.version.Version.{Version}
 use Rattle.dns_net.specs.declared.version.Version.TheVariants.{Http2, Http3}
 use Rattle.dns_net.specs.Building.{IsRequest, request_headers}
-use Rattle.dns_net.specs.Checks.{is_https_scheme, is_host, is_dns_message, accepts, is_version, http_version, first_failing, verdict}
+use Rattle.dns_net.specs.Checks.{is_https_scheme, is_get, is_host, is_dns_message, accepts, is_version, http_version, first_failing, verdict}
 
 same : (text : List ℕ) → bytes_eq text text ≡ true
 same text = (bytes_eq-Decides text text).1 refl
@@ -20,6 +20,10 @@ same text = (bytes_eq-Decides text text).1 refl
 of-version : (version : Version) → is_version version (http_version version) ≡ true
 of-version Http2 = refl
 of-version Http3 = refl
+
+-- a message stands in the body of a POST
+posted : (method : List ℕ) (is_message : Bool) → method ≡ codes "POST" → is_message ≡ true → (is_get method || is_message) ≡ true
+posted method is_message is said = rw (is, said) refl
 
 -- the usual Accept
 accepts-usual : (count : ℕ) → accepts (get (request_headers count) (codes "accept")) ≡ true
@@ -39,6 +43,6 @@ let-in version name path count head is =
     (same (uri_path head.uri))
     (ap is_https_scheme is.target.0)
     (own-host (uri_authority head.uri))
-    (ap (λ headers. is_dns_message (get headers (codes "content-type"))) is.fields)
+    (posted head.method (is_dns_message (get head.headers (codes "content-type"))) is.method (ap (λ headers. is_dns_message (get headers (codes "content-type"))) is.fields))
     (ap (λ headers. accepts (get headers (codes "accept"))) is.fields ∙ accepts-usual count)
     (ap (is_version version) is.of_version ∙ of-version version)

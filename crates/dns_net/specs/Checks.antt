@@ -1,4 +1,4 @@
--- Which requests are let in (RFC 8484 4.1, 6), and how long their body is said to be.
+-- Which requests are let in (RFC 8484 4.1, 6), where their message stands, and how long their body is said to be.
 use Rattle.std.specs.Prelude.{ℕ, ◌^◌, ◌==◌, nat_lt, Bool, true, false, ◌&&◌, ◌||◌, if◌then◌else◌, List, [], ◌∷◌, codes, bytes_eq, length, Option, Some, None, Result, Ok, Err}
 use Rattle.std.specs.List.{list_any, list_all, slice_split, before_first}
 use Rattle.std.specs.Char.{digit_value}
@@ -13,6 +13,8 @@ use Rattle.http_header.specs.HeaderMap.{get}
 use Rattle.http_header.specs.FieldValue.{FieldValue, is_visible_text}
 use Rattle.http.specs.declared.version.Http.TheVariants.{H2, H3}
 use Rattle.http.specs.declared.version.TheConstants.Version.{HTTP_2, HTTP_3}
+use Rattle.dns_net.specs.declared.place.Place.{Place}
+use Rattle.dns_net.specs.declared.place.Place.TheVariants.{Body, Query}
 use Rattle.dns_net.specs.declared.version.Version.{Version}
 use Rattle.dns_net.specs.declared.version.Version.TheVariants.{Http2, Http3}
 use Rattle.dns_transport.specs.declared.error.NetError.{NetError}
@@ -42,6 +44,10 @@ is_host (Some name) (Some authority) = bytes_eq (authority_host authority) name
 
 abbrev pub is_at : Option (List ℕ) → Target → Bool
 is_at asked target = is_host asked (uri_authority target)
+
+-- the method of a request whose message stands in its target
+abbrev pub is_get : List ℕ → Bool
+is_get method = bytes_eq method (codes "GET")
 
 -- a value of Content-Type that says that a message stands in the body
 abbrev pub is_dns_message : Option FieldValue → Bool
@@ -101,7 +107,7 @@ checks_of version name path head =
     (bytes_eq (uri_path head.uri) path, BadRequest bad.Path)
     ∷ (is_https head.uri, BadRequest bad.Scheme)
     ∷ (is_at name head.uri, BadRequest bad.Authority)
-    ∷ (is_dns_message (get head.headers (codes "content-type")), BadRequest bad.ContentType)
+    ∷ (is_get head.method || is_dns_message (get head.headers (codes "content-type")), BadRequest bad.ContentType)
     ∷ (accepts (get head.headers (codes "accept")), BadRequest bad.Accept)
     ∷ (is_version version head.version, BadRequest bad.Version)
     ∷ []
@@ -110,14 +116,27 @@ checks_of version name path head =
 abbrev pub verdict : Version → Option (List ℕ) → List ℕ → Parts → Result (Unit {0}) NetError
 verdict version name path head = first_failing (checks_of version name path head)
 
--- whether its message is taken, and how long it is said to be: a request that is let in, whose length is a number, and
--- whose method is POST (RFC 8484 4.1)
-abbrev pub taken : Version → Option (List ℕ) → List ℕ → Parts → Result (Option ℕ) NetError
+-- how long the body is said to be in which the message of a request stands: its length is a number, and its method is POST
+abbrev pub body_asked : Parts → Result Place NetError
+body_asked head =
+    elim (said_length (BadRequest bad.LengthText) (get head.headers (codes "content-length"))) [
+      | Err fault ↦ Err fault
+      | Ok length ↦ if bytes_eq head.method (codes "POST") then Ok (Body length) else Err (BadRequest bad.Method)
+    ]
+
+-- where the message of a request stands that is let in: by GET in the query of its target, and else in its body (RFC 8484 4.1)
+abbrev pub taken : Version → Option (List ℕ) → List ℕ → Parts → Result Place NetError
 taken version name path head =
     elim (verdict version name path head) [
       | Err fault ↦ Err fault
-      | Ok _ ↦ elim (said_length (BadRequest bad.LengthText) (get head.headers (codes "content-length"))) [
-        | Err fault ↦ Err fault
-        | Ok length ↦ if bytes_eq head.method (codes "POST") then Ok length else Err (BadRequest bad.Method)
-      ]
+      | Ok _ ↦ if is_get head.method then Ok Query else body_asked head
     ]
+
+-- what is said of a request whose message stands in its query, and of one whose message stands in its body
+abbrev pub IfInQuery : Result Place NetError → Type 0 → Type 0
+IfInQuery (Ok Query) P = P
+IfInQuery _ P = Unit {0}
+
+abbrev pub IfInBody : Result Place NetError → (Option ℕ → Type 0) → Type 0
+IfInBody (Ok (Body length)) P = P length
+IfInBody _ P = Unit {0}

@@ -91,7 +91,7 @@ fn range_of(part: &str) -> &str
 }
 
 /// What stands before the first `mark`, and what stands behind it, where there is one.
-fn cut(text: &str, mark: char) -> (&str, Option<&str>)
+pub(crate) fn cut(text: &str, mark: char) -> (&str, Option<&str>)
     requires { mark < 128 }
     ensures before { result.0.now ≡ before_first (λ b. b == mark) text.now }
     ensures parts { slice_split (λ b. b == mark) text.now

@@ -64,6 +64,7 @@ fn answer_to(alloc: Global, given: &str, answer: &mut String) -> Result<(), Fail
         "reply" => bodies::reply(alloc, fields, answer),
         "verify" => requests::verified(alloc, fields, answer),
         "take" => requests::taken(alloc, fields, answer),
+        "get" => requests::got(alloc, fields, answer),
         "build" => requests::built(alloc, fields, answer),
         "let_in" => requests::let_in(alloc, fields, answer),
         "let_in_with_header" => requests::let_in_with_header(alloc, fields, answer),

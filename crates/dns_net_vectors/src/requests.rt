@@ -69,8 +69,10 @@ fn asked(alloc: Global, method: &str, length: &str) -> Result<Parts, Fail> {
         alloc,
         "https://ns.example.com/dns-query|application/dns-message|application/dns-message",
     )?;
-    if method == "GET" {
-        head.method = Method::GET;
+    match method {
+        "GET" => head.method = Method::GET,
+        "PUT" => head.method = Method::PUT,
+        _ => {}
     }
     put_field(
         alloc,
@@ -95,6 +97,19 @@ pub fn taken(alloc: Global, fields: &str, answer: &mut String) -> Result<(), Fai
 fn take(alloc: Global, request: &mut Request<MemoryBody>, answer: &mut String) -> Result<(), Fail> {
     let message = message_from(alloc, Version::Http2, None, "/dns-query", request);
     say(answer, message, "taken")
+}
+
+/// The message of a GET whose body has five bytes, and what comes of that body then: `TARGET|CONTENT-LENGTH|STEPS`.
+pub fn got(alloc: Global, fields: &str, answer: &mut String) -> Result<(), Fail> {
+    let (target, rest) = first_field(fields);
+    let (length, steps) = first_field(rest);
+    let mut head = asked(alloc, "GET", length)?;
+    head.uri = Uri::from_str(alloc, target)?;
+    head.headers.remove(http::header::CONTENT_TYPE);
+    let mut request = Request::from_parts(head, body_of(alloc, "5", "")?);
+    let message = message_from(alloc, Version::Http2, None, "/dns-query", &mut request);
+    put_taken(message, answer)?;
+    all_steps(alloc, request.body_mut(), steps, answer)
 }
 
 /// What the requests of a client have in common: `VERSION|NAME|PATH`.

@@ -12,7 +12,16 @@ use dns_edges::{Sink, Source};
 use dns_io::IoFault;
 use std::io::{Read, Write};
 use std::marker::Model;
-use std::net::TcpStream;
+use std::net::{Shutdown, TcpStream};
+
+/// How often what a peer still sends is read and dropped, once its connection ends.
+const DROPPED_READS: u32 = 64;
+
+/// How many bytes each of these reads has room for.
+const DROPPED_ROOM: usize = 16_384;
+
+/// After so many waits in which nothing came a connection that ends is let go.
+const DROPPED_WAITS: u64 = 10;
 
 /// What the peer of a connection sends. It ends where the peer ends it, and where the token is stopped. A read fails where the peer
 /// sent nothing for the limit that the listener was opened with. One that fails is counted once, up to `u64::MAX`.
@@ -105,6 +114,34 @@ impl Sink for ConnectionOutput {
         ensures calm { self.new ≡ self.old }
     {
         Ok(())
+    }
+}
+
+/// Ends a connection in order: nothing more is sent, and what its peer still sends is read and dropped, up to a megabyte and for about a
+/// second of silence. A connection that is closed with bytes unread is reset (RFC 1122 4.2.2.13), and its peer may lose replies by that.
+/// No fault of this is counted.
+pub(crate) fn end(mut input: ConnectionInput, output: ConnectionOutput) {
+    if output.stream.shutdown(Shutdown::Write).is_ok() {
+        drop_rest(&mut input.stream, &input.stop);
+    }
+}
+
+/// Reads what a peer still sends, and drops it: to its end, until it is silent, or so many times.
+fn drop_rest<R: Read>(reader: &mut R, stop: &StopToken) {
+    let mut room = [0; DROPPED_ROOM];
+    let mut left = DROPPED_WAITS;
+    for _read in 0..DROPPED_READS {
+        if stop.is_stopped() {
+            return;
+        }
+        match reader.read(&mut room) {
+            Ok(0) => return,
+            Ok(_count) => {}
+            Err(error) => match waits_after(error.kind(), left) {
+                Ok(waits) => left = waits,
+                Err(_fault) => return,
+            },
+        }
     }
 }
 

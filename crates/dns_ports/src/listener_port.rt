@@ -6,7 +6,7 @@ ghost use Rattle.dns_ports.specs.Ports.{Accepts, TakesBack};
 ghost use Rattle.dns_ports.specs.Sockets.{untold_listener};
 
 use crate::address::{address_of, peer_at};
-use crate::connection::{ConnectionInput, ConnectionOutput};
+use crate::connection::{ConnectionInput, ConnectionOutput, end};
 use crate::faults::{arrival_after, count, ready_after};
 use crate::patience::{Patience, one_wait};
 use crate::port::{Accepted, TcpPort};
@@ -165,7 +165,13 @@ impl<R: Net<Listener = TcpListener, Stream = TcpStream> + rt::Clock + Copy> TcpP
         ensures told { TakesBack (untold_listener self.old) (untold_listener self.new) connection }
     {
         self.lent -= 1;
-        drop(connection);
+        let Accepted {
+            input,
+            output,
+            time: _time,
+            peer: _peer,
+        } = connection;
+        end(input, output);
     }
 }
 

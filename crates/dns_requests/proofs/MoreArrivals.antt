@@ -1,5 +1,5 @@
 -- One read more.
-use Rattle.std.proofs.Common.{◌≡◌, ◌≤◌, ◌<◌, ◌∙◌, ℕ, List, [], ◌∷◌, ◌++◌, length, map, zero, suc, true, cond, Option, Some, None, Ok, refl, sym, ap, subst, arith, length-append}
+use Rattle.std.proofs.Common.{◌≡◌, ◌≤◌, ◌<◌, ◌∙◌, ℕ, List, [], ◌∷◌, ◌++◌, length, map, zero, suc, true, false, cond, ◌&&◌, Option, Some, None, Ok, refl, sym, ap, subst, arith, length-append}
 use Rattle.std.proofs.lemmas.List.{append-nil, map-append}
 use Rattle.std.proofs.lemmas.Grind.{flat_map-append}
 use Rattle.std.proofs.lemmas.Bool.{cond-true}
@@ -10,12 +10,14 @@ use Rattle.dns_book.specs.declared.ask.Ask.{Ask}
 use Rattle.dns_io.specs.Told.{Takes}
 use Rattle.dns_edges.specs.Edges.{SourceOf, ClockOf}
 use Rattle.dns_io.proofs.ToldContents.{Told-same, Takes-more}
-use Rattle.dns_frames.specs.Frames.{Cut, frames, frames_by}
-use Rattle.dns_frames.proofs.Cutting.{frames-more, frames-nil}
+use Rattle.dns_frames.specs.Frames.{frames, frames_by}
+use Rattle.dns_frames.proofs.Cutting.{frames-nil}
 use Rattle.std.proofs.Math.Seq.{take-length}
-use Rattle.dns_server_core.specs.Connections.{Arrival, Connection, Piece, base, completed, in_time, is_within, left_by, moment_at, total}
-use Rattle.dns_server_core.specs.Steps.{fed_by}
-use Rattle.dns_server_core.proofs.Pieces.{base-last, completed-push, frames-last, heard_by, in_time-last, in_time-push, moment_at-last, moment_at-push, total-push, whole-push}
+use Rattle.dns_server_core.specs.Connections.{Arrival, Connection, Piece, base, completed, in_time, is_within, left_by, may_go_on, moment_at, total, whole}
+use Rattle.dns_server_core.specs.FrameRuns.{first_messages}
+use Rattle.dns_server_core.specs.Steps.{fed_by, is_over}
+use Rattle.dns_server_core.proofs.FirstFrames.{first_all, first_none}
+use Rattle.dns_server_core.proofs.Pieces.{completed-push, few_so_far, heard_by, in_time-last, in_time-push, left_by-last, messages-last, moment_at-last, moment_at-push, next_messages, total-push, whole-push}
 use Rattle.dns_requests.specs.Arrivals.{Hears, IsPiece, Listens, ask_at, asks_of, asks_through, bytes_of, opened, room}
 
 pub one_longer : (ps : List Arrival) (a : Arrival) → length (ps ++ a ∷ []) ≡ suc (length ps)
@@ -24,17 +26,21 @@ one_longer ps a = omega (arith, length-append ps (a ∷ []))
 -- what earlier reads completed does not change
 completed-before : (c : Connection) (ps : List Arrival) (a : Arrival) (i : ℕ) → i < length ps → completed c (ps ++ a ∷ []) i ≡ completed c ps i
 unfolding completed
-completed-before c ps a i l = rw (in_time-push c ps a (suc i) (omega arith), whole-push c ps a i (omega arith), total-push c ps a (suc i) (omega arith)) refl
+completed-before c ps a i l = rw (in_time-push c ps a (suc i) (omega arith), whole-push c ps a i (omega arith), whole-push c ps a (suc i) (omega arith), total-push c ps a (suc i) (omega arith)) refl
 
 asks_through-push : (c : Connection) (ps : List Arrival) (a : Arrival) (i : ℕ) → i ≤ length ps → asks_through c (ps ++ a ∷ []) i ≡ asks_through c ps i
 unfolding asks_through
 asks_through-push c ps a zero l = refl
 asks_through-push c ps a (suc i) l = rw (asks_through-push c ps a i (omega arith), moment_at-push ps a i (omega arith), completed-before c ps a i (omega arith)) refl
 
--- what this one completes, in time
-completed-here : (c : Connection) (ps : List Arrival) (a : Arrival) → in_time c ps (length ps) ≡ true → is_within c.limit (base c ps (length ps)) a.at ≡ true
-    → completed c (ps ++ a ∷ []) (length ps) ≡ (frames ((left_by c ps).rest ++ a.piece)).messages
-completed-here c ps a t w = completed-push c ps a ∙ ap (λ b. heard_by (cond b (Some (left_by c ps)) None) (Piece a)) t ∙ cond-true _ _ _ w
+-- what this one completes, in time, where the connection may have more messages
+completed-here : (c : Connection) (ps : List Arrival) (a : Arrival) → in_time c ps (length ps) ≡ true → may_go_on c ps (length ps) ≡ true → is_within c.limit (base c ps (length ps)) a.at ≡ true
+    → completed c (ps ++ a ∷ []) (length ps) ≡ next_messages c ps a
+completed-here c ps a t m w =
+    completed-push c ps a
+    ∙ ap (λ b. heard_by (cond (b && may_go_on c ps (length ps)) (Some (left_by c ps)) None) (Piece a)) t
+    ∙ ap (λ b. heard_by (cond b (Some (left_by c ps)) None) (Piece a)) m
+    ∙ cond-true _ _ _ w
 
 asks_next : (c : Connection) (ps : List Arrival) (i : ℕ) → asks_through c ps (suc i) ≡ asks_through c ps i ++ map (ask_at c.peer (moment_at ps i)) (completed c ps i)
 unfolding asks_through
@@ -42,25 +48,27 @@ asks_next c ps i = refl
 
 -- at the beginning
 pub left_by_none : (peer : Peer) (limit began : ℕ) → left_by (opened peer limit began) [] ≡ opened peer limit began
-unfolding base total frames frames_by
+unfolding base total whole frames frames_by
 left_by_none peer limit began = refl
 
 pub asks_of-none : (c : Connection) → asks_of c [] ≡ []
 unfolding asks_through
 asks_of-none c = refl
 
-pub asks_of-push : (c : Connection) (ps : List Arrival) (a : Arrival) → in_time c ps (length ps) ≡ true → is_within c.limit (base c ps (length ps)) a.at ≡ true
-    → asks_of c (ps ++ a ∷ []) ≡ asks_of c ps ++ map (ask_at c.peer a.at) (frames ((left_by c ps).rest ++ a.piece)).messages
-asks_of-push c ps a t w =
+pub asks_of-push : (c : Connection) (ps : List Arrival) (a : Arrival) → in_time c ps (length ps) ≡ true → may_go_on c ps (length ps) ≡ true → is_within c.limit (base c ps (length ps)) a.at ≡ true
+    → asks_of c (ps ++ a ∷ []) ≡ asks_of c ps ++ map (ask_at c.peer a.at) (next_messages c ps a)
+asks_of-push c ps a t m w =
     ap (asks_through c (ps ++ a ∷ [])) (one_longer ps a) ∙ asks_next c (ps ++ a ∷ []) (length ps)
-    ∙ rw (asks_through-push c ps a (length ps) (omega arith), moment_at-last ps a, completed-here c ps a t w) refl
+    ∙ rw (asks_through-push c ps a (length ps) (omega arith), moment_at-last ps a, completed-here c ps a t m w) refl
 
-pub in_time-more : (c : Connection) (ps : List Arrival) (a : Arrival) → in_time c ps (length ps) ≡ true → is_within c.limit (base c ps (length ps)) a.at ≡ true → in_time c (ps ++ a ∷ []) (length (ps ++ a ∷ [])) ≡ true
-in_time-more c ps a t w = ap (in_time c (ps ++ a ∷ [])) (one_longer ps a) ∙ in_time-last c ps a ∙ rw (t, w) refl
+pub in_time-more : (c : Connection) (ps : List Arrival) (a : Arrival) → in_time c ps (length ps) ≡ true → may_go_on c ps (length ps) ≡ true → is_within c.limit (base c ps (length ps)) a.at ≡ true
+    → in_time c (ps ++ a ∷ []) (length (ps ++ a ∷ [])) ≡ true
+in_time-more c ps a t m w = ap (in_time c (ps ++ a ∷ [])) (one_longer ps a) ∙ in_time-last c ps a ∙ rw (t, m, w) refl
 
--- how it leaves the connection
-pub left_by-push : (c : Connection) (ps : List Arrival) (a : Arrival) → left_by c (ps ++ a ∷ []) ≡ fed_by (left_by c ps) a.at (frames ((left_by c ps).rest ++ a.piece))
-left_by-push c ps a = rw (one_longer ps a, base-last c ps a, frames-last c ps a) refl
+-- how it leaves the connection, where it may have more messages
+pub left_by-push : (c : Connection) (ps : List Arrival) (a : Arrival) → may_go_on c ps (length ps) ≡ true → is_over (fed_by (left_by c ps) a.at ((left_by c ps).rest ++ a.piece)) ≡ false
+    → left_by c (ps ++ a ∷ []) ≡ fed_by (left_by c ps) a.at ((left_by c ps).rest ++ a.piece)
+left_by-push c ps a m o = rw (one_longer ps a) (left_by-last c ps a m o)
 
 pub in_time-none : (c : Connection) → in_time c [] 0 ≡ true
 unfolding in_time
@@ -76,7 +84,7 @@ Takes-none a = Told-same (λ l r. l ≡ [] ++ r) (λ x. refl) a
 pub bytes_of-push : (ps : List Arrival) (a : Arrival) → bytes_of ps ++ a.piece ≡ bytes_of (ps ++ a ∷ [])
 bytes_of-push ps a = sym (flat_map-append (λ (p : Arrival). p.piece) ps (a ∷ []) ∙ ap (λ (l : List ℕ). bytes_of ps ++ l) (append-nil a.piece))
 
--- their messages are the frames of all bytes
+-- their messages are the first frames of all bytes
 total_all : (peer : Peer) (limit began : ℕ) (ps : List Arrival) → total (opened peer limit began) ps (length ps) ≡ bytes_of ps
 unfolding total
 total_all peer limit began ps = ap bytes_of (take-length ps)
@@ -85,21 +93,23 @@ bytes_back : (peer : Peer) (at : ℕ) (ms : List (List ℕ)) → map (λ (a : As
 bytes_back peer at [] = refl
 bytes_back peer at (m ∷ ms) = ap (λ (l : List (List ℕ)). m ∷ l) (bytes_back peer at ms)
 
-pub messages_none : (c : Connection) → map (λ (a : Ask). a.bytes) (asks_of c []) ≡ (frames (bytes_of [])).messages
-messages_none c = rw (asks_of-none c, frames-nil) refl
+pub messages_none : (c : Connection) → map (λ (a : Ask). a.bytes) (asks_of c []) ≡ first_messages 100 (bytes_of [])
+messages_none c = rw (asks_of-none c) (sym (first_none 100 [] frames-nil))
 
-pub messages_more : (peer : Peer) (limit began : ℕ) (ps : List Arrival) (a : Arrival) → in_time (opened peer limit began) ps (length ps) ≡ true → is_within limit (base (opened peer limit began) ps (length ps)) a.at ≡ true
-    → map (λ (k : Ask). k.bytes) (asks_of (opened peer limit began) ps) ≡ (frames (bytes_of ps)).messages
-    → map (λ (k : Ask). k.bytes) (asks_of (opened peer limit began) (ps ++ a ∷ [])) ≡ (frames (bytes_of (ps ++ a ∷ []))).messages
-messages_more peer limit began ps a t w h =
+pub messages_more : (peer : Peer) (limit began : ℕ) (ps : List Arrival) (a : Arrival) → in_time (opened peer limit began) ps (length ps) ≡ true → may_go_on (opened peer limit began) ps (length ps) ≡ true
+    → is_within limit (base (opened peer limit began) ps (length ps)) a.at ≡ true
+    → map (λ (k : Ask). k.bytes) (asks_of (opened peer limit began) ps) ≡ first_messages 100 (bytes_of ps)
+    → map (λ (k : Ask). k.bytes) (asks_of (opened peer limit began) (ps ++ a ∷ [])) ≡ first_messages 100 (bytes_of (ps ++ a ∷ []))
+messages_more peer limit began ps a t m w h =
     let c : Connection = opened peer limit began in
-    let rest : (left_by c ps).rest ≡ (frames (bytes_of ps)).rest = ap (λ (l : List ℕ). (frames l).rest) (total_all peer limit began ps) in
-    let ms : List (List ℕ) = (frames ((left_by c ps).rest ++ a.piece)).messages in
-    ap (map (λ (k : Ask). k.bytes)) (asks_of-push c ps a t w) ∙ map-append (λ (k : Ask). k.bytes) (asks_of c ps) (map (ask_at peer a.at) ms)
-    ∙ ap (λ (l : List (List ℕ)). l ++ map (λ (k : Ask). k.bytes) (map (ask_at peer a.at) ms)) h
-    ∙ ap (λ (l : List (List ℕ)). (frames (bytes_of ps)).messages ++ l) (bytes_back peer a.at ms ∙ ap (λ (l : List ℕ). (frames (l ++ a.piece)).messages) rest)
-    ∙ sym (ap (λ (k : Cut). k.messages) (frames-more (bytes_of ps) a.piece))
-    ∙ ap (λ (l : List ℕ). (frames l).messages) (bytes_of-push ps a)
+    let ms : List (List ℕ) = next_messages c ps a in
+    let few : length (frames (total c ps (length ps))).messages ≤ 100 = omega (arith, few_so_far c ps m) in
+    ap (map (λ (k : Ask). k.bytes)) (asks_of-push c ps a t m w)
+    ∙ map-append (λ (k : Ask). k.bytes) (asks_of c ps) (map (ask_at peer a.at) ms)
+    ∙ ap (λ (l : List (List ℕ)). l ++ map (λ (k : Ask). k.bytes) (map (ask_at peer a.at) ms)) (h ∙ ap (first_messages 100) (sym (total_all peer limit began ps)) ∙ first_all 100 (total c ps (length ps)) few)
+    ∙ ap (λ (l : List (List ℕ)). (frames (total c ps (length ps))).messages ++ l) (bytes_back peer a.at ms)
+    ∙ sym (messages-last c ps a m)
+    ∙ ap (first_messages 100) (ap (total c (ps ++ a ∷ [])) (sym (one_longer ps a)) ∙ total_all peer limit began (ps ++ a ∷ []))
 
 module _ {S C : Type 0} (source : SourceOf S) (clock : ClockOf C) where
   pub Listens-more : (s0 s1 s2 : S) (c0 c1 c2 : C) (ps : List Arrival) (a : Arrival) → Listens source clock s0 c0 ps s1 c1 → source.reads s1 room (Ok a.piece) s2 → clock.ticks c1 a.at c2
@@ -125,19 +135,19 @@ module _ {S C : Type 0} (source : SourceOf S) (clock : ClockOf C) where
   }
 
   abbrev pub Hears-more : (peer : Peer) (limit : ℕ) (s0 s1 s2 : S) (c0 c1 c2 : C) (at : ℕ) (piece : List ℕ) → (h : Hears source clock peer limit s0 c0 s1 c1) → IsPiece piece
-      → is_within limit (base (opened peer limit h.began) h.arrivals (length h.arrivals)) at ≡ true → source.reads s1 room (Ok piece) s2 → Takes (source.told s1).left (source.told s2).left piece
+      → may_go_on (opened peer limit h.began) h.arrivals (length h.arrivals) ≡ true → is_within limit (base (opened peer limit h.began) h.arrivals (length h.arrivals)) at ≡ true → source.reads s1 room (Ok piece) s2 → Takes (source.told s1).left (source.told s2).left piece
       → (source.told s2).faults ≡ (source.told s1).faults → clock.ticks c1 at c2 → Hears source clock peer limit s0 c0 s2 c2
-  Hears-more peer limit s0 s1 s2 c0 c1 c2 at piece h p w m t f r = record {
+  Hears-more peer limit s0 s1 s2 c0 c1 c2 at piece h p o w m t f r = record {
     began = h.began;
     arrivals = h.arrivals ++ record { at = at; piece = piece } ∷ [];
     pieces = all_more (λ (a : Arrival). IsPiece a.piece) h.arrivals (record { at = at; piece = piece }) h.pieces p;
-    in_time = in_time-more (opened peer limit h.began) h.arrivals (record { at = at; piece = piece }) h.in_time w;
+    in_time = in_time-more (opened peer limit h.began) h.arrivals (record { at = at; piece = piece }) h.in_time o w;
     started = h.started;
     first = h.first;
     made = Listens-more s0 s1 s2 h.started c1 c2 h.arrivals (record { at = at; piece = piece }) h.made m r;
     taken = subst (Takes (source.told s0).left (source.told s2).left) (bytes_of-push h.arrivals (record { at = at; piece = piece })) (Takes-more _ _ _ _ _ h.taken t);
     calm = f ∙ h.calm;
-    messages = messages_more peer limit h.began h.arrivals (record { at = at; piece = piece }) h.in_time w h.messages;
+    messages = messages_more peer limit h.began h.arrivals (record { at = at; piece = piece }) h.in_time o w h.messages;
   }
 
 -- an ask of the connection stays one

@@ -1,4 +1,4 @@
--- What a connection brings in, read by read (RFC 1035 4.2.2, RFC 7766 6.2, 8).
+-- What a connection brings in, read by read (RFC 1035 4.2.2, RFC 7766 6.2, 8, RFC 9210 4.2).
 use Rattle.std.specs.Prelude.{◌≡◌, ◌⊎◌, ℕ, ◌<◌, ◌≤◌, zero, suc, true, List, [], ◌∷◌, ◌++◌, length, map, Ok, Err}
 use Rattle.std.specs.List.{AllByRecursion, flat_map}
 use Rattle.dns_io.specs.declared.peer.Peer.{Peer}
@@ -7,14 +7,14 @@ use Rattle.dns_io.specs.declared.io_fault.IoFault.TheVariants as io
 use Rattle.dns_io.specs.Told.{Takes, EndsAt, Rose}
 use Rattle.dns_edges.specs.Edges.{SourceOf, ClockOf}
 use Rattle.dns_book.specs.declared.ask.Ask.{Ask}
-use Rattle.dns_frames.specs.Frames.{frames}
 use Rattle.dns_requests.specs.declared.serve_fault.ServeFault.{ServeFault}
 use Rattle.dns_requests.specs.declared.serve_fault.ServeFault.TheVariants.{Read, OutOfMemory}
-use Rattle.dns_server_core.specs.Connections.{Arrival, Connection, completed, in_time, moment_at}
+use Rattle.dns_server_core.specs.Connections.{Arrival, Connection, completed, in_time, moment_at, most_messages, new_connection}
+use Rattle.dns_server_core.specs.FrameRuns.{first_messages}
 
--- a connection at its first reading, from which its time runs: nothing of it is unread
+-- a connection at its first reading, from which its time runs
 abbrev pub opened : Peer → ℕ → ℕ → Connection
-opened peer limit began = record { number = 0; peer = peer; limit = limit; base = began; rest = [] }
+opened peer limit began = new_connection 0 peer limit began
 
 -- a message of a connection, as it is handed over
 abbrev pub ask_at : Peer → ℕ → List ℕ → Ask
@@ -48,8 +48,8 @@ Listens source clock s c [] heard ticked = (heard ≡ s) × (ticked ≡ c)
 Listens {S} {C} source clock s c (a ∷ later) heard ticked =
     (next : S) × (read : C) × source.reads s room (Ok a.piece) next × clock.ticks c a.at read × Listens source clock next read later heard ticked
 
--- what was read, each read in time: the first reading of the clock, and then the reads, a reading behind each of them. However
--- their bytes were cut, the messages are the frames of all of them
+-- what was read, each read in time, and none behind the last message that a connection may have: the first reading of the clock, and
+-- then the reads, a reading behind each of them. However their bytes were cut, the messages are the first frames of all of them
 pub record Hears {S C : Type 0} (source : SourceOf S) (clock : ClockOf C) (peer : Peer) (limit : ℕ) (s : S) (c : C) (heard : S) (ticked : C) : Type 0 where
   pub began : ℕ
   pub arrivals : List Arrival
@@ -60,7 +60,7 @@ pub record Hears {S C : Type 0} (source : SourceOf S) (clock : ClockOf C) (peer 
   pub made : Listens source clock s started arrivals heard ticked
   pub taken : Takes (source.told s).left (source.told heard).left (bytes_of arrivals)
   pub calm : (source.told heard).faults ≡ (source.told s).faults
-  pub messages : map (λ a. a.bytes) (asks_of (opened peer limit began) arrivals) ≡ (frames (bytes_of arrivals)).messages
+  pub messages : map (λ a. a.bytes) (asks_of (opened peer limit began) arrivals) ≡ first_messages most_messages (bytes_of arrivals)
 
 -- the messages of what was read
 abbrev pub heard : {S C : Type 0} → {source : SourceOf S} → {clock : ClockOf C} → {peer : Peer} → {limit : ℕ} → {s : S} → {c : C} → {source_now : S} → {clock_now : C}

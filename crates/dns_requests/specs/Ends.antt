@@ -6,7 +6,7 @@ use Rattle.dns_io.specs.Told.{Keeps, Takes, Rose}
 use Rattle.dns_edges.specs.Edges.{SourceOf, SinkOf, ClockOf}
 use Rattle.dns_book.specs.declared.ask.Ask.{Ask}
 use Rattle.dns_book.specs.declared.ask.Settled.{Settled}
-use Rattle.dns_server_core.specs.Connections.{base}
+use Rattle.dns_server_core.specs.Connections.{base, most_messages}
 use Rattle.dns_requests.specs.declared.serve_fault.ServeFault.{ServeFault}
 use Rattle.dns_requests.specs.declared.serve_fault.ServeFault.TheVariants.{Read, Write, Turns, TimedOut, OutOfMemory}
 use Rattle.dns_requests.specs.Arrivals.{IsPiece, Hears, heard, opened, room}
@@ -58,14 +58,31 @@ module _ {H S W C : Type 0} (serves : H → Ask → Settled → H → Type 0) (s
   abbrev pub TakesNone : S → Type 0
   TakesNone heard = Keeps (source.told heard).left (source.told after.source).left
 
-  -- the source came to its end, behind n messages
+  -- it may have more messages behind these
+  abbrev pub MayGoOn : List Ask → Type 0
+  MayGoOn asks = length asks < most_messages
+
+  -- so many reads were made, and one more, which found the source at its end
+  pub record ComesToItsEnd (heard : S) (made : ℕ) : Type 0 where
+    pub within : made < terms.reads
+    pub ended : source.reads heard room (Ok []) after.source
+    pub kept : TakesNone heard
+    pub end : IsAtEnd (source.told after.source).left
+
+  -- so many reads were made, and no more
+  pub record ReadsNoMore (heard : S) (made : ℕ) : Type 0 where
+    pub within : made ≤ terms.reads
+    pub same : after.source ≡ heard
+
+  -- why n messages are all: the source came to its end, or these are as many as a connection may have
+  abbrev pub AreAll : ℕ → S → ℕ → Type 0
+  AreAll n heard made = ((n < most_messages) × ComesToItsEnd heard made) ⊎ ((n ≡ most_messages) × ReadsNoMore heard made)
+
+  -- n messages were settled, and these were all
   pub record IsServed (n : ℕ) : Type 0 where
     pub source_heard : S
     pub hears : HearsUpTo source_heard after.clock
-    pub within : length hears.arrivals < terms.reads
-    pub ended : source.reads source_heard room (Ok []) after.source
-    pub kept : TakesNone source_heard
-    pub end : IsAtEnd (source.told after.source).left
+    pub all : AreAll n source_heard (length hears.arrivals)
     pub answers : AnswersAll (heard hears)
     pub count : n ≡ length (heard hears)
     pub source_calm : IsSourceCalm
@@ -76,6 +93,7 @@ module _ {H S W C : Type 0} (serves : H → Ask → Settled → H → Type 0) (s
     pub source_heard : S
     pub hears : HearsUpTo source_heard after.clock
     pub within : length hears.arrivals < terms.reads
+    pub more : MayGoOn (heard hears)
     pub failed : source.reads source_heard room (Err io.Failed) after.source
     pub kept : TakesNone source_heard
     pub answers : AnswersAll (heard hears)
@@ -90,10 +108,11 @@ module _ {H S W C : Type 0} (serves : H → Ask → Settled → H → Type 0) (s
     pub rose : Rose (sink.told before.sink).faults (sink.told after.sink).faults
     pub source_calm : IsSourceCalm
 
-  -- there were as many reads as there may be, and none of them was the end
+  -- there were as many reads as there may be, none of them was the end, and none brought the last message that a connection may have
   pub record IsCutOff (n : ℕ) : Type 0 where
     pub hears : HearsUpTo after.source after.clock
     pub all : length hears.arrivals ≡ terms.reads
+    pub more : MayGoOn (heard hears)
     pub answers : AnswersAll (heard hears)
     pub count : n ≡ terms.reads
     pub source_calm : IsSourceCalm
@@ -105,6 +124,7 @@ module _ {H S W C : Type 0} (serves : H → Ask → Settled → H → Type 0) (s
     pub clock_ticked : C
     pub hears : HearsUpTo source_heard clock_ticked
     pub within : length hears.arrivals < terms.reads
+    pub more : MayGoOn (heard hears)
     pub piece : List ℕ
     pub is_piece : IsPiece piece
     pub made : source.reads source_heard room (Ok piece) after.source

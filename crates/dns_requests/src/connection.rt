@@ -1,4 +1,4 @@
-//! One connection, served until its source ends (RFC 7766 6.2, 8).
+//! One connection, served until its source ends, or it had its last message (RFC 7766 6.2, 8, RFC 9210 4.2).
 
 ghost use Rattle.std.specs.Prelude.{◌≡◌, ◌≤◌, ◌<◌, ◌^◌, ℕ, List, true, [], length, take, IfOk, IfErr, OnOk, OnErr};
 ghost use Rattle.dns_io.specs.Told.{Grows, GrowsByPrefix, Keeps};
@@ -17,11 +17,12 @@ use std::alloc::Global;
 /// How many bytes a read has room for.
 const ROOM: usize = 4096;
 
-/// Serves a connection from a safe peer until its source ends, and tells how many messages it settled. They are cut by the two
-/// bytes of their lengths, however the reads cut them (RFC 1035 4.2.2); a message that is not whole at the end is dropped.
+/// Serves a connection from a safe peer until its source ends, or a hundred messages were settled, and tells how many there were. They
+/// are cut by the two bytes of their lengths, however the reads cut them (RFC 1035 4.2.2); a message that is not whole at the end is
+/// dropped, and so is all that stands behind the hundredth, also where it came in the same read.
 ///
 /// Its time runs from a reading of the clock at the start, and anew from each read that completes a message: a read whose reading
-/// is past that and `limit` (milliseconds, 0 for none) ends it, and its bytes are dropped. There are at most `reads` reads. All whole
+/// is past that and `limit` (milliseconds, 0 for none) ends it, and its bytes are dropped. There are at most `reads` reads. The whole
 /// messages of a read are settled in order, and their replies then written together, each behind its length. It flushes nothing.
 pub fn serve_connection<T: RequestHandler, R: Source, W: Sink, C: Clock>(
     alloc: Global,
@@ -48,7 +49,6 @@ pub fn serve_connection<T: RequestHandler, R: Source, W: Sink, C: Clock>(
     let mut session = Session::open(alloc, 0, peer, limit, began);
     let mut room = [0; ROOM];
     let mut replies = Vec::new(alloc);
-    let mut taken = 0;
     let mut ask = Ask {
         bytes: Octets::new(alloc),
         source: peer,
@@ -59,7 +59,7 @@ pub fn serve_connection<T: RequestHandler, R: Source, W: Sink, C: Clock>(
     for _turn in 0..reads {
         let count = receive(source, &mut room)?;
         if count == 0 {
-            return Ok(taken);
+            return Ok(session.taken());
         }
         let at = clock.now();
         let (piece, _) = room.split_at(count);
@@ -69,9 +69,11 @@ pub fn serve_connection<T: RequestHandler, R: Source, W: Sink, C: Clock>(
             Heard::InTime => {}
         }
         ask.at = at;
-        let messages = answer(alloc, handler, access, &mut ask, &mut session, &mut replies)?;
-        taken += messages;
+        answer(alloc, handler, access, &mut ask, &mut session, &mut replies)?;
         send(sink, &mut replies)?;
+        if session.is_over() {
+            return Ok(session.taken());
+        }
     }
     Err(ServeFault::Turns { reads })
 }

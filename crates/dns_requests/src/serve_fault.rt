@@ -16,7 +16,8 @@ pub enum ServeFault {
     /// bytes of their replies was written.
     #[error("writing failed")]
     Write,
-    /// There were as many reads as there may be, each of at least one byte. All replies were written.
+    /// There were as many reads as there may be, each of at least one byte, and the connection may have more messages. All replies were
+    /// written.
     #[error("the connection goes on after {reads} reads")]
     Turns {
         /// How many.

@@ -1,15 +1,16 @@
 -- What one event keeps.
 use Rattle.std.proofs.Common.{◌≡◌, ◌≢◌, ◌<◌, ℕ, List, [], ◌∷◌, ◌++◌, length, get_or, set, refl, sym, ap, cond, Bool, true, false, Option, Some, None, arith, zero, suc, subst, append-nil}
 use Rattle.std.specs.List.{filter_map, cons_option, AllByRecursion, remove}
-use Rattle.std.proofs.lemmas.Bool.{ne_eqb}
+use Rattle.std.proofs.lemmas.Bool.{leb-false, ne_eqb}
 use Rattle.dns_server_core.specs.declared.event.Event.{Event}
 use Rattle.dns_server_core.specs.declared.event.Event.TheVariants.{Accepted, Bytes, Ended, Datagram, Tick, Stop}
 use Rattle.dns_server_core.specs.Events.{number_in}
 use Rattle.dns_server_core.specs.Valid.{IsAbove, Rises}
-use Rattle.dns_server_core.specs.Connections.{Connection, is_safe, Turn, Piece, Over, Other, turn_of, accepted, Kept}
+use Rattle.dns_server_core.specs.Connections.{Connection, is_safe, Turn, Piece, Over, Other, turn_of, accepted, Kept, new_connection}
 use Rattle.dns_server_core.specs.Steps.{moved, step}
-use Rattle.dns_server_core.specs.Order.{IsRest, Climbs, IsUpTo, IsKept, next}
-use Rattle.dns_frames.proofs.Cutting.{frames-rest, frames-nil}
+use Rattle.dns_server_core.specs.Order.{IsGoing, IsRest, Climbs, IsUpTo, IsKept, next}
+use Rattle.dns_frames.proofs.Cutting.{frames-nil}
+use Rattle.dns_server_core.proofs.FirstFrames.{fed_rest}
 
 one : (P : Connection → Type 0) (o : Option Connection) (ks : List Connection) → ((l : Connection) → o ≡ Some l → P l) → AllByRecursion P ks → AllByRecursion P (cons_option o ks)
 one P None ks h a = a
@@ -40,25 +41,34 @@ climbs_push [] l a b = (tt, tt)
 climbs_push (k ∷ ks) l a b = (all_push (λ j. k.number < j.number) ks (l ∷ []) a.0 (b.0, tt), climbs_push ks l a.1 b.1)
 
 -- what a step keeps of a connection
-fed_is : (b : Bool) (k l : Connection) → cond b (Some k) None ≡ Some l → k ≡ l
-fed_is true k l e = cc
-fed_is false k l e = absurd cc
+fed_is : (b over : Bool) (k l : Connection) → cond b (cond over None (Some k)) None ≡ Some l → (over ≡ false) × (k ≡ l)
+fed_is true true k l e = absurd cc
+fed_is true false k l e = (refl, cc)
+fed_is false over k l e = absurd cc
 
 moved-number : (k l : Connection) (t : Turn) → moved k t ≡ Some l → l.number ≡ k.number
-moved-number k l (Piece a) e = ap (λ (c : Connection). c.number) (sym (fed_is _ _ _ e))
+moved-number k l (Piece a) e = ap (λ (c : Connection). c.number) (sym (fed_is _ _ _ _ e).1)
 moved-number k l Over e = absurd cc
 moved-number k l Other e = let f : k ≡ l = cc in ap (λ (c : Connection). c.number) (sym f)
 
 moved-rest : (k l : Connection) (t : Turn) → moved k t ≡ Some l → IsRest k → IsRest l
-moved-rest k l (Piece a) e r = subst IsRest (fed_is _ _ _ e) (frames-rest (k.rest ++ a.piece))
+moved-rest k l (Piece a) e r = let f = fed_is _ _ _ _ e in subst IsRest f.1 (fed_rest k a.at (k.rest ++ a.piece) f.0)
 moved-rest k l Over e r = absurd cc
 moved-rest k l Other e r = let f : k ≡ l = cc in subst IsRest f r
+
+moved-going : (k l : Connection) (t : Turn) → moved k t ≡ Some l → IsGoing k → IsGoing l
+moved-going k l (Piece a) e g = let f = fed_is _ _ _ _ e in subst IsGoing f.1 (leb-false _ _ f.0)
+moved-going k l Over e g = absurd cc
+moved-going k l Other e g = let f : k ≡ l = cc in subst IsGoing f g
 
 pub step-number : (e : Event) (k l : Connection) → step e k ≡ Some l → l.number ≡ k.number
 step-number e k l h = moved-number k l (turn_of k.number e) h
 
 pub step-rest : (e : Event) (k l : Connection) → step e k ≡ Some l → IsRest k → IsRest l
 step-rest e k l h r = moved-rest k l (turn_of k.number e) h r
+
+pub step-going : (e : Event) (k l : Connection) → step e k ≡ Some l → IsGoing k → IsGoing l
+step-going e k l h g = moved-going k l (turn_of k.number e) h g
 
 -- the invariant, one event later
 safe_new : (b : Bool) (P : Connection → Type 0) (k : Connection) → P k → AllByRecursion P (cond b (k ∷ []) [])
@@ -73,28 +83,36 @@ climbs_new : (b : Bool) (ks : List Connection) (l : Connection) → Climbs ks �
 climbs_new true ks l a h = climbs_push ks l a h
 climbs_new false ks l a h = subst Climbs (sym (append-nil ks)) a
 
-stepped_up : (kept : Kept) (e : Event) → IsKept kept → AllByRecursion IsRest (filter_map (step e) kept.connections) × Climbs (filter_map (step e) kept.connections) × AllByRecursion (λ k. IsUpTo kept.greatest k.number) (filter_map (step e) kept.connections)
-stepped_up kept e h = (
-  all_kept IsRest (step e) (step-rest e) kept.connections h.rests,
-  climbs_kept (step e) (step-number e) kept.connections h.climbs,
-  all_kept (λ k. IsUpTo kept.greatest k.number) (step e) (λ k l f u. subst (λ (n : ℕ). IsUpTo kept.greatest n) (sym (step-number e k l f)) u) kept.connections h.below,
-)
+record IsStepped (kept : Kept) (connections : List Connection) : Type 0 where
+  pub rests : AllByRecursion IsRest connections
+  pub going : AllByRecursion IsGoing connections
+  pub climbs : Climbs connections
+  pub below : AllByRecursion (λ k. IsUpTo kept.greatest k.number) connections
+
+stepped_up : (kept : Kept) (e : Event) → IsKept kept → IsStepped kept (filter_map (step e) kept.connections)
+stepped_up kept e h = record {
+  rests = all_kept IsRest (step e) (step-rest e) kept.connections h.rests;
+  going = all_kept IsGoing (step e) (step-going e) kept.connections h.going;
+  climbs = climbs_kept (step e) (step-number e) kept.connections h.climbs;
+  below = all_kept (λ k. IsUpTo kept.greatest k.number) (step e) (λ k l f u. subst (λ (n : ℕ). IsUpTo kept.greatest n) (sym (step-number e k l f)) u) kept.connections h.below;
+}
 
 same_next : (kept : Kept) (e : Event) → accepted e ≡ [] → number_in e ≡ [] → IsKept kept → IsKept (next kept e)
 same_next kept e a n h =
     let s = stepped_up kept e h in
-    rw (a, n, append-nil (filter_map (step e) kept.connections)) (record { rests = s.0; climbs = s.1; below = s.2 })
+    rw (a, n, append-nil (filter_map (step e) kept.connections)) (record { rests = s.rests; going = s.going; climbs = s.climbs; below = s.below })
 
 pub IsKept-next : (kept : Kept) (e : Event) → Rises kept.greatest (number_in e) → IsKept kept → IsKept (next kept e)
 IsKept-next kept (Accepted at conn peer limit) r h =
     let e = Accepted at conn peer limit in
-    let k : Connection = record { number = conn; peer = peer; limit = limit; base = at; rest = [] } in
+    let k : Connection = new_connection conn peer limit at in
     let s = stepped_up kept e h in
     record {
-      rests = all_push IsRest (filter_map (step e) kept.connections) (accepted e) s.0 (safe_new (is_safe peer) IsRest k frames-nil);
-      climbs = climbs_new (is_safe peer) (filter_map (step e) kept.connections) k s.1 (all_weaker (λ j. IsUpTo kept.greatest j.number) (λ j. j.number < conn) (λ j u. up_to kept.greatest j.number conn u r.0) (filter_map (step e) kept.connections) s.2);
+      rests = all_push IsRest (filter_map (step e) kept.connections) (accepted e) s.rests (safe_new (is_safe peer) IsRest k frames-nil);
+      going = all_push IsGoing (filter_map (step e) kept.connections) (accepted e) s.going (safe_new (is_safe peer) IsGoing k (omega arith));
+      climbs = climbs_new (is_safe peer) (filter_map (step e) kept.connections) k s.climbs (all_weaker (λ j. IsUpTo kept.greatest j.number) (λ j. j.number < conn) (λ j u. up_to kept.greatest j.number conn u r.0) (filter_map (step e) kept.connections) s.below);
       below = all_push (λ j. IsUpTo (Some conn) j.number) (filter_map (step e) kept.connections) (accepted e)
-          (all_weaker (λ j. IsUpTo kept.greatest j.number) (λ j. IsUpTo (Some conn) j.number) (λ j u. let l = up_to kept.greatest j.number conn u r.0 in omega (arith, l)) (filter_map (step e) kept.connections) s.2)
+          (all_weaker (λ j. IsUpTo kept.greatest j.number) (λ j. IsUpTo (Some conn) j.number) (λ j u. let l = up_to kept.greatest j.number conn u r.0 in omega (arith, l)) (filter_map (step e) kept.connections) s.below)
           (safe_new (is_safe peer) (λ j. IsUpTo (Some conn) j.number) k (omega arith));
     }
 IsKept-next kept (Bytes at conn piece) r h = same_next kept (Bytes at conn piece) refl refl h

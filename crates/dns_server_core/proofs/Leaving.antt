@@ -7,23 +7,25 @@ use Rattle.dns_server_core.specs.declared.event.Event.{Event}
 use Rattle.dns_server_core.specs.declared.event.Event.TheVariants.{Accepted, Bytes, Ended, Datagram, Tick, Stop}
 use Rattle.dns_server_core.specs.Events.{has_stop, is_stop}
 use Rattle.dns_server_core.specs.Valid.{StopIsLast}
-use Rattle.dns_server_core.specs.Connections.{Connection, byte_events, is_ended, base, is_within, in_time, left_by, Start, accepted, starts_in, starts, left_at, Kept}
-use Rattle.dns_server_core.specs.Order.{IsKept, IsRest, IsUpTo, closed}
+use Rattle.dns_server_core.specs.Connections.{Connection, byte_events, is_ended, base, is_within, in_time, left_by, Start, accepted, starts_in, starts, left_at, Kept, may_go_on}
+use Rattle.dns_server_core.specs.Order.{IsGoing, IsKept, IsRest, IsUpTo, closed}
 use Rattle.dns_server_core.proofs.KeptOrder.{all_kept, climbs_kept}
 use Rattle.dns_server_core.proofs.Pieces.{pending}
 
 abbrev pub alive_at : ℕ → Connection → Option Connection
 alive_at last k = cond (is_within k.limit k.base last) (Some k) None
 
-leaving : (ended stop timely w : Bool) (k : Connection) (f : Connection → Option Connection) → stop ≡ false → f k ≡ cond w (Some k) None
-    → cond (ended || stop) None (cond (timely && w) (Some k) None) ≡ option_and_then f (cond ended None (cond timely (Some k) None))
-leaving true stop timely w k f h e = refl
-leaving false stop true w k f h e = rw h (sym e)
-leaving false stop false w k f h e = rw h refl
+leaving : (ended stop timely more w : Bool) (k : Connection) (f : Connection → Option Connection) → stop ≡ false → f k ≡ cond w (Some k) None
+    → cond (ended || stop) None (cond (timely && (more && w)) (Some k) None) ≡ option_and_then f (cond ended None (cond (timely && more) (Some k) None))
+leaving true stop timely more w k f h e = refl
+leaving false stop true true w k f h e = rw h (sym e)
+leaving false stop true false w k f h e = rw h refl
+leaving false stop false more w k f h e = rw h refl
 
 left_pending : (last : ℕ) (s : Start) → has_stop s.later ≡ false → left_at last s ≡ option_and_then (alive_at last) (pending s)
 unfolding left_at
 left_pending last s h = leaving (is_ended s.connection.number s.later) (has_stop s.later) (in_time s.connection (byte_events s.connection.number s.later) (length (byte_events s.connection.number s.later)))
+    (may_go_on s.connection (byte_events s.connection.number s.later) (length (byte_events s.connection.number s.later)))
     (is_within s.connection.limit (base s.connection (byte_events s.connection.number s.later) (length (byte_events s.connection.number s.later))) last) (left_by s.connection (byte_events s.connection.number s.later)) (alive_at last) h refl
 
 closing : (ended stop : Bool) (o : Option Connection) → stop ≡ true → cond (ended || stop) None o ≡ None
@@ -93,6 +95,7 @@ pub IsKept-alive : (kept : Kept) (at : ℕ) (stopped : Bool) (last : ℕ) (conne
 IsKept-alive kept at stopped last connections e h =
     rw (e, filter_alive last kept.connections) (record {
       rests = all_kept IsRest (alive_at last) (λ k l f r. subst IsRest (alive_same _ k l f) r) kept.connections h.rests;
+      going = all_kept IsGoing (alive_at last) (λ k l f r. subst IsGoing (alive_same _ k l f) r) kept.connections h.going;
       climbs = climbs_kept (alive_at last) (λ k l f. ap (λ (c : Connection). c.number) (sym (alive_same _ k l f))) kept.connections h.climbs;
       below = all_kept (λ k. IsUpTo kept.greatest k.number) (alive_at last) (λ k l f r. subst (λ (c : Connection). IsUpTo kept.greatest c.number) (alive_same _ k l f) r) kept.connections h.below;
     })

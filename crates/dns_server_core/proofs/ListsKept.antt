@@ -12,7 +12,7 @@ use Rattle.dns_server_core.specs.Valid.{StopIsLast, Rises}
 use Rattle.dns_server_core.specs.Connections.{Connection, Kept, starts, left_at, is_within, after, done_from}
 use Rattle.dns_server_core.specs.Serving.{IsCutOff}
 use Rattle.dns_server_core.specs.Steps.{completed_now, open_next}
-use Rattle.dns_server_core.specs.Order.{IsRest, next, closed}
+use Rattle.dns_server_core.specs.Order.{IsGoing, IsRest, next, closed}
 use Rattle.dns_server_core.proofs.AllConnections.{pendings, pendings-push, pendings-nil, completed_at-is}
 use Rattle.dns_server_core.proofs.Leaving.{filter_alive, left-running, left-stopped}
 
@@ -57,8 +57,8 @@ so_far-push kept seen e =
     )
     (ap (λ (b : Bool). record { last = moment e; greatest = last_number (last_number kept.greatest (flat_map number_in seen)) (number_in e); stopped = b; connections = open_next e (pendings kept.connections seen) }) (or_again kept.stopped (has_stop seen) (is_stop e)))
 
-pub so_far-nil : (kept : Kept) → AllByRecursion IsRest kept.connections → so_far kept [] ≡ kept
-so_far-nil kept h = rw (pendings-nil kept.connections h) (ap (λ (b : Bool). record { last = kept.last; greatest = kept.greatest; stopped = b; connections = kept.connections }) (or_false kept.stopped))
+pub so_far-nil : (kept : Kept) → AllByRecursion IsRest kept.connections → AllByRecursion IsGoing kept.connections → so_far kept [] ≡ kept
+so_far-nil kept h g = rw (pendings-nil kept.connections h g) (ap (λ (b : Bool). record { last = kept.last; greatest = kept.greatest; stopped = b; connections = kept.connections }) (or_false kept.stopped))
 
 -- the next event's numbers rise
 rises-behind : (g : Option ℕ) (ns ms : List ℕ) → Rises g (ns ++ ms) → Rises (last_number g ns) ms

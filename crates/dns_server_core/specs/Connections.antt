@@ -1,6 +1,6 @@
 -- Connections by their whole byte lists: which messages a list of events completes, and what it leaves
--- (RFC 1035 4.2.2, RFC 7766 6.2, 8).
-use Rattle.std.specs.Prelude.{ℕ, ◌+◌, List, [], ◌∷◌, ◌++◌, length, take, drop, map, nat_lt, nat_le, if◌then◌else◌, zero, suc, Bool, true, false, not, is_err, ◌==◌, ◌&&◌, ◌||◌, Option, Some, None, slice_index}
+-- (RFC 1035 4.2.2, RFC 7766 6.2, 8, RFC 9210 4.2).
+use Rattle.std.specs.Prelude.{ℕ, ◌+◌, ◌-◌, min, List, [], ◌∷◌, ◌++◌, length, take, drop, map, nat_lt, nat_le, if◌then◌else◌, zero, suc, Bool, true, false, not, is_err, ◌==◌, ◌&&◌, ◌||◌, Option, Some, None, slice_index}
 use Rattle.std.specs.List.{flat_map, filter_map}
 use Rattle.dns_io.specs.declared.peer.Peer.{Peer}
 use Rattle.dns_io.specs.declared.peer.Protocol.TheVariants.{Udp, Tcp}
@@ -12,14 +12,28 @@ use Rattle.dns_book.specs.Sources.{sanitized}
 use Rattle.dns_server_core.specs.Events.{moment, last_moment, number_in, last_number, has_stop}
 use Rattle.dns_server_core.specs.Runs.{Completed}
 
+-- how many messages a connection may have: the last of them is settled like the others, and then the connection is closed (RFC 9210 4.2)
+abbrev pub most_messages : ℕ
+most_messages = 100
+
 -- a connection: its number, the other end, for how many milliseconds it may stay without a whole message (0 is without limit), the moment of
--- its acceptance or of the last piece that completed a message, and the bytes that are not yet a message
+-- its acceptance or of the last piece that completed a message, the bytes that are not yet a message, and how many messages were completed
+-- since its acceptance
 pub record Connection : Type 0 where
   pub number : ℕ
   pub peer : Peer
   pub limit : ℕ
   pub base : ℕ
   pub rest : List ℕ
+  pub taken : ℕ
+
+-- how many more messages it may have
+abbrev pub messages_left : Connection → ℕ
+messages_left c = most_messages - c.taken
+
+-- a connection that is accepted at a moment: this is its base, and nothing came yet
+abbrev pub new_connection : ℕ → Peer → ℕ → ℕ → Connection
+new_connection number peer limit at = record { number = number; peer = peer; limit = limit; base = at; rest = []; taken = 0 }
 
 -- what a server keeps from one list to the next: the last moment that it took (0 at first), the greatest number that it
 -- accepted (none at first), whether it was stopped, and the open connections
@@ -81,9 +95,9 @@ pub record Start : Type 0 where
 abbrev pub is_safe : Peer → Bool
 is_safe peer = not (is_err (sanitized peer))
 
--- the connection that an event begins: one accepted from a safe peer, with the moment as its base and nothing unread
+-- the connection that an event begins: one accepted from a safe peer
 abbrev pub accepted : Event → List Connection
-accepted (Accepted at conn peer limit) = if is_safe peer then record { number = conn; peer = peer; limit = limit; base = at; rest = [] } ∷ [] else []
+accepted (Accepted at conn peer limit) = if is_safe peer then new_connection conn peer limit at ∷ [] else []
 accepted (Bytes at conn piece) = []
 accepted (Ended at conn) = []
 accepted (Datagram at peer bytes) = []
@@ -102,9 +116,13 @@ starts connections events = map (λ c. record { connection = c; later = events }
 unfoldable pub total : Connection → List Arrival → ℕ → List ℕ
 total c pieces i = c.rest ++ flat_map (λ p. p.piece) (take i pieces)
 
--- how many whole messages these are
+-- how many whole messages these are, of which the connection has no more than it may have
 unfoldable pub whole : Connection → List Arrival → ℕ → ℕ
-whole c pieces i = length (frames (total c pieces i)).messages
+whole c pieces i = min (messages_left c) (length (frames (total c pieces i)).messages)
+
+-- it may have more behind these
+abbrev pub may_go_on : Connection → List Arrival → ℕ → Bool
+may_go_on c pieces i = nat_lt (whole c pieces i) (messages_left c)
 
 -- the moment of the piece behind the first i
 unfoldable pub moment_at : List Arrival → ℕ → ℕ
@@ -119,14 +137,16 @@ base c pieces (suc i) = if nat_lt (whole c pieces i) (whole c pieces (suc i)) th
 abbrev pub is_within : ℕ → ℕ → ℕ → Bool
 is_within limit base at = (limit == 0) || nat_le at (base + limit)
 
--- each of the first pieces came in time: none past the base behind those before it, and the limit
+-- each of the first pieces came in time: none behind the last message that the connection may have, and none past the base behind those
+-- before it, and the limit
 unfoldable pub in_time : Connection → List Arrival → ℕ → Bool
 in_time c pieces zero = true
-in_time c pieces (suc i) = in_time c pieces i && is_within c.limit (base c pieces i) (moment_at pieces i)
+in_time c pieces (suc i) = in_time c pieces i && (may_go_on c pieces i && is_within c.limit (base c pieces i) (moment_at pieces i))
 
 -- the messages that the piece behind the first ones completes, where all through it are in time
 unfoldable pub completed : Connection → List Arrival → ℕ → List (List ℕ)
-completed c pieces i = if in_time c pieces (suc i) then drop (whole c pieces i) (frames (total c pieces (suc i))).messages else []
+completed c pieces i =
+    if in_time c pieces (suc i) then drop (whole c pieces i) (take (whole c pieces (suc i)) (frames (total c pieces (suc i))).messages) else []
 
 -- the messages that one more event completes
 abbrev pub completed_with : Turn → Connection → Bool → List Arrival → List (List ℕ)
@@ -168,14 +188,22 @@ done kept events = done_from kept.connections [] events
 
 -- a connection as its pieces left it
 abbrev pub left_by : Connection → List Arrival → Connection
-left_by c pieces = record { number = c.number; peer = c.peer; limit = c.limit; base = base c pieces (length pieces); rest = (frames (total c pieces (length pieces))).rest }
+left_by c pieces = record {
+  number = c.number;
+  peer = c.peer;
+  limit = c.limit;
+  base = base c pieces (length pieces);
+  rest = (frames (total c pieces (length pieces))).rest;
+  taken = c.taken + whole c pieces (length pieces);
+}
 
 -- a connection that is open at the end, whose last moment is this: neither an end of it nor a stop came, all its pieces
--- were in time, and the last moment is
+-- were in time, it may have more messages, and the last moment is in time
 unfoldable pub left_at : ℕ → Start → Option Connection
 left_at last s = if is_ended s.connection.number s.later || has_stop s.later then None
     else if in_time s.connection (byte_events s.connection.number s.later) (length (byte_events s.connection.number s.later))
-    && is_within s.connection.limit (base s.connection (byte_events s.connection.number s.later) (length (byte_events s.connection.number s.later))) last
+    && (may_go_on s.connection (byte_events s.connection.number s.later) (length (byte_events s.connection.number s.later))
+    && is_within s.connection.limit (base s.connection (byte_events s.connection.number s.later) (length (byte_events s.connection.number s.later))) last)
     then Some (left_by s.connection (byte_events s.connection.number s.later)) else None
 
 -- what is kept after a list

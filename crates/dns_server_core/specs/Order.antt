@@ -4,12 +4,16 @@ use Rattle.std.specs.List.{AllByRecursion, filter}
 use Rattle.dns_server_core.specs.declared.event.Event.{Event}
 use Rattle.dns_frames.specs.Frames.{frames}
 use Rattle.dns_server_core.specs.Events.{moment, last_number, number_in, is_stop}
-use Rattle.dns_server_core.specs.Connections.{Connection, Kept, is_within}
+use Rattle.dns_server_core.specs.Connections.{Connection, Kept, is_within, most_messages}
 use Rattle.dns_server_core.specs.Steps.{open_next}
 
 -- a rest with no message in it
 abbrev pub IsRest : Connection → Type 0
 IsRest conn = frames conn.rest ≡ record { messages = []; rest = conn.rest }
+
+-- a connection that may have more messages
+abbrev pub IsGoing : Connection → Type 0
+IsGoing conn = conn.taken < most_messages
 
 -- in order of their numbers
 abbrev pub Climbs : List Connection → Type 0
@@ -22,6 +26,7 @@ IsUpTo (Some greatest) n = n ≤ greatest
 
 pub record IsKept (kept : Kept) : Type 0 where
   pub rests : AllByRecursion IsRest kept.connections
+  pub going : AllByRecursion IsGoing kept.connections
   pub climbs : Climbs kept.connections
   pub below : AllByRecursion (λ k. IsUpTo kept.greatest k.number) kept.connections
 

@@ -6,7 +6,8 @@ use dns_io::{Octets, Peer};
 /// open do nothing.
 #[derive(Debug, Drop)]
 pub enum Event {
-    /// A connection was accepted. It is served if its peer is safe.
+    /// A connection was accepted. It is served if its peer is safe, until it had a hundred messages: the last of them is answered, and
+    /// what comes behind it is dropped.
     Accepted {
         /// The moment.
         at: u64,

@@ -20,4 +20,4 @@ pub use event::{Event, Out, Receiver};
 pub use fault::RunFault;
 pub use handler::{Answered, RequestHandler, next_frame, refill};
 pub use server::Server;
-pub use session::{Heard, Session};
+pub use session::{Heard, MOST_MESSAGES, Session};

@@ -2,18 +2,17 @@
 
 ghost use Rattle.std.specs.Prelude.{◌≡◌, ◌<◌, ◌≤◌, ◌^◌, ◌∷◌, [], ◌++◌, length, IfOk, OnOk, OnErr, Some, None, if◌then◌else◌, vec_len};
 ghost use Rattle.std.specs.Vec.{vec_capacity};
-ghost use Rattle.dns_frames.specs.Frames.{frames};
-ghost use Rattle.dns_server_core.specs.Connections.{datagram_by};
+ghost use Rattle.dns_server_core.specs.Connections.{datagram_by, messages_left};
+ghost use Rattle.dns_server_core.specs.FrameRuns.{behind_first};
 ghost use Rattle.dns_server_core.specs.Runs.{outs_of, sent_to};
-ghost use Rattle.dns_server_core.specs.Steps.{moved, piece_at, unread_messages, heard_messages};
+ghost use Rattle.dns_server_core.specs.Steps.{moved, messages_in, piece_at, unread_messages, heard_messages};
 ghost use Rattle.dns_server_core.specs.Handing.{Hands, Breaks};
 ghost use Rattle.dns_server_core.specs.declared.event.Event.TheVariants as event;
 
 use crate::event::{Out, Receiver};
-use crate::handler::{Answered, RequestHandler};
+use crate::handler::{Answered, RequestHandler, next_frame};
 use crate::session::{Heard, Session};
 use dns_book::{AccessControl, Ask, ReplyBytes};
-use dns_frames::first_frame;
 use dns_io::{Octets, OutOfMemory, Peer, Protocol};
 use std::alloc::Global;
 use std::marker::Model;
@@ -129,7 +128,7 @@ impl<H: RequestHandler> Responder<H> {
         self.settle_message(Receiver::Peer(peer), ask)
     }
 
-    /// Settles the whole messages that a connection has unread.
+    /// Settles the whole messages that a connection has unread, no more than it may still have.
     fn settle_unread(
         &mut self,
         alloc: Global,
@@ -138,13 +137,13 @@ impl<H: RequestHandler> Responder<H> {
     ) -> Result<Answered, OutOfMemory>
         requires { at < 2 ^ 47 }
         ensures ok { OnOk result (Hands H.serves self.old (unread_messages at connection.now) self.new) }
-        ensures count { IfOk result (λ a. a.messages ≡ length (frames connection.now.rest).messages) }
-        ensures rest { IfOk result (λ a. a.rest ≡ length (frames connection.now.rest).rest) }
+        ensures count { IfOk result (λ a. a.messages ≡ length (messages_in connection.now connection.now.rest)) }
+        ensures rest { IfOk result (λ a. a.rest ≡ length (behind_first (messages_left connection.now) connection.now.rest)) }
         ensures err { OnErr result (Breaks H.serves H.skips self.old (unread_messages at connection.now) self.new) }
     {
         let mut left = connection.unread();
         let mut messages = 0;
-        while let Some((message, after)) = first_frame(left) {
+        while let Some((message, after)) = next_frame(left, connection.most() - messages) {
             let to = Receiver::Conn(connection.number());
             let ask = Ask {
                 bytes: Octets::from_slice(alloc, message)?,
@@ -163,8 +162,8 @@ impl<H: RequestHandler> Responder<H> {
         })
     }
 
-    /// Receives a piece of a connection's bytes: settles the messages that are whole now, and says whether the connection
-    /// stays open.
+    /// Receives a piece of a connection's bytes: settles the messages that are whole now, no more than it may still have, and says
+    /// whether the connection stays open.
     pub(crate) fn receive_piece(
         &mut self,
         alloc: Global,
@@ -183,7 +182,7 @@ impl<H: RequestHandler> Responder<H> {
             Heard::InTime => {
                 let answered = self.settle_unread(alloc, &*connection, at)?;
                 connection.settled(at, answered);
-                Ok(true)
+                Ok(!connection.is_over())
             }
         }
     }

@@ -87,8 +87,8 @@ impl<T> Server<T> {
         self.sessions.keeps_order();
     }
 
-    /// How many connections are open: accepted from safe peers, not ended, and not late by the last moment that was
-    /// taken; 0 after a stop. Takes no memory.
+    /// How many connections are open: accepted from safe peers, not ended, with fewer than a hundred messages completed, and not
+    /// late by the last moment that was taken; 0 after a stop. Takes no memory.
     pub fn open_count(&self) -> u64
         ensures { result ≡ length self.now.kept.connections }
     {

@@ -1,14 +1,18 @@
-//! The rule of a connection, as a machine that whoever drives it tells what came and what was done (RFC 1035 4.2.2, RFC 7766 6.2.3, 8).
+//! The rule of a connection, as a machine that whoever drives it tells what came and what was done (RFC 1035 4.2.2, RFC 7766 6.2.3, 8,
+//! RFC 9210 4.2).
 
-ghost use Rattle.std.specs.Prelude.{◌≡◌, ◌≤◌, ◌-◌, true, [], length, drop, IfOk, OnErr};
-ghost use Rattle.dns_frames.specs.Frames.{frames};
-ghost use Rattle.dns_server_core.specs.Connections.{is_within};
-ghost use Rattle.dns_server_core.specs.Steps.{fed_by, HearsPiece};
+ghost use Rattle.std.specs.Prelude.{◌≡◌, ◌≤◌, ◌-◌, true, length, drop, IfOk, OnErr};
+ghost use Rattle.dns_server_core.specs.Connections.{is_within, messages_left, new_connection};
+ghost use Rattle.dns_server_core.specs.FrameRuns.{behind_first};
+ghost use Rattle.dns_server_core.specs.Steps.{fed_by, is_over, messages_in, HearsPiece};
 
 use crate::handler::Answered;
 use dns_io::{OutOfMemory, Peer};
 use std::alloc::Global;
 use std::marker::Model;
+
+/// How many messages a connection may have. The last of them is settled like the others, and then the connection is closed.
+pub const MOST_MESSAGES: u64 = 100;
 
 /// What became of a piece of a connection's bytes.
 #[derive(Clone, Copy, Debug, PartialEq, Eq)]
@@ -22,9 +26,10 @@ pub enum Heard {
     },
 }
 
-/// An open connection: the other end, its deadline, and the bytes that are not yet a message. It reads, writes and settles nothing:
-/// whoever drives it tells it each piece of bytes that comes, settles the whole messages at the front of its unread bytes, and tells it
-/// that this was done. Moments and limits are in milliseconds, below 2^47.
+/// An open connection: the other end, its deadline, the bytes that are not yet a message, and how many messages it has had. It reads,
+/// writes and settles nothing: whoever drives it tells it each piece of bytes that comes, settles the whole messages at the front of its
+/// unread bytes, no more than it may still have, tells it that this was done, and closes it once it had its last one. Moments and limits
+/// are in milliseconds, below 2^47.
 #[derive(Drop)]
 pub struct Session {
     number: u32,
@@ -32,6 +37,7 @@ pub struct Session {
     limit: u64,
     base: u64,
     unread: Vec<u8>,
+    taken: u64,
 }
 
 impl Model for Session {
@@ -39,14 +45,14 @@ impl Model for Session {
 
     ghost Value = { Connection };
 
-    ghost view = { λ s. record { number = s.number; peer = s.peer; limit = s.limit; base = s.base; rest = s.unread.items } };
+    ghost view = { λ s. record { number = s.number; peer = s.peer; limit = s.limit; base = s.base; rest = s.unread.items; taken = s.taken } };
 }
 
 impl Session {
     /// A connection that is accepted at a moment. For `limit` milliseconds it may stay without a whole message; 0 is without limit. The
     /// number tells it from the others of a server. Takes no memory.
     pub fn open(alloc: Global, number: u32, peer: Peer, limit: u64, at: u64) -> Session
-        ensures { result ≡ record { number = number; peer = peer; limit = limit; base = at; rest = [] } }
+        ensures { result ≡ new_connection number peer limit at }
     {
         Session {
             number,
@@ -54,6 +60,7 @@ impl Session {
             limit,
             base: at,
             unread: Vec::new(alloc),
+            taken: 0,
         }
     }
 
@@ -78,6 +85,27 @@ impl Session {
         self.unread.as_slice()
     }
 
+    /// How many messages it has had since its acceptance.
+    pub fn taken(&self) -> u64
+        ensures { result ≡ self.now.taken }
+    {
+        self.taken
+    }
+
+    /// How many more messages it may have.
+    pub fn most(&self) -> u64
+        ensures { result ≡ messages_left self.now }
+    {
+        MOST_MESSAGES.saturating_sub(self.taken)
+    }
+
+    /// Whether it had its last message: it is to be closed, and what it has unread, and may still bring, is dropped.
+    pub fn is_over(&self) -> bool
+        ensures { result ≡ is_over self.now }
+    {
+        MOST_MESSAGES <= self.taken
+    }
+
     /// Whether a moment is not past the connection's time, which runs from its acceptance, and anew from each piece that completes a
     /// message.
     pub fn is_within(&self, at: u64) -> bool
@@ -100,17 +128,19 @@ impl Session {
         Ok(Heard::InTime)
     }
 
-    /// The whole messages of the unread bytes were settled: they are let go, and where there was one the time runs from this moment. Takes
-    /// no memory; bytes are moved only behind a message, and then no more than stand behind the last one.
+    /// The whole messages at the front of the unread bytes were settled, no more than it may still have: they are counted and let go, and
+    /// where there was one the time runs from this moment. Takes no memory; bytes are moved only behind a message, and then no more than
+    /// stand behind the last one.
     pub fn settled(&mut self, at: u64, answered: Answered)
-        requires messages { answered.messages ≡ length (frames self.old.rest).messages }
-        requires rest { answered.rest ≡ length (frames self.old.rest).rest }
-        ensures { self.new ≡ fed_by self.old at (frames self.old.rest) }
+        requires messages { answered.messages ≡ length (messages_in self.old self.old.rest) }
+        requires rest { answered.rest ≡ length (behind_first (messages_left self.old) self.old.rest) }
+        ensures { self.new ≡ fed_by self.old at self.old.rest }
     {
         if answered.messages == 0 {
             return;
         }
         self.base = at;
+        self.taken += answered.messages;
         keep_last(&mut self.unread, answered.rest);
     }
 }

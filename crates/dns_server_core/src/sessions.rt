@@ -182,7 +182,8 @@ fn apply<H: RequestHandler>(
     }
 }
 
-/// Receives a piece of the bytes of the connection of a number; one that came too late closes it.
+/// Receives a piece of the bytes of the connection of a number; one that came too late closes it, and one that brings the last message
+/// that it may have.
 fn receive_bytes<H: RequestHandler>(
     alloc: Global,
     responder: &mut Responder<H>,

@@ -33,9 +33,15 @@ pub enum BadRequestKind {
     /// A Content-Length that is no number of bytes.
     #[error("the content length is no number")]
     LengthText,
-    /// A method other than POST.
-    #[error("the method is not POST")]
+    /// A method other than GET and POST.
+    #[error("the method is neither GET nor POST")]
     Method,
+    /// By GET, a query of which no part says a message (RFC 8484 4.1.1), or no query.
+    #[error("the query says no message")]
+    Query,
+    /// By GET, a message that is no base64url text without padding (RFC 4648 3.2, 5).
+    #[error("the message in the query is no base64url text without padding")]
+    Base64,
     /// A body of another length than its Content-Length.
     #[error("the body has another length than was said")]
     Length,
@@ -83,7 +89,7 @@ pub enum LinkFault {
 /// Why a message does not come or go over HTTP, QUIC or multicast.
 #[derive(Clone, Copy, Debug, PartialEq, Eq, Error)]
 pub enum NetError {
-    /// The body of a request has more than 65,535 bytes.
+    /// The body of a request, or the message in its query, has more than 65,535 bytes.
     #[error("the body has more than 65535 bytes")]
     RequestTooLarge,
     /// The request is not let in.

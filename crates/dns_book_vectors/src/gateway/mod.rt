@@ -23,6 +23,7 @@ fn put_answer(alloc: Global, kind: &str, fields: &str, answer: &mut String) -> R
         "quic_echo" => over_quic::by_echo(alloc, fields, answer),
         "http_book" => over_http::by_book(alloc, fields, answer),
         "http_echo" => over_http::by_echo(alloc, fields, answer),
+        "http_get" => over_http::got_by_book(alloc, fields, answer),
         _ => Ok(answer.push_str("no such kind")?),
     }
 }

@@ -7,7 +7,8 @@ use dns_io::Octets;
 use dns_net::{MemoryBody, NetError, RequestContext, Version};
 use dns_rows::{bytes_of, first_field, numbers_of, put_bytes};
 use dns_server_core::{AccessControl, RequestHandler};
-use http::{Request, Response};
+use http::request::Parts;
+use http::{HeaderValue, Method, Request, Response, Uri};
 use std::alloc::Global;
 use std::collections::LinkedList;
 use std::test::Fail;
@@ -23,6 +24,27 @@ pub fn by_echo(alloc: Global, fields: &str, answer: &mut String) -> Result<(), F
     let mut echo = Echo::new();
     settle(alloc, &mut echo, fields, answer)?;
     echo.tell(answer)
+}
+
+/// What comes of a GET that a book settles, whose body fails where it is read: `VERSION|TARGET`.
+pub fn got_by_book(alloc: Global, fields: &str, answer: &mut String) -> Result<(), Fail> {
+    let (version, target) = first_field(fields);
+    let mut book = book(alloc)?;
+    let version = version_of(version);
+    let body = body_of(alloc, "6162", "1")?;
+    let mut request = Request::from_parts(get(alloc, version, target)?, body);
+    settle_request(alloc, &mut book, version, &mut request, answer)
+}
+
+/// The head of a GET of this target, with the Accept of messages and no Content-Type.
+fn get(alloc: Global, version: Version, target: &str) -> Result<Parts, Fail> {
+    let mut head = Parts::new(alloc);
+    head.method = Method::GET;
+    head.version = version.http();
+    head.uri = Uri::from_str(alloc, target)?;
+    let accept = HeaderValue::from_bytes(alloc, b"application/dns-message".as_slice())?;
+    head.headers.insert(http::header::ACCEPT, accept)?;
+    Ok(head)
 }
 
 /// A body of one piece of these bytes, with the numbers of its calls that fail.
@@ -62,7 +84,7 @@ fn request_of(alloc: Global, version: Version, fields: &str) -> Result<Request<M
     Ok(Request::from_parts(head, body_of(alloc, digits, failing)?))
 }
 
-/// Settles a request to ns.example.com at the moment 7.
+/// Settles a POST to ns.example.com.
 fn settle<T: RequestHandler>(
     alloc: Global,
     handler: &mut T,
@@ -72,6 +94,17 @@ fn settle<T: RequestHandler>(
     let (version, rest) = first_field(fields);
     let version = version_of(version);
     let mut request = request_of(alloc, version, rest)?;
+    settle_request(alloc, handler, version, &mut request, answer)
+}
+
+/// Settles a request to ns.example.com at the moment 7.
+fn settle_request<T: RequestHandler>(
+    alloc: Global,
+    handler: &mut T,
+    version: Version,
+    request: &mut Request<MemoryBody>,
+    answer: &mut String,
+) -> Result<(), Fail> {
     let access = AccessControl::new(alloc);
     let settled = dns_gateway::settle_http(
         alloc,
@@ -80,7 +113,7 @@ fn settle<T: RequestHandler>(
         version,
         Some("ns.example.com"),
         "/dns-query",
-        &mut request,
+        request,
         PEER,
         7,
     );

@@ -10,7 +10,7 @@ invariant-loop-turn g l =
     record {
       going : Going (g.T.RequestHandler.serves l.access) g.T.RequestHandler.skips g.R.Source.source g.W.Sink.sink g.C.Clock.clock (record { peer = l.fn.peer; limit = l.limit; reads = l.reads })
           (record { handler = l.fn.handler; source = l.fn.source; sink = l.fn.sink; clock = l.fn.clock })
-          (record { handler = l.handler; source = l.source; sink = l.sink; clock = l.clock }) l._turn l.session l.taken;
+          (record { handler = l.handler; source = l.source; sink = l.sink; clock = l.clock }) l._turn l.session;
       ask : l.ask ≡ record { bytes = l.ask.bytes; source = l.fn.peer; protocol = Tcp; at = l.ask.at; client = 0 };
       written : l.replies.items ≡ [];
       unflushed : Keeps (g.W.Sink.sink.told l.fn.sink).flushed (g.W.Sink.sink.told l.sink).flushed;

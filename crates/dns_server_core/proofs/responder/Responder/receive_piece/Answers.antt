@@ -1,4 +1,5 @@
--- Nothing was handed over, or all that was whole.
+-- Nothing was handed over, or all that was whole and may still come.
+use Rattle.std.proofs.Common.{ap, not}
 use Rattle.dns_server_core.proofs.Running.{Hands-none, Hands-same, Breaks-same, breaks_none}
 use Rattle.dns_server_core.proofs.OnePiece.{on_err, heard_in_time, heard_late, moved_in_time, moved_late}
 use Rattle.dns_server_core.proofs.responder.Responder.receive_piece.Goals as goal
@@ -22,7 +23,8 @@ returns-in_err-answered-in-InTime-clause-err g c =
 
 pub returns-in_ok-answered-in-InTime-clause-ok : goal.returns-in_ok-answered-in-InTime-clause-ok
 returns-in_ok-answered-in-InTime-clause-ok g c =
-    moved_in_time c.args.connection.now c.hear.new.self c.settled.new.self c.args.at c.args.piece.now (rw c.in-InTime.is at c.in_ok-heard.ensures.ok) c.settled.ensures
+    moved_in_time c.args.connection.now c.hear.new.self c.settled.new.self c.args.at c.args.piece.now (not c.is_over.result) (rw c.in-InTime.is at c.in_ok-heard.ensures.ok) c.settled.ensures
+    (ap not c.is_over.ensures)
 
 pub returns-in_ok-answered-in-InTime-clause-ran : goal.returns-in_ok-answered-in-InTime-clause-ran
 returns-in_ok-answered-in-InTime-clause-ran g c =

@@ -10,8 +10,9 @@ use Rattle.dns_server_core.proofs.sessions.Sessions.serve.Goals as goal
 
 pub loop-event-init : goal.loop-event-init
 loop-event-init g c =
+    let kept : IsKept c.args.self.now = subst (λ (k : Kept). IsKept k) c.self.view_is c.self.invariant in
     record {
-      kept = sym (so_far-nil c.args.self.now (subst (λ (k : Kept). IsKept k) c.self.view_is c.self.invariant).rests);
+      kept = sym (so_far-nil c.args.self.now kept.rests kept.going);
       front = Front-none _ _ _;
     }
 
