@@ -76,6 +76,7 @@ impl Source for ConnectionInput {
 pub struct ConnectionOutput {
     stream: TcpStream,
     waits: u64,
+    answered: bool,
     faults: u64,
 }
 
@@ -95,6 +96,7 @@ impl ConnectionOutput {
         ConnectionOutput {
             stream,
             waits,
+            answered: false,
             faults: 0,
         }
     }
@@ -105,6 +107,7 @@ impl Sink for ConnectionOutput {
 
     fn write(&mut self, bytes: &[u8]) -> Result<usize, IoFault> {
         let outcome = write_waiting(&mut self.stream, self.waits, bytes);
+        self.answered = true;
         count(outcome, &mut self.faults)
     }
 
@@ -117,11 +120,11 @@ impl Sink for ConnectionOutput {
     }
 }
 
-/// Ends a connection in order: nothing more is sent, and what its peer still sends is read and dropped, up to a megabyte and for about a
-/// second of silence. A connection that is closed with bytes unread is reset (RFC 1122 4.2.2.13), and its peer may lose replies by that.
-/// No fault of this is counted.
+/// Ends a connection in order: nothing more is sent, and where something was, what its peer still sends is read and dropped, up to a
+/// megabyte and for about a second of silence. A connection that is closed with bytes unread is reset (RFC 1122 4.2.2.13), and its peer
+/// may lose replies by that. No fault of this is counted.
 pub(crate) fn end(mut input: ConnectionInput, output: ConnectionOutput) {
-    if output.stream.shutdown(Shutdown::Write).is_ok() {
+    if output.answered && output.stream.shutdown(Shutdown::Write).is_ok() {
         drop_rest(&mut input.stream, &input.stop);
     }
 }
