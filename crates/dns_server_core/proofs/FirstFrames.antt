@@ -1,5 +1,5 @@
 -- The first messages of a stream, and what stands behind them.
-use Rattle.std.proofs.Common.{◌≡◌, ◌≢◌, ◌≤◌, ◌<◌, ℕ, ◌+◌, ◌-◌, ◌*◌, min, List, [], ◌∷◌, ◌++◌, length, take, drop, refl, sym, ap, ◌∙◌, subst, arith, zero, suc, inl, inr, length-append, length-drop, false}
+use Rattle.std.proofs.Common.{◌≡◌, ◌≢◌, ◌≤◌, ◌<◌, ℕ, ◌+◌, ◌-◌, ◌*◌, min, List, [], ◌∷◌, ◌++◌, length, take, drop, refl, sym, ap, ◌∙◌, subst, arith, zero, suc, inl, inr, length-drop, false}
 use Rattle.std.proofs.lemmas.Bool.{cases_lt, leb-false}
 use Rattle.std.proofs.lemmas.List.{drop-append-le, drop-drop, length-take, length-take-le, take-append-le, take_all}
 use Rattle.std.proofs.Math.Seq.{take-append-add, take-nil}
