@@ -1,1 +1,7 @@
 pub mod Ascending
+pub mod Putting
+pub mod Adding
+pub mod Runs
+pub mod RunsAscend
+pub mod RunsGrow
+pub mod Covering
