@@ -5,7 +5,7 @@ use Rattle.sqlite.specs.Steps.{FailsToCommit}
 use Rattle.sqlite.specs.Order.{Row}
 use Rattle.sqlite.specs.State.{State, Survives, KeepsCommit, IsRolledBack, ExecutesInside}
 use Rattle.sqlite.proofs.InsideLemmas.{keeps_then}
-use Rattle.dns_sqlite.specs.Tables.{journal_schema}
+use Rattle.dns_sqlite.specs.Tables.{row_schema}
 use Rattle.dns_sqlite.specs.Batch.{ArePut, PutsOne, PutsAll}
 use Rattle.dns_sqlite.proofs.Rows.{put_more}
 
@@ -13,7 +13,7 @@ pub survives_none : (s : State) → Survives s s (λ _. ⊥)
 survives_none s = record { clean = omega arith; shield = λ h. h; counts = omega arith; limit = refl; closes = λ _ h. inl h; crash = λ _ db h. inl h }
 
 module _ (client serial : ℕ) (stamp : List ℕ) where
-  pub puts_none : (s : State) → IsTrue s.in_transaction → s.now.schema ≡ journal_schema → PutsAll client serial stamp [] s s
+  pub puts_none : (s : State) → IsTrue s.in_transaction → s.now.schema ≡ row_schema → PutsAll client serial stamp [] s s
   puts_none s inside has = record {
     grown = record { schema = has; rows = refl; others = λ t _. refl; sound = λ h. h };
     commit = record { was_open = λ h. h; committed = λ _. refl };

@@ -14,7 +14,7 @@ use Rattle.sqlite.specs.Clock.{timed}
 use Rattle.sqlite_schema.specs.declared.command.Returning.{Returning}
 use Rattle.sqlite.proofs.Callers.{IsPlain, EndsIn, command_of, reads_as, begins_shown}
 use Rattle.sqlite.proofs.StateLemmas.{unchanged}
-use Rattle.dns_sqlite.specs.Tables.{journal_schema, seen, not_below, by_key, HasRow, HasRows}
+use Rattle.dns_sqlite.specs.Tables.{row_schema, seen, not_below, by_key, HasRow, HasRows}
 use Rattle.std.proofs.Common.{length, get_or, ◌<◌, zero, suc, arith, Less, Equal, Greater, Ordering}
 use Rattle.std.specs.List.{AllByRecursion, Contains}
 use Rattle.std.specs.Ordering.{is_lt, is_ge, ordering_then, int_cmp}
@@ -41,15 +41,15 @@ staged_is id (r ∷ rows) = elim (cases_Bool (not_below id r)) [
   | inr away ↦ rw away (staged_is id rows)
 ]
 
-pub finds : (old new : State) (id : ℤ) (rows : List Row) → old.now.schema ≡ journal_schema → Shown from_text (Int id ∷ []) old new rows → HasRows 128 id (old.now.trees 1) rows
+pub finds : (old new : State) (id : ℤ) (rows : List Row) → old.now.schema ≡ row_schema → Shown from_text (Int id ∷ []) old new rows → HasRows 128 id (old.now.trees 1) rows
 finds old new id rows has h =
-    let got = reads_as from_text (Int id ∷ []) old new journal_schema has _ from_is.0 from_plain from_is.1 rows h in
+    let got = reads_as from_text (Int id ∷ []) old new row_schema has _ from_is.0 from_plain from_is.1 rows h in
     let a : IsAnswer query (overlay old.now.trees []) (Int id ∷ []) rows = got.answer Null in
     let kept : a.kept ≡ map seen (filter (not_below id) (old.now.trees 1)) = a.distinct ∙ ap (map (output query)) a.grouped ∙ staged_is id (old.now.trees 1) in
     (a.ordered, subst (λ k. IsPermutation k a.ordered) kept a.same, a.sorted, a.shown)
 
 -- the rows that the query has given so far begin those that it finds
-pub begins : (s : State) (id : ℤ) (rows : List Row) → s.now.schema ≡ journal_schema → s.is_open ≡ true → Begins from_text (Int id ∷ []) s rows → (tail : List Row) × HasRows 128 id (s.now.trees 1) (rows ++ tail)
+pub begins : (s : State) (id : ℤ) (rows : List Row) → s.now.schema ≡ row_schema → s.is_open ≡ true → Begins from_text (Int id ∷ []) s rows → (tail : List Row) × HasRows 128 id (s.now.trees 1) (rows ++ tail)
 begins s id rows has live h =
     let more = begins_shown from_text (Int id ∷ []) s s rows h (unchanged s live) (λ c db it source.
     let known = ap (λ k. understood k from_text) (sym has) ∙ it.is in
@@ -58,7 +58,7 @@ begins s id rows has live h =
     (more.0, finds s s id (rows ++ more.0) has more.1)
 
 -- and it changes nothing
-pub same : (old new : State) (id : ℤ) (rows : List Row) → old.now.schema ≡ journal_schema → Shown from_text (Int id ∷ []) old new rows → IsUnchanged old new
+pub same : (old new : State) (id : ℤ) (rows : List Row) → old.now.schema ≡ row_schema → Shown from_text (Int id ∷ []) old new rows → IsUnchanged old new
 unfolding Shown
 same old new id rows has h =
     let known = sym h.1.is ∙ ap (λ s. understood s from_text) has in

@@ -12,7 +12,7 @@ use Rattle.sqlite.specs.State.{Shown, IsUnchanged}
 use Rattle.sqlite.specs.Effect.{Database}
 use Rattle.sqlite.proofs.Callers.{given_begin}
 use Rattle.dns_keeper.specs.declared.row.Row.{Row}
-use Rattle.dns_sqlite.specs.Tables.{journal_schema, from_text, HasRows}
+use Rattle.dns_sqlite.specs.Tables.{row_schema, from_text, HasRows}
 use Rattle.dns_sqlite.specs.Reads.{ReadsAs, AreRead, HasPage}
 use Rattle.dns_sqlite.proofs.Finds.{finds, begins}
 use Rattle.dns_sqlite.proofs.Selects.{from_bare, never_returns}
@@ -37,9 +37,9 @@ front (suc n) (x ∷ xs) ys (a ∷ all) e =
 fewer : (count : ℕ) (id : ℤ) (table shown tail : List Values) → HasRows count id table (shown ++ tail) → HasRows (length shown) id table shown
 fewer count id table shown tail h = (h.0, h.1, h.2, front count shown tail _ h.3)
 
-module _ {S : Type 0} (g : Ghosts S) (old mid : Held S) (id : ℤ) (given : List Values) (rows : List Row) (has : (state g old).now.schema ≡ journal_schema) (same : (state g mid).now ≡ (state g old).now)
+module _ {S : Type 0} (g : Ghosts S) (old mid : Held S) (id : ℤ) (given : List Values) (rows : List Row) (has : (state g old).now.schema ≡ row_schema) (same : (state g mid).now ≡ (state g old).now)
     (gives : HasGiven g from_text (Int id ∷ []) mid given) (read : AreRead given rows) where
-  schema_is : (state g mid).now.schema ≡ journal_schema
+  schema_is : (state g mid).now.schema ≡ row_schema
   schema_is = ap (λ (d : Database). d.schema) same ∙ has
 
   moved : HasPage id ((state g mid).now.trees 1) rows → HasPage id ((state g old).now.trees 1) rows

@@ -18,7 +18,7 @@ use Rattle.sqlite.specs.Clock.{timed}
 use Rattle.sqlite_schema.specs.declared.command.Returning.{Returning}
 use Rattle.sqlite_schema.specs.Names.{same_name}
 use Rattle.sqlite.proofs.Callers.{IsPlain, command_of, reads_as, one_permutation}
-use Rattle.dns_sqlite.specs.Tables.{version_schema, journal_schema}
+use Rattle.dns_sqlite.specs.Tables.{version_schema, row_schema}
 use Rattle.dns_sqlite.specs.Versions.{HasVersions, has_versions, ShowsAll, IsVersion, number_of, known, version_of, version_text}
 use Rattle.dns_sqlite.proofs.Texts.{version_query, half_version_is, half_version_plain, whole_version_is, whole_version_plain}
 
@@ -50,10 +50,10 @@ module _ (schema : Schema) (plain : IsPlain (understood schema version_text)) (i
 pub shows : (old new : State) (rows : List Row) → HasVersions old.now.schema → Shown version_text [] old new rows → ShowsAll (old.now.trees 0) rows × IsUnchanged old new
 shows old new rows (inl half) h = (finds_in version_schema half_version_plain half_version_is.0 half_version_is.1 old new rows half h, same_in version_schema half_version_plain half_version_is.0 half_version_is.1 old new rows half h)
 shows old new rows (inr whole) h =
-    (finds_in journal_schema whole_version_plain whole_version_is.0 whole_version_is.1 old new rows whole h, same_in journal_schema whole_version_plain whole_version_is.0 whole_version_is.1 old new rows whole h)
+    (finds_in row_schema whole_version_plain whole_version_is.0 whole_version_is.1 old new rows whole h, same_in row_schema whole_version_plain whole_version_is.0 whole_version_is.1 old new rows whole h)
 
 -- a table of the version is there where the tables are those of a journal
-there : (has_versions version_schema ≡ true) × (has_versions journal_schema ≡ true)
+there : (has_versions version_schema ≡ true) × (has_versions row_schema ≡ true)
 unfolding same_name
 there = (refl, refl)
 
