@@ -1,5 +1,6 @@
 pub mod Ascending
 pub mod Putting
+pub mod Ascends
 pub mod Adding
 pub mod Runs
 pub mod RunsAscend

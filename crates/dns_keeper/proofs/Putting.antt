@@ -81,6 +81,13 @@ free_of id c batches e = elim (cases_Bool (int_eq c.first id)) [
   | inr no ↦ (no, rw no at e)
 ]
 
+-- what is below the first of batches is below its first
+pub begins_above : (id : ℤ) (b : BatchRow) (batches : List BatchRow) → is_below_batches id (b ∷ batches) ≡ true → le_z b.first id ≡ false
+begins_above id b batches e = elim (cases_Bool (le_z b.first id)) [
+  | inl yes ↦ absurd (let it = rw yes at e in cc)
+  | inr no ↦ no
+]
+
 -- a batch begins below those behind it, which stand by ascending first
 pub parts_of : (b : BatchRow) (batches : List BatchRow) → AreByFirst (b ∷ batches) → (is_below_batches b.first batches ≡ true) × AreByFirst batches
 parts_of b batches up = elim (cases_Bool (is_below_batches b.first batches)) [

@@ -8,7 +8,7 @@ use Rattle.dns_keeper.specs.declared.row.Row.{Row}
 use Rattle.dns_keeper.specs.declared.batch_row.BatchRow.{BatchRow}
 use Rattle.dns_keeper.specs.Rows.{is_below_first, is_ascending, AreAscending}
 use Rattle.dns_keeper.specs.Batches.{is_below_batches, is_by_first, AreByFirst, are_alike, begun_with, runs_of}
-use Rattle.dns_keeper.proofs.Putting.{parts_of}
+use Rattle.dns_keeper.proofs.Putting.{parts_of, begins_above}
 
 -- the first of the runs begins with the first row
 below_begun : (id : ℤ) (r : Row) (rows : List Row) (batches : List BatchRow) → le_z r.id id ≡ false → is_below_batches id (begun_with r rows batches) ≡ true
@@ -30,19 +30,13 @@ below_runs : (id : ℤ) (rows : List Row) → is_below_first id rows ≡ true �
 below_runs id [] e = refl
 below_runs id (r ∷ rows) e = below_begun id r rows (runs_of rows) (above_of id r rows e)
 
-first_of : (id : ℤ) (b : BatchRow) (batches : List BatchRow) → is_below_batches id (b ∷ batches) ≡ true → le_z b.first id ≡ false
-first_of id b batches e = elim (cases_Bool (le_z b.first id)) [
-  | inl yes ↦ absurd (let it = rw yes at e in cc)
-  | inr no ↦ no
-]
-
 higher : (a b c : ℤ) → le_z b a ≡ false → le_z c b ≡ false → le_z c a ≡ false
 higher a b c p q = grind (arith, ints, nat_tests)
 
 -- what is below the first of them is below the second
 behind_first : (id : ℤ) (b : BatchRow) (batches : List BatchRow) → is_below_batches id (b ∷ batches) ≡ true → is_below_batches b.first batches ≡ true → is_below_batches id batches ≡ true
 behind_first id b [] low next = refl
-behind_first id b (c ∷ batches) low next = rw (higher id b.first c.first (first_of id b (c ∷ batches) low) (first_of b.first c batches next)) refl
+behind_first id b (c ∷ batches) low next = rw (higher id b.first c.first (begins_above id b (c ∷ batches) low) (begins_above b.first c batches next)) refl
 
 begun_by_first : (r : Row) (rows : List Row) (batches : List BatchRow) → is_below_batches r.id batches ≡ true → AreByFirst batches → AreByFirst (begun_with r rows batches)
 begun_by_first r [] [] low up = refl
@@ -52,7 +46,7 @@ begun_by_first r (s ∷ rows) (b ∷ batches) low up =
     let parts = parts_of b batches up in
     elim (cases_Bool (are_alike r s)) [
       | inl like ↦ rw (like, behind_first r.id b batches low parts.0) parts.1
-      | inr other ↦ rw (other, first_of r.id b batches low) up
+      | inr other ↦ rw (other, begins_above r.id b batches low) up
     ]
 
 rows_of : (r : Row) (rows : List Row) → AreAscending (r ∷ rows) → (is_below_first r.id rows ≡ true) × AreAscending rows

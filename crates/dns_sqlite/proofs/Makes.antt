@@ -27,7 +27,7 @@ use Rattle.sqlite.proofs.Callers.{IsPlain}
 use Rattle.sqlite.specs.State.{State, mode_of, Writes, ExecutesInside}
 use Rattle.sqlite.proofs.Callers.{command_of, statement_of, runs_as, one_step, one_permutation}
 use Rattle.dns_sqlite.specs.Tables.{versions, records, empty_schema, version_schema, row_schema}
-use Rattle.dns_sqlite.specs.Versions.{HasMade, IsVersionless, IsVersionZero, HasBothTables, IsNewJournal}
+use Rattle.dns_sqlite.specs.Versions.{HasMade, IsVersionless, IsVersionAlone, HasRowTable, HasNoRows}
 use Rattle.dns_sqlite.proofs.Texts.{create_version_table, create_record_table, versions_is, versions_plain, records_is, records_plain, fill_text, fill_terms, fill_is, fill_plain, raise_text, raise_query, raise_is, raise_plain}
 use Rattle.dns_sqlite.proofs.Adds.{went, same_value, cast_null, cast_int}
 
@@ -66,14 +66,14 @@ makes_versions old new count has h =
     let it = creates create_version_table empty_schema (record versions { tree = 0 }) versions_is.0 versions_is.1 versions_plain versions_is.2 refl old new count has h in
     record { made = (it.schema, it.empty); sound = it.sound; mode = it.mode }
 
-pub makes_records : (old new : State) (count : ℕ) → IsVersionZero old.now → ExecutesInside 0 create_record_table [] old new (Ok count) → HasMade HasBothTables new
+pub makes_records : (old new : State) (count : ℕ) → IsVersionAlone old.now → ExecutesInside 0 create_record_table [] old new (Ok count) → HasMade HasRowTable new
 makes_records old new count half h =
     let it = creates create_record_table version_schema (record records { tree = 0 }) records_is.0 records_is.1 records_plain records_is.2 refl old new count half.0 h in
     record { made = (it.schema, (half.1.0, half.1.1, it.others.0 ∙ half.1.2, half.1.3, half.1.4), it.empty); sound = it.sound; mode = it.mode }
 
 -- ---- the first version
 
-pub fills : (old new : State) (count : ℕ) → IsVersionless old.now → ExecutesInside 0 fill_text [] old new (Ok count) → HasMade IsVersionZero new
+pub fills : (old new : State) (count : ℕ) → IsVersionless old.now → ExecutesInside 0 fill_text [] old new (Ok count) → HasMade IsVersionAlone new
 fills old new count bare h =
     let db = old.now.trees in
     let command = Insert 0 (Values fill_terms 2) in
@@ -99,7 +99,7 @@ fills old new count bare h =
 own_rowid : (id : ℤ) → value_cmp (Int id) (Int id) ≡ Equal
 own_rowid id = tied_itself value_cmp_total (Int id)
 
-pub raises : (old new : State) (count : ℕ) → HasBothTables old.now → ExecutesInside 0 raise_text [] old new (Ok count) → HasMade IsNewJournal new
+pub raises : (old new : State) (count : ℕ) → HasRowTable old.now → ExecutesInside 0 raise_text [] old new (Ok count) → HasMade HasNoRows new
 raises old new count whole h =
     let db = old.now.trees in
     let id = whole.1.0 in

@@ -13,7 +13,7 @@ use Rattle.sqlite_tied.specs.Compute.{everything}
 use Rattle.sqlite.specs.Listing.{understood, reads_listing}
 use Rattle.sqlite.proofs.Callers.{IsPlain, command_of, statement_of}
 use Rattle.dns_sqlite.specs.Versions.{version_text}
-use Rattle.dns_sqlite.specs.Tables.{versions, records, row_schema, version_schema, empty_schema}
+use Rattle.dns_sqlite.specs.Tables.{versions, records, row_schema, batch_schema, version_schema, empty_schema}
 pub use Rattle.dns_sqlite.specs.Tables.{from_text}
 
 abbrev pub create_version_table : List ℕ
@@ -36,7 +36,7 @@ records_is = (refl, refl, refl)
 abbrev pub terms : List Term
 terms = lit Null ∷ lit Null ∷ col 0 0 ∷ col 0 1 ∷ col 0 2 ∷ col 0 3 ∷ []
 
-pub insert_is : command_of (understood row_schema insert_text) ≡ Insert 1 (Values terms 6)
+pub insert_is : command_of (understood batch_schema insert_text) ≡ Insert 1 (Values terms 6)
 unfolding understood everything
 insert_is = refl
 
@@ -57,7 +57,7 @@ pub from_is : (command_of (understood row_schema from_text) ≡ Select (record {
 unfolding understood everything
 from_is = (refl, refl)
 
-pub insert_plain : IsPlain (understood row_schema insert_text)
+pub insert_plain : IsPlain (understood batch_schema insert_text)
 unfolding understood everything
 insert_plain = (refl, refl)
 
