@@ -6,3 +6,4 @@ pub mod Runs
 pub mod RunsAscend
 pub mod RunsGrow
 pub mod Covering
+pub mod KeptBatches
