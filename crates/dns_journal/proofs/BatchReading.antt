@@ -1,5 +1,5 @@
 -- What the query of one batch finds of the batches that are told.
-use Rattle.std.proofs.Common.{◌≡◌, ◌&&◌, ℤ, pos, neg_ℤ, ◌^◌, ◌-◌, List, [], ◌∷◌, true, Option, Some, None, IfSome, inl, inr, refl, sym, ap, subst, ◌∙◌}
+use Rattle.std.proofs.Common.{◌≡◌, ◌&&◌, ℤ, pos, neg_ℤ, ◌^◌, ◌-◌, List, [], ◌∷◌, true, Option, Some, None, IfSome, IsTrue, inl, inr, refl, sym, ap, subst, ◌∙◌}
 use Rattle.std.specs.Int.Signed.{le_z}
 use Rattle.std.proofs.lemmas.Bool.{and_parts, cases_Bool}
 use Rattle.sqlite.specs.Order.{Row as Stored}
@@ -23,7 +23,7 @@ of_table P stored batches e p = rw e p
 
 module _ {S : Type 0} (g : Ghosts S) (j : View S) where
   -- what holds of the batches of the connection, where its rows are told, holds of those that the journal tells
-  told_where : (P : List BatchRow → Type 0) → (HasCleanDisk (state g j.conn) → j.is_ready ≡ true → (batches : List BatchRow) → batches_told ((state g j.conn).now.trees 2) ≡ Some batches → P batches)
+  told_where : (P : List BatchRow → Type 0) → (HasCleanDisk (state g j.conn) → IsTrue (state g j.conn).is_open → j.is_ready ≡ true → (batches : List BatchRow) → batches_told ((state g j.conn).now.trees 2) ≡ Some batches → P batches)
       → IfSome (told_rows g j) (λ rows. P (told_batches g j))
   told_where P h = go (told_rows g j) refl
     where
@@ -31,20 +31,20 @@ module _ {S : Type 0} (g : Ghosts S) (j : View S) where
       go None e = tt
       go (Some rows) e =
           let it = tells j.is_ready (state g j.conn) rows e in
-          of_table P ((state g j.conn).now.trees 2) it.batches it.batches_are (h (no_doubt (state g j.conn).is_clean it.clean) it.ready it.batches it.batches_are)
+          of_table P ((state g j.conn).now.trees 2) it.batches it.batches_are (h (no_doubt (state g j.conn).is_clean it.clean) it.live it.ready it.batches it.batches_are)
 
   pub tells_by_first : TellsByFirst ((journal_keeper g).told j)
-  tells_by_first = told_where AreByFirst (λ clean ready batches e. (batches_are ((state g j.conn).now.trees 2) batches e).by_first)
+  tells_by_first = told_where AreByFirst (λ clean live ready batches e. (batches_are ((state g j.conn).now.trees 2) batches e).by_first)
 
   -- the batch that the query found is the one that is asked for
-  pub batch_told : (id : ℤ) (found : Option BatchRow) → (HasCleanDisk (state g j.conn) → j.is_ready ≡ true → IsBatchIn id ((state g j.conn).now.trees 2) found) → IsBatchFrom ((journal_keeper g).told j) id found
-  batch_told id found h = told_where (λ batches. found ≡ batch_from id batches) (λ clean ready batches e. let it = batches_are ((state g j.conn).now.trees 2) batches e in h clean ready batches it.by_first it.is)
+  pub batch_told : (id : ℤ) (found : Option BatchRow) → (HasCleanDisk (state g j.conn) → IsTrue (state g j.conn).is_open → j.is_ready ≡ true → IsBatchIn id ((state g j.conn).now.trees 2) found) → IsBatchFrom ((journal_keeper g).told j) id found
+  batch_told id found h = told_where (λ batches. found ≡ batch_from id batches) (λ clean live ready batches e. let it = batches_are ((state g j.conn).now.trees 2) batches e in h clean live ready batches it.by_first it.is)
 
   -- from the least id on it is the first of all
   first_signed : (batches : List BatchRow) → AreSigned batches → batch_from (neg_ℤ (pos (2 ^ 63))) batches ≡ first_batch batches
   first_signed [] signed = refl
   first_signed (b ∷ batches) signed = let within = and_parts (le_z (neg_ℤ (pos (2 ^ 63))) b.first) _ signed.0 in rw within.0 refl
 
-  pub first_batch_told : (found : Option BatchRow) → (HasCleanDisk (state g j.conn) → j.is_ready ≡ true → IsBatchIn (neg_ℤ (pos (2 ^ 63))) ((state g j.conn).now.trees 2) found) → IsFirstBatch ((journal_keeper g).told j) found
+  pub first_batch_told : (found : Option BatchRow) → (HasCleanDisk (state g j.conn) → IsTrue (state g j.conn).is_open → j.is_ready ≡ true → IsBatchIn (neg_ℤ (pos (2 ^ 63))) ((state g j.conn).now.trees 2) found) → IsFirstBatch ((journal_keeper g).told j) found
   first_batch_told found h =
-      told_where (λ batches. found ≡ first_batch batches) (λ clean ready batches e. let it = batches_are ((state g j.conn).now.trees 2) batches e in h clean ready batches it.by_first it.is ∙ first_signed batches it.signed)
+      told_where (λ batches. found ≡ first_batch batches) (λ clean live ready batches e. let it = batches_are ((state g j.conn).now.trees 2) batches e in h clean live ready batches it.by_first it.is ∙ first_signed batches it.signed)

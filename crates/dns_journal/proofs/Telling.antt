@@ -297,3 +297,7 @@ tells true s rows e = elim (cases_Bool (s.is_clean && s.is_open)) [
       record { ready = refl; clean = both.0; live = both.1; told = it.rows_are; batches = it.batches; batches_are = it.batches_are }
   | inr hidden ↦ absurd (let it : None ≡ Some rows = rw hidden at e in cc)
 ]
+
+-- the batches that are told are those of the table
+pub batches_as : (stored : List Stored) (batches others : List BatchRow) → batches_told stored ≡ Some batches → or_none (batches_told stored) ≡ others → batches_told stored ≡ Some others
+batches_as stored batches others e same = e ∙ ap (λ bs. Some bs) (sym (ap or_none e) ∙ same)

@@ -12,7 +12,7 @@ use Rattle.dns_keeper.specs.declared.batch_row.BatchRow.{BatchRow}
 use Rattle.dns_keeper.specs.Batches.{runs_of}
 use Rattle.dns_keeper.specs.Keeping.{Kept}
 use Rattle.dns_keeper.specs.Crash.{AreTold}
-use Rattle.dns_journal.specs.Told.{View, rows_below}
+use Rattle.dns_journal.specs.Told.{View, AreRowsBelow}
 pub use Rattle.dns_journal.specs.Left.{IsJournal, LeftAs, MayLeave, MayLeaveClean}
 use Rattle.dns_journal.specs.Keepers.{journal_keeper}
 
@@ -31,12 +31,12 @@ LeavesTrees s P = HasCleanDisk s → (db : Trees) → s.may_leave db → P db
 -- ---- the current version made of an earlier one
 
 -- a database of the current version with the rows that there were, and with the runs of them as its batches, where they read
-abbrev pub LeftRaised : ℤ → State → Trees → Type 0
-LeftRaised version old db = (rows : List Row) → rows_below version old ≡ Some rows → LeftAs (with_runs rows) db
+abbrev pub LeftRaised : State → Trees → Type 0
+LeftRaised old db = (rows : List Row) → AreRowsBelow old rows → LeftAs (with_runs rows) db
 
 -- a crash now may leave what it might leave before, or that
 abbrev pub LeavesRaised : {S : Type 0} → Ghosts S → View S → View S → Type 0
-LeavesRaised g old new = LeavesTrees (state g new.conn) (λ db. (state g old.conn).may_leave db ⊎ LeftRaised old.version (state g old.conn) db)
+LeavesRaised g old new = LeavesTrees (state g new.conn) (λ db. (state g old.conn).may_leave db ⊎ LeftRaised (state g old.conn) db)
 
 -- the tables of this version became those of the current one, with these batches, which are the runs of the rows, where these read
 pub record WasRaised (version : ℤ) (old new : State) : Type 0 where
@@ -44,7 +44,7 @@ pub record WasRaised (version : ℤ) (old new : State) : Type 0 where
   pub batches : List BatchRow
   pub from : IsStart start version old.now.schema
   pub becomes : BecomesCurrent start batches old new
-  pub runs : (rows : List Row) → rows_below version old ≡ Some rows → batches ≡ runs_of rows
+  pub runs : (rows : List Row) → AreRowsBelow old rows → batches ≡ runs_of rows
 
 -- where the disk is clean, the database was raised so, and is committed
 abbrev pub IsRaisedIn : {S : Type 0} → Ghosts S → View S → View S → Type 0
@@ -53,7 +53,7 @@ IsRaisedIn g old new = HasCleanDisk (state g new.conn) → WasRaised old.version
 -- where the disk is clean, the journal tells the rows that there were, where they read, and the runs of them as its batches
 abbrev pub TellsRaised : {S : Type 0} → Ghosts S → View S → View S → Type 0
 TellsRaised g old new =
-    HasCleanDisk (state g new.conn) → (rows : List Row) → rows_below old.version (state g old.conn) ≡ Some rows → AreTold ((journal_keeper g).told new) (with_runs rows)
+    HasCleanDisk (state g new.conn) → (rows : List Row) → AreRowsBelow (state g old.conn) rows → AreTold ((journal_keeper g).told new) (with_runs rows)
 
 -- ---- between calls
 

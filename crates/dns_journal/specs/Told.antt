@@ -1,7 +1,6 @@
 -- What a journal tells of its rows and batches.
 use Rattle.std.specs.Prelude.{◌≡◌, ◌≢◌, ◌⊎◌, ◌-◌, ◌^◌, ◌&&◌, ℕ, ℤ, pos, neg_ℤ, Bool, true, false, if◌then◌else◌, IsTrue, List, [], ◌∷◌, Option, Some, None, Result, Err, refl}
 use Rattle.std.specs.Int.Signed.{le_z}
-use Rattle.std.specs.Ordering.{int_eq}
 use Rattle.std.specs.Coded.{Coded, code_by, coded×, coded_ℕ, coded_ℤ, coded_bool}
 use Rattle.sqlite.specs.declared.types.Value.TheVariants.{Null, Int, Text, Blob}
 use Rattle.sqlite.specs.Order.{Row as Stored}
@@ -9,9 +8,10 @@ use Rattle.sqlite.specs.Store.{Ghosts}
 use Rattle.sqlite.specs.State.{State, HasCleanDisk}
 use Rattle.sqlite.specs.Held.{Held, held_code, state}
 use Rattle.dns_io.specs.Told.{one_more}
-use Rattle.dns_sqlite.specs.Statements.{HasTables}
+use Rattle.dns_sqlite.specs.Tables.{row_schema}
+use Rattle.dns_sqlite.specs.Statements.{HasSchema, HasTables}
 use Rattle.sqlite.specs.Effect.{Database}
-use Rattle.dns_sqlite.specs.Versions.{version_rows, current_version, FitsTables}
+use Rattle.dns_sqlite.specs.Versions.{current_version, FitsTables}
 use Rattle.dns_keeper.specs.declared.row.Row.{Row}
 use Rattle.dns_keeper.specs.declared.batch_row.BatchRow.{BatchRow}
 use Rattle.dns_keeper.specs.Rows.{is_ascending}
@@ -137,7 +137,8 @@ pub record Refuses {S T E : Type 0} (old new : View S) (refusal : E) (result : R
   pub named : result ≡ Err refusal
   pub counted : new ≡ record old { faults = one_more old.faults }
 
--- the rows that the tables of a version below the current one hold, where each of them reads and their ids ascend: none, where there is no
--- table of rows
-abbrev pub rows_below : ℤ → State → Option (List Row)
-rows_below version s = if int_eq version version_rows then told (s.now.trees 1) else Some []
+-- the rows that there are below the current version: those of the table of rows, where there is one and each of its rows reads, by
+-- ascending id; and else none
+pub record AreRowsBelow (s : State) (rows : List Row) : Type 0 where
+  pub there : HasSchema row_schema s.now → told (s.now.trees 1) ≡ Some rows
+  pub none : ¬ HasSchema row_schema s.now → rows ≡ []

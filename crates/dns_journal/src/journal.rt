@@ -221,7 +221,7 @@ impl<S: Alter> Journal<S> {
         ensures err { OnErr result ((self.new.version ≡ self.old.version) × (self.new.is_ready ≡ self.old.is_ready)) }
         ensures kept { OnErr result (KeepsDatabase (state S.Store self.old.conn) (state S.Store self.new.conn)) }
         ensures alone { self.old.version ≢ current_version
-            → OnOk result (LeavesTrees (state S.Store self.new.conn) (LeftRaised self.old.version (state S.Store self.old.conn))) }
+            → OnOk result (LeavesTrees (state S.Store self.new.conn) (LeftRaised (state S.Store self.old.conn))) }
         ensures left { LeavesRaised S.Store self.old self.new }
         ensures falls { doubt (state S.Store self.old.conn).is_clean ≤ doubt (state S.Store self.new.conn).is_clean }
         ensures mode { (state S.Store self.old.conn).in_transaction ≡ false → (state S.Store self.new.conn).in_transaction ≡ false }
