@@ -97,3 +97,9 @@ opens_in page id table rows left next has =
 
 pub first_in : (page : Page) (id : ℤ) (table : List Shown) (rows : List Row) (found : Option Row) → rows_left page ≡ rows → HasPage id table rows → IsFirstOf (rows_left page) found → IsStoredFrom id table found
 first_in page id table rows found left has is = page_stored id table rows found has (subst (λ xs. IsFirstOf xs found) left is)
+
+-- the row that is taken of a page, and what the page holds then
+pub takes_in : (page after : Page) (id : ℤ) (found : Option Row) → page.next ≡ id → IsFirstOf (rows_left page) found → ((table : List Shown) → Holds page table → Holds after table)
+    → IfSome found (λ row. (table : List Shown) → Holds page table → IsStoredFrom id table (Some row) × Holds after table)
+takes_in page after id None next is held = tt
+takes_in page after id (Some row) next is held = λ table holds. (goes_on_in page id table row next holds is, held table holds)

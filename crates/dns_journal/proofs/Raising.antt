@@ -41,9 +41,12 @@ module _ {S : Type 0} (g : Ghosts S) (start : Start) (batches : List BatchRow) (
           | inl before ↦ inl (asked.left (early clean) db before)
           | inr became ↦
               let late = asked.kept alone (early clean) became.0 in
-              inr (late.0, λ from.
-              let it = became.1 (subst (IsBefore start) (sym late.1) from) in
-              record { batches = batches; runs = runs clean from; d = it.0; made = subst (λ d. IsRaised start batches d it.0) late.1 it.1; sound = it.2; is = it.3 })
+              inr (
+                late.0,
+                λ from.
+                    let it = became.1 (subst (IsBefore start) (sym late.1) from) in
+                    record { batches = batches; runs = runs clean from; d = it.0; made = subst (λ d. IsRaised start batches d it.0) late.1 it.1; sound = it.2; is = it.3 },
+              )
         ];
       }
     where

@@ -28,7 +28,13 @@ fn is_behind(batches: &[BatchRow], batch: &BatchRow) -> bool
 {
     match batches.last() {
         None => true,
-        Some(last) => { if batch.first <= last.first { false } else { true } }
+        Some(last) => {
+            if batch.first <= last.first {
+                false
+            } else {
+                true
+            }
+        }
     }
 }
 

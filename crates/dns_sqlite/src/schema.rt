@@ -142,10 +142,7 @@ fn raise_to_two<S: Alter>(tx: &mut Transaction<'_, S>) -> Result<usize, Error>
 }
 
 /// Fills the new table with these batches, and raises the version.
-fn fill_batches<S: Alter>(
-    tx: &mut Transaction<'_, S>,
-    batches: &[BatchRow],
-) -> Result<usize, Error>
+fn fill_batches<S: Alter>(tx: &mut Transaction<'_, S>, batches: &[BatchRow]) -> Result<usize, Error>
     ensures same_reference { tx.new.conn.ghost_name ≡ tx.old.conn.ghost_name }
     ensures done { Statement S.Store HasBatchTable (λ old. HasMade (HasBatches current_version (old.now.trees 1) batches.now)) tx.old.conn.now tx.new.conn.now result }
 {

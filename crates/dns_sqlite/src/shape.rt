@@ -305,12 +305,20 @@ pub fn start_of<S: Alter>(conn: &Connection<S>, version: i64) -> Option<Start>
 fn alone_of(version: i64) -> Option<Start>
     ensures { IfSome result (λ start. (start ≡ FromVersion) × (version ≡ version_alone)) }
 {
-    if version == 0 { Some(Start::VersionAlone) } else { None }
+    if version == 0 {
+        Some(Start::VersionAlone)
+    } else {
+        None
+    }
 }
 
 /// The start from the tables of the version and of the rows, which have to be of version 1.
 fn rows_of(version: i64) -> Option<Start>
     ensures { IfSome result (λ start. (start ≡ FromRows) × (version ≡ version_rows)) }
 {
-    if version == 1 { Some(Start::Rows) } else { None }
+    if version == 1 {
+        Some(Start::Rows)
+    } else {
+        None
+    }
 }
