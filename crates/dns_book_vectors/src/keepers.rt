@@ -46,7 +46,7 @@ fn nearly_full(alloc: Global) -> Result<MemoryKeeper, Fail> {
         stamp: Octets::from_slice(alloc, STAMP)?,
         bytes: record(alloc, 7)?.to_vec(alloc)?,
     };
-    Ok(MemoryKeeper::from_rows(alloc, vec![in alloc; row]?))
+    Ok(MemoryKeeper::from_rows(alloc, vec![in alloc; row]?)?)
 }
 
 /// `append`, `row FROM` or `faults`.
