@@ -11,7 +11,7 @@ use Rattle.dns_keeper.specs.Crash.{HasWhole}
 use Rattle.dns_keeper.specs.Memory.{batch_of, with_batch, MeetsBatch}
 use Rattle.dns_keeper.proofs.Ascending.{ascending_appended}
 
-length-rows_of : (id : ℤ) (client serial : ℕ) (stamp : List ℕ) (records : List Record) → length (rows_of id client serial stamp records) ≡ length records
+pub length-rows_of : (id : ℤ) (client serial : ℕ) (stamp : List ℕ) (records : List Record) → length (rows_of id client serial stamp records) ≡ length records
 length-rows_of id client serial stamp [] = refl
 length-rows_of id client serial stamp (r ∷ rs) = ap suc (length-rows_of (id +ℤ pos 1) client serial stamp rs)
 

@@ -7,3 +7,4 @@ pub mod RunsAscend
 pub mod RunsGrow
 pub mod Covering
 pub mod KeptBatches
+pub mod CoversGrow

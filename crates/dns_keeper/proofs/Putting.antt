@@ -26,7 +26,7 @@ other : (a b : ℤ) → le_z b a ≡ false → int_eq a b ≡ false
 other a b p = grind (arith, ints, nat_tests)
 
 -- of batches by ascending first all begin below what the last begins below
-abbrev AllBelow : ℤ → List BatchRow → Type 0
+abbrev pub AllBelow : ℤ → List BatchRow → Type 0
 AllBelow id batches = AllByRecursion (λ (c : BatchRow). le_z id c.first ≡ false) batches
 
 step_of : (b c : BatchRow) (batches : List BatchRow) → AreByFirst (b ∷ c ∷ batches) → (le_z c.first b.first ≡ false) × AreByFirst (c ∷ batches)
@@ -49,7 +49,7 @@ all_below id (b ∷ c ∷ batches) up e =
     let rest = all_below id (c ∷ batches) step.1 (sym (ends_below-next id b c batches) ∙ e) in
     (lower b.first c.first id step.0 rest.0, rest)
 
-put_behind : (b : BatchRow) (batches : List BatchRow) → AllBelow b.first batches → put_batch b batches ≡ batches ++ b ∷ []
+pub put_behind : (b : BatchRow) (batches : List BatchRow) → AllBelow b.first batches → put_batch b batches ≡ batches ++ b ∷ []
 put_behind b [] all = refl
 put_behind b (c ∷ batches) all = rw (all.0, put_behind b batches all.1) refl
 

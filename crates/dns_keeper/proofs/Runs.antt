@@ -10,7 +10,7 @@ use Rattle.dns_keeper.specs.Batches.{are_alike, begun_with, runs_of, IsRun, Cove
 
 -- ---- a batch that is added
 
-next_id : (e : ℤ) (m n : ℕ) → (e +ℤ pos m) +ℤ pos n ≡ e +ℤ pos (m + n)
+pub next_id : (e : ℤ) (m n : ℕ) → (e +ℤ pos m) +ℤ pos n ≡ e +ℤ pos (m + n)
 next_id e m n = omega (arith, ints)
 
 no_step : (e : ℤ) → e +ℤ pos 0 ≡ e
