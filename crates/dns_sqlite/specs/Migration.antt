@@ -42,10 +42,10 @@ pub record PutsBatches (batches : List BatchRow) (old new : State) : Type 0 wher
 -- ---- the last step
 
 -- the three tables with this version, these rows, and these batches put into the last
-pub record HasBatches (n : ℤ) (rows : List Row) (batches : List BatchRow) (d : Database) : Type 0 where
+pub record HasBatches (n : ℤ) (stored : List Row) (batches : List BatchRow) (d : Database) : Type 0 where
   pub schema : d.schema ≡ batch_schema
   pub version : IsVersion n (d.trees 0)
-  pub rows : d.trees 1 ≡ rows
+  pub rows : d.trees 1 ≡ stored
   pub put : AreBatchesPut batches [] (d.trees 2)
 
 -- the three tables, and the version not yet raised
