@@ -1,5 +1,7 @@
 -- A batch that is put in its place: where that is, and that batches stay by ascending first.
-use Rattle.std.proofs.Common.{◌≡◌, inl, inr, ℕ, ℤ, ◌-◌, List, [], ◌∷◌, ◌++◌, length, slice_get, Bool, true, false, suc, refl, sym, ap, ◌∙◌, arith}
+use Rattle.std.proofs.Common.{◌≡◌, ◌<◌, ◌+◌, inl, inr, ℕ, ℤ, ◌-◌, List, [], ◌∷◌, ◌++◌, length, take, drop, get_or, slice_get, append_assoc, Bool, true, false, suc, refl, sym, ap, ◌∙◌, arith}
+use Rattle.std.proofs.Math.Seq.{drop-cons}
+use Rattle.std.proofs.lemmas.List.{take_more}
 use Rattle.std.specs.List.{AllByRecursion}
 use Rattle.std.specs.Ordering.{int_eq}
 use Rattle.std.specs.Int.Signed.{le_z}
@@ -104,3 +106,28 @@ by_first_put b (c ∷ batches) up free =
       | inl front ↦ rw (front, above b.first c.first front frees.0) up
       | inr back ↦ rw (back, below_put c.first b batches back parts.0) (by_first_put b batches parts.1 frees.1)
     ]
+
+-- ---- the place of a batch, as a loop finds it
+
+module _ (b : BatchRow) (batches : List BatchRow) (i : ℕ) (d : BatchRow) (within : i < length batches) (was : take i batches ++ put_batch b (drop i batches) ≡ put_batch b batches) where
+  one_here : drop i batches ≡ get_or batches i d ∷ drop (i + 1) batches
+  one_here = let next : i + 1 ≡ suc i = omega arith in drop-cons batches i d within ∙ ap (λ n. get_or batches i d ∷ drop n batches) (sym next)
+
+  -- it comes behind the batch that stands there
+  pub passes_one : le_z b.first (get_or batches i d).first ≡ false → take (i + 1) batches ++ put_batch b (drop (i + 1) batches) ≡ put_batch b batches
+  passes_one above =
+      let x = get_or batches i d in
+      let rest = put_batch b (drop (i + 1) batches) in
+      let one : put_batch b (x ∷ drop (i + 1) batches) ≡ x ∷ rest = rw above refl in
+      ap (λ xs. xs ++ rest) (take_more batches i d within) ∙ append_assoc (take i batches) (x ∷ []) rest ∙ ap (λ xs. take i batches ++ xs) (sym (ap (put_batch b) one_here ∙ one)) ∙ was
+
+  -- or before it
+  pub stops_at : le_z b.first (get_or batches i d).first ≡ true → take i batches ++ b ∷ drop i batches ≡ put_batch b batches
+  stops_at below =
+      let x = get_or batches i d in
+      let one : put_batch b (x ∷ drop (i + 1) batches) ≡ b ∷ x ∷ drop (i + 1) batches = rw below refl in
+      ap (λ xs. take i batches ++ xs) (sym (ap (put_batch b) one_here ∙ one ∙ ap (λ xs. b ∷ xs) (sym one_here))) ∙ was
+
+-- or behind all
+pub stops_behind : (b : BatchRow) (batches : List BatchRow) (i : ℕ) → drop i batches ≡ [] → take i batches ++ put_batch b (drop i batches) ≡ put_batch b batches → take i batches ++ b ∷ drop i batches ≡ put_batch b batches
+stops_behind b batches i none was = ap (λ xs. take i batches ++ xs) (sym (ap (put_batch b) none ∙ ap (λ xs. b ∷ xs) (sym none))) ∙ was
