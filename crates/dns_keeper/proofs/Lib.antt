@@ -8,3 +8,4 @@ pub mod RunsGrow
 pub mod Covering
 pub mod KeptBatches
 pub mod CoversGrow
+pub mod Fronts

@@ -5,3 +5,4 @@ pub mod Crash
 pub mod Calls
 pub mod Memory
 pub mod RunsSoFar
+pub mod Cutting
