@@ -1,5 +1,5 @@
 -- What records add to a keeper in memory: their rows, and the batch of these.
-use Rattle.std.proofs.Common.{◌≡◌, ◌⊎◌, inl, inr, ◌<◌, ℕ, ℤ, pos, ◌+ℤ◌, List, [], ◌∷◌, ◌++◌, length, slice_get, Option, Some, None, IsSomeAnd, true, suc, refl, sym, ap, subst, ◌∙◌, arith}
+use Rattle.std.proofs.Common.{◌≡◌, ◌⊎◌, inl, inr, ◌<◌, ℕ, ℤ, pos, ◌+ℤ◌, List, [], ◌∷◌, ◌++◌, length, slice_get, append-nil, Option, Some, None, IsSomeAnd, Result, Ok, Err, OnOk, true, suc, refl, sym, ap, subst, ◌∙◌, arith}
 use Rattle.std.proofs.lemmas.List.{append_cancel_left}
 use Rattle.dns_wire.specs.declared.record.Record.{Record}
 use Rattle.dns_keeper.specs.declared.row.Row.{Row}
@@ -48,3 +48,12 @@ meets_added rows more batches client serial moment records grown h =
 -- rows stay ascending
 pub ascending_whole : (old new : List Row) (client serial moment : ℕ) (records : List Record) → AreAscending old → HasBatch old client serial moment records new → AreAscending new
 ascending_whole old new client serial moment records up grown = rw grown.is (ascending_appended old client serial grown.stamp records up)
+
+-- no batch comes of no rows
+pub none_made : (rows more : List Row) → batch_of more ≡ None → rows ≡ rows ++ more
+none_made rows [] none = sym (append-nil rows)
+none_made rows (r ∷ more) none = absurd (cc)
+
+pub on_both : {T E : Type 0} (r : Result T E) {P Q R : Type 0} → (P → Q → R) → OnOk r P → OnOk r Q → OnOk r R
+on_both (Ok value) both p q = both p q
+on_both (Err fault) both p q = tt

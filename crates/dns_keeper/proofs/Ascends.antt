@@ -22,7 +22,7 @@ ascends_above low (b ∷ batches) below up =
     let parts = parts_of b batches up in
     (less low b.first (begins_above low b batches below), ascends_above b.first batches parts.0 parts.1)
 
-one_less : (n : ℤ) → n -ℤ pos 1 <ℤ n
+one_less : (n : ℤ) → (n -ℤ pos 1) <ℤ n
 one_less n = omega (arith, ints)
 
 pub ascends : (batches : List BatchRow) → AreByFirst batches → (low : ℤ) × AscendAbove low batches

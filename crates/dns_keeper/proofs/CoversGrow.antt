@@ -6,6 +6,7 @@ use Rattle.std.specs.Int.Signed.{le_z}
 use Rattle.std.proofs.lemmas.Int.{ints}
 use Rattle.std.proofs.lemmas.Bool.Decides.{nat_tests}
 use Rattle.dns_wire.specs.declared.record.Record.{Record}
+use Rattle.dns_wire.specs.WireFormat.{record_bytes}
 use Rattle.dns_keeper.specs.declared.row.Row.{Row}
 use Rattle.dns_keeper.specs.declared.batch_row.BatchRow.{BatchRow}
 use Rattle.dns_keeper.specs.Rows.{last_id, rows_of, appended}
@@ -41,7 +42,7 @@ alike_rows first id client serial stamp [] c s = refl
 alike_rows first id client serial stamp (r ∷ rs) c s = rw (c, s, same_number (pos client), same_number (pos serial)) (alike_rows first (id +ℤ pos 1) client serial stamp rs c s)
 
 is_run : (id : ℤ) (client serial : ℕ) (stamp : List ℕ) (r : Record) (rs : List Record) → IsRun (rows_of id client serial stamp (r ∷ rs))
-is_run id client serial stamp r rs = alike_rows _ (id +ℤ pos 1) client serial stamp rs refl refl
+is_run id client serial stamp r rs = alike_rows (record { id = id; client = pos client; serial = pos serial; stamp = stamp; bytes = record_bytes r }) (id +ℤ pos 1) client serial stamp rs refl refl
 
 -- ---- an append
 

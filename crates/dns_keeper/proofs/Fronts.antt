@@ -1,5 +1,5 @@
 -- A batch covers the rows from its place on where it is a front of their first run.
-use Rattle.std.proofs.Common.{◌≡◌, inl, inr, ◌+◌, ◌-◌, ◌+ℤ◌, ◌-ℤ◌, ◌&&◌, ◌≤◌, ◌++◌, ℕ, ℤ, zero, suc, pos, negsuc, nat_abs, nat_le, List, [], ◌∷◌, length, take, drop, Bool, true, false, refl, sym, ap, subst, ◌∙◌, arith}
+use Rattle.std.proofs.Common.{◌≡◌, inl, inr, ◌+◌, ◌-◌, ◌+ℤ◌, ◌-ℤ◌, ◌&&◌, ◌≤◌, ◌++◌, ℕ, ℤ, zero, suc, pos, negsuc, nat_abs, nat_le, List, [], ◌∷◌, length, take, drop, Bool, true, false, if◌then◌else◌, refl, sym, ap, subst, ◌∙◌, arith}
 use Rattle.std.proofs.lemmas.Int.{ints}
 use Rattle.std.proofs.lemmas.Bool.{cases_Bool, and_parts}
 use Rattle.std.proofs.lemmas.Bool.Decides.{nat_tests}
@@ -44,13 +44,34 @@ first_run r (s ∷ rows) = elim (cases_Bool (are_alike r s)) [
 
 -- ---- so many rows are of the first run where so many are like the first
 
+le_none : (k : ℕ) → nat_le (suc k) zero ≡ false
+le_none k = grind (arith, nat_tests)
+
+le_both : (k m : ℕ) → nat_le (suc k) (suc m) ≡ nat_le k m
+le_both k m = elim (cases_Bool (nat_le k m)) [
+  | inl within ↦ let more : nat_le (suc k) (suc m) ≡ true = grind (arith, nat_tests, within) in more ∙ sym within
+  | inr beyond ↦ let more : nat_le (suc k) (suc m) ≡ false = grind (arith, nat_tests, beyond) in more ∙ sym beyond
+]
+
+le_zero : (m : ℕ) → nat_le zero m ≡ true
+le_zero m = grind (arith, nat_tests)
+
+le_one : (k : ℕ) → le_z (pos 1) (pos (suc k)) ≡ true
+le_one k = grind (arith, ints, nat_tests)
+
+le_long : (k m : ℕ) → le_z (pos (suc k)) (pos (suc m)) ≡ nat_le k m
+le_long k m = elim (cases_Bool (nat_le k m)) [
+  | inl within ↦ let more : le_z (pos (suc k)) (pos (suc m)) ≡ true = grind (arith, ints, nat_tests, within) in more ∙ sym within
+  | inr beyond ↦ let more : le_z (pos (suc k)) (pos (suc m)) ≡ false = grind (arith, ints, nat_tests, beyond) in more ∙ sym beyond
+]
+
 as_many : (r : Row) (rows : List Row) (k : ℕ) → (nat_le k (length rows) && list_all (are_alike r) (take k rows)) ≡ nat_le k (alike_count r rows)
 as_many r [] zero = refl
-as_many r [] (suc k) = refl
-as_many r (s ∷ rows) zero = elim (cases_Bool (are_alike r s)) [ inl like ↦ rw like refl | inr other ↦ rw other refl ]
+as_many r [] (suc k) = rw (le_none k) refl
+as_many r (s ∷ rows) zero = rw (le_zero (suc (length rows)), le_zero (alike_count r (s ∷ rows))) refl
 as_many r (s ∷ rows) (suc k) = elim (cases_Bool (are_alike r s)) [
-  | inl like ↦ rw like (as_many r rows k)
-  | inr other ↦ rw other (and_false (nat_le k (length rows)))
+  | inl like ↦ rw (like, le_both k (length rows), le_both k (alike_count r rows)) (as_many r rows k)
+  | inr other ↦ rw (other, le_none k) (and_false (nat_le (suc k) (suc (length rows))))
 ]
   where
     and_false : (b : Bool) → (b && false) ≡ false
@@ -71,7 +92,7 @@ front_is e (r ∷ rows) b = elim (cases_Bool (int_eq b.first e)) [
         ≡ (if le_z (pos 1) count then le_z count (pos (suc (alike_count r rows))) else false)
     by (pos zero) = refl
     by (negsuc k) = refl
-    by (pos (suc k)) = rw (like_itself r) (as_many r rows k)
+    by (pos (suc k)) = rw (le_one k, le_both k (length rows), le_long k (alike_count r rows), like_itself r) (as_many r rows k)
 
 -- ---- the runs behind a front
 
@@ -106,7 +127,7 @@ cut_shifted id other k m runs is = elim (cases_Bool (int_eq (pos (suc k)) (pos (
 runs_behind : (e : ℤ) (r : Row) (rows : List Row) (k : ℕ) → AreNumbered e (r ∷ rows) → nat_le k (alike_count r rows) ≡ true
     → runs_of (drop k rows) ≡ cut (pos (suc k)) (record { first = r.id; count = pos (suc (alike_count r rows)) } ∷ runs_of (drop (alike_count r rows) rows))
 runs_behind e r [] zero num within = refl
-runs_behind e r [] (suc k) num within = absurd (cc)
+runs_behind e r [] (suc k) num within = absurd (let it : true ≡ false = sym within ∙ le_none k in cc)
 runs_behind e r (s ∷ rows) zero num within = elim (cases_Bool (are_alike r s)) [
   | inl like ↦
       let next : s.id ≡ r.id +ℤ pos 1 = num.1.0 ∙ ap (λ n. n +ℤ pos 1) (sym num.0) in
@@ -120,9 +141,9 @@ runs_behind e r (s ∷ rows) (suc k) num within = elim (cases_Bool (are_alike r 
   | inl like ↦
       let next : s.id ≡ r.id +ℤ pos 1 = num.1.0 ∙ ap (λ n. n +ℤ pos 1) (sym num.0) in
       let m = alike_count s rows in
-      let fits : nat_le k (alike_count s rows) ≡ true = rw (like, ← same_count r s rows like) at within in
+      let fits : nat_le k (alike_count s rows) ≡ true = sym (le_both k (alike_count s rows)) ∙ (rw (like, ← same_count r s rows like) at within) in
       rw (like, ← same_count r s rows like) (runs_behind (e +ℤ pos 1) s rows k num.1 fits ∙ cut_shifted r.id s.id k m (runs_of (drop m rows)) next)
-  | inr other ↦ absurd (let it = rw other at within in cc)
+  | inr other ↦ absurd (let it = rw (other, le_none k) at within in cc)
 ]
 
 numbered_on : (e : ℤ) (rows : List Row) (k : ℕ) → nat_le k (length rows) ≡ true → AreNumbered e rows → AreNumbered (e +ℤ pos k) (drop k rows)
@@ -130,7 +151,7 @@ numbered_on e rows zero within num = let same : e +ℤ pos 0 ≡ e = omega (arit
 numbered_on e [] (suc k) within num = tt
 numbered_on e (r ∷ rows) (suc k) within num =
     let on : (e +ℤ pos 1) +ℤ pos k ≡ e +ℤ pos (suc k) = omega (arith, ints) in
-    subst (λ n. AreNumbered n (drop k rows)) on (numbered_on (e +ℤ pos 1) rows k within num.1)
+    subst (λ n. AreNumbered n (drop k rows)) on (numbered_on (e +ℤ pos 1) rows k (sym (le_both k (length rows)) ∙ within) num.1)
 
 within_all : (r : Row) (rows : List Row) (k : ℕ) → nat_le k (alike_count r rows) ≡ true → nat_le k (length rows) ≡ true
 within_all r rows k e = (and_parts (nat_le k (length rows)) (list_all (are_alike r) (take k rows)) (as_many r rows k ∙ e)).0
@@ -150,8 +171,8 @@ cut_is e (r ∷ rows) first count num front = elim (cases_Bool (int_eq first e))
     by (pos zero) h = absurd (cc)
     by (negsuc k) h = absurd (cc)
     by (pos (suc k)) h =
-        let fits : nat_le k (alike_count r rows) ≡ true = h in
+        let fits : nat_le k (alike_count r rows) ≡ true = sym (le_long k (alike_count r rows)) ∙ (rw (le_one k) at h) in
         record {
           runs = runs_behind e r rows k num fits ∙ ap (cut (pos (suc k))) (sym (first_run r rows));
-          numbered = numbered_on e (r ∷ rows) (suc k) (within_all r rows k fits) num;
+          numbered = numbered_on e (r ∷ rows) (suc k) (le_both k (length rows) ∙ within_all r rows k fits) num;
         }

@@ -33,14 +33,14 @@ AllBelow id batches = AllByRecursion (λ (c : BatchRow). le_z id c.first ≡ fal
 
 step_of : (b c : BatchRow) (batches : List BatchRow) → AreByFirst (b ∷ c ∷ batches) → (le_z c.first b.first ≡ false) × AreByFirst (c ∷ batches)
 step_of b c batches up = elim (cases_Bool (le_z c.first b.first)) [
-  | inl yes ↦ absurd (let it = rw yes at up in cc)
-  | inr no ↦ (no, rw no at up)
+  | inl is_so ↦ absurd (let it = rw is_so at up in cc)
+  | inr is_not ↦ (is_not, rw is_not at up)
 ]
 
 last_of : (id : ℤ) (b : BatchRow) → ends_below id (b ∷ []) ≡ true → le_z id b.first ≡ false
 last_of id b e = elim (cases_Bool (le_z id b.first)) [
-  | inl yes ↦ absurd (let it = rw yes at e in cc)
-  | inr no ↦ no
+  | inl is_so ↦ absurd (let it = rw is_so at e in cc)
+  | inr is_not ↦ is_not
 ]
 
 all_below : (id : ℤ) (batches : List BatchRow) → AreByFirst batches → ends_below id batches ≡ true → AllBelow id batches
@@ -79,22 +79,22 @@ below_put low b (c ∷ batches) p q = elim (cases_Bool (le_z b.first c.first)) [
 
 free_of : (id : ℤ) (c : BatchRow) (batches : List BatchRow) → begins_at id (c ∷ batches) ≡ false → (int_eq c.first id ≡ false) × (begins_at id batches ≡ false)
 free_of id c batches e = elim (cases_Bool (int_eq c.first id)) [
-  | inl yes ↦ absurd (let it = rw yes at e in cc)
-  | inr no ↦ (no, rw no at e)
+  | inl is_so ↦ absurd (let it = rw is_so at e in cc)
+  | inr is_not ↦ (is_not, rw is_not at e)
 ]
 
 -- what is below the first of batches is below its first
 pub begins_above : (id : ℤ) (b : BatchRow) (batches : List BatchRow) → is_below_batches id (b ∷ batches) ≡ true → le_z b.first id ≡ false
 begins_above id b batches e = elim (cases_Bool (le_z b.first id)) [
-  | inl yes ↦ absurd (let it = rw yes at e in cc)
-  | inr no ↦ no
+  | inl is_so ↦ absurd (let it = rw is_so at e in cc)
+  | inr is_not ↦ is_not
 ]
 
 -- a batch begins below those behind it, which stand by ascending first
 pub parts_of : (b : BatchRow) (batches : List BatchRow) → AreByFirst (b ∷ batches) → (is_below_batches b.first batches ≡ true) × AreByFirst batches
 parts_of b batches up = elim (cases_Bool (is_below_batches b.first batches)) [
-  | inl yes ↦ (yes, rw yes at up)
-  | inr no ↦ absurd (let it = rw no at up in cc)
+  | inl is_so ↦ (is_so, rw is_so at up)
+  | inr is_not ↦ absurd (let it = rw is_not at up in cc)
 ]
 
 pub by_first_put : (b : BatchRow) (batches : List BatchRow) → AreByFirst batches → begins_at b.first batches ≡ false → AreByFirst (put_batch b batches)

@@ -22,8 +22,8 @@ below_begun id r (s ∷ rows) (b ∷ batches) low = elim (cases_Bool (are_alike 
 
 above_of : (id : ℤ) (r : Row) (rows : List Row) → is_below_first id (r ∷ rows) ≡ true → le_z r.id id ≡ false
 above_of id r rows e = elim (cases_Bool (le_z r.id id)) [
-  | inl yes ↦ absurd (let it = rw yes at e in cc)
-  | inr no ↦ no
+  | inl is_so ↦ absurd (let it = rw is_so at e in cc)
+  | inr is_not ↦ is_not
 ]
 
 below_runs : (id : ℤ) (rows : List Row) → is_below_first id rows ≡ true → is_below_batches id (runs_of rows) ≡ true
@@ -51,8 +51,8 @@ begun_by_first r (s ∷ rows) (b ∷ batches) low up =
 
 rows_of : (r : Row) (rows : List Row) → AreAscending (r ∷ rows) → (is_below_first r.id rows ≡ true) × AreAscending rows
 rows_of r rows up = elim (cases_Bool (is_below_first r.id rows)) [
-  | inl yes ↦ (yes, rw yes at up)
-  | inr no ↦ absurd (let it = rw no at up in cc)
+  | inl is_so ↦ (is_so, rw is_so at up)
+  | inr is_not ↦ absurd (let it = rw is_not at up in cc)
 ]
 
 pub runs_by_first : (rows : List Row) → AreAscending rows → AreByFirst (runs_of rows)

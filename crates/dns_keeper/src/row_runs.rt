@@ -51,10 +51,7 @@ impl RowRuns {
     {
         let joins = is_made_by(&self.last, row);
         add_row(&mut self.batches, joins, row)?;
-        self.last = Some(Maker {
-            client: row.client,
-            serial: row.serial,
-        });
+        self.last = Some(maker_of(row));
         Ok(())
     }
 
@@ -64,6 +61,16 @@ impl RowRuns {
     {
         let RowRuns { batches, last: _ } = self;
         batches
+    }
+}
+
+/// Who made a row.
+fn maker_of(row: &Row) -> Maker
+    ensures { result ≡ record { client = row.now.client; serial = row.now.serial } }
+{
+    Maker {
+        client: row.client,
+        serial: row.serial,
     }
 }
 

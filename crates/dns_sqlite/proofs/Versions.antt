@@ -135,11 +135,11 @@ version_shown tree rows n h v =
 known_is : (o : Option ℤ) (n : ℤ) → known o ≡ Some n → (o ≡ Some n) × (is_version n ≡ true)
 known_is None n e = absurd (cc)
 known_is (Some m) n e = elim (cases_Bool (is_version m)) [
-  | inl yes ↦
+  | inl is_so ↦
       let same : Some m ≡ Some n = rw yes at e in
       let is : m ≡ n = cc in
       (same, subst (λ k. is_version k ≡ true) is yes)
-  | inr no ↦ absurd (let it : None ≡ Some n = rw no at e in cc)
+  | inr is_not ↦ absurd (let it : None ≡ Some n = rw is_not at e in cc)
 ]
 
 pub version_shows : (rows : List Row) (n : ℤ) → version_of rows ≡ Some n → shows_version n rows ≡ true
