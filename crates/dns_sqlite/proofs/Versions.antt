@@ -1,10 +1,13 @@
 -- What the query of the version shows.
-use Rattle.std.proofs.Common.{◌≡◌, to_z, of_z, w64, inl, inr, ℤ, zero, suc, negsuc, List, [], ◌∷◌, length, map, flat_map, codes, pos, Bool, true, false, if◌then◌else◌, ◌&&◌, is_some, Option, Some, None, refl, sym, ap, subst, ◌∙◌, arith}
+use Rattle.std.proofs.Common.{◌≡◌, ◌⊎◌, to_z, of_z, w64, inl, inr, ℤ, zero, suc, negsuc, List, [], ◌∷◌, length, map, flat_map, codes, pos, Bool, true, false, if◌then◌else◌, ◌&&◌, is_some, Option, Some, None, refl, sym, ap, subst, ◌∙◌, arith}
 use Rattle.std.specs.List.Sorted.{IsPermutation}
 use Rattle.std.proofs.lemmas.List.Sorted.{length_permutation}
 use Rattle.sqlite.specs.declared.types.Value.TheVariants.{Null, Int, Real, Text, Blob}
 use Rattle.sqlite.specs.declared.types.Value.{Value}
 use Rattle.std.specs.Ordering.{int_eq}
+use Rattle.std.specs.Int.Signed.{le_z}
+use Rattle.std.proofs.lemmas.Int.{ints}
+use Rattle.std.proofs.lemmas.Bool.Decides.{nat_tests}
 use Rattle.std.proofs.lemmas.Bool.{and_parts, cases_Bool}
 use Rattle.sqlite.specs.Order.{Row, column}
 use Rattle.sqlite.specs.Schema.{Schema}
@@ -136,9 +139,9 @@ known_is : (o : Option ℤ) (n : ℤ) → known o ≡ Some n → (o ≡ Some n) 
 known_is None n e = absurd (cc)
 known_is (Some m) n e = elim (cases_Bool (is_version m)) [
   | inl is_so ↦
-      let same : Some m ≡ Some n = rw yes at e in
+      let same : Some m ≡ Some n = rw is_so at e in
       let is : m ≡ n = cc in
-      (same, subst (λ k. is_version k ≡ true) is yes)
+      (same, subst (λ k. is_version k ≡ true) is is_so)
   | inr is_not ↦ absurd (let it : None ≡ Some n = rw is_not at e in cc)
 ]
 
@@ -158,16 +161,16 @@ other_number m n p q = elim (cases_Bool (int_eq m n)) [
 ]
 
 pub version_hides : (rows : List Row) (n : ℤ) → version_of rows ≡ None → is_version n ≡ true → shows_version n rows ≡ false
-version_hides [] n e yes = refl
-version_hides (r ∷ s ∷ more) n e yes = refl
-version_hides (r ∷ []) n e yes = go (number_of (column r 0)) (number_of (column r 1)) e
+version_hides [] n e fits = refl
+version_hides (r ∷ s ∷ more) n e fits = refl
+version_hides (r ∷ []) n e fits = go (number_of (column r 0)) (number_of (column r 1)) e
   where
     go : (id version : Option ℤ) → (if is_some id then known version else None) ≡ None → (is_some id && is_number n version) ≡ false
     go None version e = refl
     go (Some id) None e = refl
     go (Some id) (Some m) e = elim (cases_Bool (is_version m)) [
       | inl known ↦ absurd (let it : Some m ≡ None = rw known at e in cc)
-      | inr none ↦ other_number m n none yes
+      | inr none ↦ other_number m n none fits
     ]
 
 -- where rows that are shown have no version, the table has none
@@ -177,12 +180,27 @@ lacks tree rows n all hidden v = absurd (let e : true ≡ false = sym (version_s
 -- ---- a version is the same number in 64 bits
 
 -- by its number, which is small
+small : (n : ℤ) → is_version n ≡ true → (n ≡ pos 0) ⊎ ((n ≡ pos 1) ⊎ (n ≡ pos 2))
+small n e = elim (cases_Bool (le_z (pos 0) n)) [
+  | inl low ↦
+      let high : le_z n (pos 2) ≡ true = rw low at e in
+      elim (cases_Bool (int_eq n (pos 0))) [
+        | inl none ↦ inl (grind (arith, none))
+        | inr some ↦ elim (cases_Bool (int_eq n (pos 1))) [
+          | inl one ↦ inr (inl (grind (arith, one)))
+          | inr more ↦ inr (inr (grind (arith, ints, nat_tests, low, high, some, more)))
+        ]
+      ]
+  | inr under ↦ absurd (let it : false ≡ true = rw under at e in cc)
+]
+
+of_small : (n : ℤ) → (n ≡ pos 0) ⊎ ((n ≡ pos 1) ⊎ (n ≡ pos 2)) → to_z w64 (of_z w64 n) ≡ n
+of_small n (inl is) = rw is refl
+of_small n (inr (inl is)) = rw is refl
+of_small n (inr (inr is)) = rw is refl
+
 pub in_bits : (n : ℤ) → is_version n ≡ true → to_z w64 (of_z w64 n) ≡ n
-in_bits (pos zero) e = refl
-in_bits (pos (suc zero)) e = refl
-in_bits (pos (suc (suc zero))) e = refl
-in_bits (pos (suc (suc (suc k)))) e = absurd (cc)
-in_bits (negsuc k) e = absurd (cc)
+in_bits n e = of_small n (small n e)
 
 pub version_one : (rows : List Row) (n : ℤ) → version_of rows ≡ Some n → is_version n ≡ true
 version_one [] n e = absurd (cc)
