@@ -1,5 +1,5 @@
 -- What the query of the version shows.
-use Rattle.std.proofs.Common.{◌≡◌, ◌⊎◌, to_z, of_z, w64, inl, inr, ℤ, zero, suc, negsuc, List, [], ◌∷◌, length, map, flat_map, codes, pos, Bool, true, false, if◌then◌else◌, ◌&&◌, is_some, Option, Some, None, refl, sym, ap, subst, ◌∙◌, arith}
+use Rattle.std.proofs.Common.{◌≡◌, ◌⊎◌, to_z, of_z, w64, inl, inr, ℤ, List, [], ◌∷◌, length, map, flat_map, codes, pos, Bool, true, false, if◌then◌else◌, ◌&&◌, is_some, Option, Some, None, refl, sym, ap, subst, ◌∙◌, arith}
 use Rattle.std.specs.List.Sorted.{IsPermutation}
 use Rattle.std.proofs.lemmas.List.Sorted.{length_permutation}
 use Rattle.sqlite.specs.declared.types.Value.TheVariants.{Null, Int, Real, Text, Blob}
