@@ -12,3 +12,4 @@ pub mod Inserts
 pub mod Selects
 pub mod HostFiles
 pub mod Closed
+pub mod Migrating
