@@ -165,5 +165,6 @@ fn replay_kind_text(kind: ReplayKind) -> &'static str
         ReplayKind::NoRecord => "row is no record",
         ReplayKind::OutOfPlace => "row out of place",
         ReplayKind::NotOneSoa => "not one SOA",
+        ReplayKind::BatchOutOfPlace => "batch out of place",
     }
 }

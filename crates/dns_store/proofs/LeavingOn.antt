@@ -8,7 +8,7 @@ use Rattle.dns_wire.specs.declared.record.Record.{Record}
 use Rattle.dns_keeper.specs.declared.row.Row.{Row}
 use Rattle.dns_keeper.specs.Rows.{last_id, rows_of}
 use Rattle.dns_keeper.specs.Keeping.{KeeperTold, KeeperOf, HasBatch}
-use Rattle.dns_keeper.specs.Crash.{IsGrownFrom, LeavesTold}
+use Rattle.dns_keeper.specs.Crash.{HasWhole, LeavesTold}
 use Rattle.dns_zone_map.specs.Zone.{Contents, IsZone}
 use Rattle.dns_update.specs.Change.{serial_after_batch, applied}
 use Rattle.dns_update.specs.Replay.{IsJournalledAsIs, Replays}
@@ -50,7 +50,7 @@ of_one id client serial stamp (r ∷ rs) = ((refl, refl), of_one (id +ℤ pos 1)
 -- just the rows may be left
 pub on_told : {K : Type 0} (keeper : KeeperOf K) (store : StoreOf K) → IsStored keeper store → LeavesRows keeper store.keeper → LeavesStoreOn keeper store
 on_told keeper store stood alone told some e l =
-    goes_on_same told some store.zone (some_same (sym (alone some l) ∙ e)) (told_stands (keeper.told store.keeper).rows told store.zone e stood.zone)
+    goes_on_same told some.rows store.zone (some_same (sym (alone some l).rows ∙ e)) (told_stands (keeper.told store.keeper).rows told store.zone e stood.zone)
 
 -- what might be left before, or the rows with a whole batch
 pub on_whole : {K : Type 0} (keeper : KeeperOf K) (before after : StoreOf K) (client moment : ℕ) (batch : List Record) → GrownRows → IsStored keeper before
@@ -58,11 +58,12 @@ pub on_whole : {K : Type 0} (keeper : KeeperOf K) (before after : StoreOf K) (cl
     → LeavesStored keeper before client moment batch after.keeper → LeavesStoreOn keeper before → LeavesStoreOn keeper after
 on_whole keeper before after client moment batch law stood zone listed same kept by on told some e l =
     let was : (keeper.told before.keeper).rows ≡ Some told = kept_told (keeper.told before.keeper).rows (keeper.told after.keeper).rows told kept e in
-    let goes : GoesOn before.zone.origin told some = elim (by some l) [
+    let goes : GoesOn before.zone.origin told some.rows = elim (by some l) [
       | inl earlier ↦ on told some was earlier
       | inr grown ↦
           let serial = serial_after_batch before.zone.origin before.zone.records batch in
-          let has : HasBatch told client serial moment batch some = subst (λ (o : Option (List Row)). IsGrownFrom o client serial moment batch some) was grown.1 in
+          let whole : HasWhole told (keeper.told before.keeper).batches client serial moment batch some = subst (λ (o : Option (List Row)). IsSomeAnd o (λ old. HasWhole old (keeper.told before.keeper).batches client serial moment batch some)) was grown.1 in
+          let has : HasBatch told client serial moment batch some.rows = whole.rows in
           record {
             rest = rows_of (last_id told +ℤ pos 1) client serial has.stamp batch;
             begins = has.is;
@@ -74,7 +75,7 @@ on_whole keeper before after client moment batch law stood zone listed same kept
                 (law before.zone.origin told client has.stamp before.zone.records batch listed zone (told_stands (keeper.told before.keeper).rows told before.zone was stood.zone));
           }
     ] in
-    subst (λ (z : Contents). GoesOn z.origin told some) (sym same) goes
+    subst (λ (z : Contents). GoesOn z.origin told some.rows) (sym same) goes
 
 -- a journal was begun
 stands_begun : {K : Type 0} (keeper : KeeperOf K) (before : KeeperTold) (given : Option Contents) (moment : ℕ) (store : StoreOf K)
@@ -87,10 +88,10 @@ pub on_begun : {K : Type 0} (keeper : KeeperOf K) (before : KeeperTold) (given :
 on_begun keeper before given moment store done alone = on_told keeper store (stands_begun keeper before given moment store done) alone
 
 -- a journal was read back of which just the rows might be left
-pub on_recovered : {K : Type 0} (keeper : KeeperOf K) (first : Option (List Row)) (store : StoreOf K) → IsStored keeper store → Keeps first (keeper.told store.keeper).rows
+pub on_recovered : {K : Type 0} (keeper : KeeperOf K) (first : KeeperTold) (store : StoreOf K) → IsStored keeper store → Keeps first.rows (keeper.told store.keeper).rows
     → LeavesTold first (keeper.may_leave store.keeper) → LeavesStoreOn keeper store
 on_recovered keeper first store stood kept alone told some e l =
-    goes_on_same told some store.zone (some_same (sym (alone some l) ∙ kept_told first (keeper.told store.keeper).rows told kept e))
+    goes_on_same told some.rows store.zone (some_same (sym (alone some l).rows ∙ kept_told first.rows (keeper.told store.keeper).rows told kept e))
     (told_stands (keeper.told store.keeper).rows told store.zone e stood.zone)
 
 pub both_ok : {T E : Type 0} (result : Result T E) (P Q R : T → Type 0) → ((t : T) → P t → Q t → R t) → IfOk result P → IfOk result Q → IfOk result R

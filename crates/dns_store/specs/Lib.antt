@@ -2,3 +2,4 @@ pub mod Store
 pub mod Opening
 pub mod Recovering
 pub mod Crash
+pub mod Covered

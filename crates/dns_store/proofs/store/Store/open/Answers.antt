@@ -50,7 +50,7 @@ returns-in-Ok-Some-clause-left_on g c alone =
     let keeper = g.K.Keeper.keeper in
     both_ok c.recover.result (Recovers keeper (keeper.told c.row_from.new.self) c.args.origin)
     (λ store. LeavesNoOther (keeper.may_leave c.row_from.new.self) (keeper.may_leave store.keeper)) (LeavesStoreOn keeper)
-    (λ store done more. on_recovered keeper (keeper.told c.args.keeper).rows store done.stands
+    (λ store done more. on_recovered keeper (keeper.told c.args.keeper) store done.stands
     (kept_on (keeper.told c.args.keeper).rows (keeper.told c.row_from.new.self).rows (keeper.told store.keeper).rows c.in-Ok-Some.ensures.read.kept done.kept)
     (λ some left. alone some (c.row_from.ensures.read.left some (more some left))))
     c.recover.ensures.ok c.recover.ensures.left
