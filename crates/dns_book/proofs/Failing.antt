@@ -1,5 +1,5 @@
 -- When the keeper of a book failed in settling a message.
-use Rattle.std.proofs.Common.{◌≡◌, ℕ, ◌<◌, ◌≤◌, List, length, Option, Bool, true, false, refl, sym, ap, subst, arith}
+use Rattle.std.proofs.Common.{◌≡◌, ◌<◌, ◌≤◌, List, length, Option, Bool, true, false, refl, sym, ap, subst, arith}
 use Rattle.dns_io.specs.Told.{Rose}
 use Rattle.dns_wire.specs.declared.record.Record.{Record}
 use Rattle.dns_keeper.specs.Keeping.{KeeperOf}

@@ -1,20 +1,18 @@
 -- A book whose store was handed an update.
-use Rattle.std.proofs.Common.{◌≡◌, ℕ, ◌+◌, ◌<◌, List, length, Option, Some, None, true, false, Result, Ok, Err, inl, inr, refl, sym, ap, ◌∙◌, subst, arith}
-use Rattle.std.specs.Prelude.{Bool, ◌⊎◌}
+use Rattle.std.proofs.Common.{◌≡◌, ℕ, ◌+◌, ◌<◌, List, length, Some, None, true, false, Ok, Err, inl, inr, refl, sym, ap, ◌∙◌, subst, arith}
+use Rattle.std.specs.Prelude.{Bool}
 use Rattle.dns_wire.specs.declared.record.Record.{Record}
 use Rattle.dns_keeper.specs.declared.keeper.KeepFault.{KeepFault}
 use Rattle.dns_keeper.specs.declared.keeper.KeepFault.TheVariants as keep
 use Rattle.dns_keeper.specs.Keeping.{KeeperOf}
-use Rattle.dns_zone_map.specs.Zone.{Contents}
 use Rattle.dns_update.specs.Modified.{modified_of}
 use Rattle.dns_update.specs.declared.batch.Batch.{Batch}
 use Rattle.dns_update.specs.declared.batch.Modified.{Modified}
 use Rattle.dns_counts.specs.Counters.{changed}
-use Rattle.dns_zone.specs.Updates.{IsBatchOf}
 use Rattle.dns_store.specs.Store.{StoreOf, stored_with, IsGrown, Stores}
 use Rattle.dns_io.proofs.ToldContents.{Keeps-same}
 use Rattle.dns_book.specs.declared.ask.Ask.{Ask}
-use Rattle.dns_book.specs.Counted.{zone_with, counts_with}
+use Rattle.dns_book.specs.Counted.{counts_with}
 use Rattle.dns_book.specs.Book.{SeenOf, seen, IsLeft, receipt_of, grown, Ends, idle, journalled, failed}
 use Rattle.dns_book.specs.Outcome.{Journals}
 

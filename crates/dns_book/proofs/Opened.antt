@@ -1,5 +1,5 @@
 -- A book whose store was opened.
-use Rattle.std.proofs.Common.{◌≡◌, List, Bool, refl, sym, subst}
+use Rattle.std.proofs.Common.{◌≡◌, Bool, refl, sym, subst}
 use Rattle.dns_store.specs.Store.{StoreOf}
 use Rattle.dns_book.specs.Book.{SeenOf, stored_of}
 use Rattle.dns_book.specs.Opening.{fresh_of, IsFresh}

@@ -1,5 +1,5 @@
 -- What a crash may leave of the rows of a book, where its keeper tells it.
-use Rattle.std.specs.Prelude.{◌≡◌, ℕ, List, Option, Some, None, Bool, true, false, Result, Ok, Err}
+use Rattle.std.specs.Prelude.{List, Option, Some, None, Bool, true, false, Result, Ok, Err}
 use Rattle.dns_wire.specs.declared.record.Record.{Record}
 use Rattle.dns_keeper.specs.declared.keeper.KeepFault.{KeepFault}
 use Rattle.dns_keeper.specs.Keeping.{KeeperOf}

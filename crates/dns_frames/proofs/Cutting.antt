@@ -1,10 +1,10 @@
 -- Frames of a stream that grows.
 use Rattle.std.specs.Option.{option_to_list}
 use Rattle.std.specs.Result.{OnOk}
-use Rattle.std.proofs.Common.{Option, Some, None, Result, Ok, Err, append-nil, ◌≡◌, ◌≤◌, ◌<◌, ℕ, ◌+◌, ◌*◌, List, [], ◌∷◌, ◌++◌, length, take, drop, get_or, ◌-◌, subst, refl, sym, ap, ◌∙◌, append_assoc, arith, zero, suc, length-append, length-drop, ltb, cond, Bool, true, false, inl, inr}
+use Rattle.std.proofs.Common.{Option, Some, None, Result, Ok, Err, append-nil, ◌≡◌, ◌≤◌, ◌<◌, ℕ, ◌+◌, ◌*◌, List, [], ◌∷◌, ◌++◌, length, take, drop, get_or, ◌-◌, subst, refl, sym, ap, ◌∙◌, append_assoc, arith, zero, suc, length-append, length-drop, ltb, cond, inl, inr}
 use Rattle.std.proofs.lemmas.List.{take-append-le, drop-append-le, take_all, take-append-drop}
 use Rattle.std.proofs.Math.Seq.{drop-append_seam}
-use Rattle.std.proofs.lemmas.Bool.{ltb-true, ltb-false, le-ltb, lt-ltb, cond-true, cond-false, cases_lt}
+use Rattle.std.proofs.lemmas.Bool.{le-ltb, lt-ltb, cond-true, cond-false, cases_lt}
 use Rattle.dns_frames.specs.Frames.{Cut, behind, ahead, frames_by, frames, Accounts, Gives}
 
 -- enough is enough

@@ -1,5 +1,5 @@
 -- The rows and the zone of a store after an append.
-use Rattle.std.proofs.Common.{◌≡◌, ℕ, ◌+◌, ◌<◌, ◌≤◌, List, length, length-append, Option, Some, None, Result, Ok, Err, inl, inr, refl, sym, ap, ◌∙◌, subst, arith}
+use Rattle.std.proofs.Common.{◌≡◌, ℕ, ◌+◌, ◌<◌, List, length, length-append, Option, Some, None, Result, Ok, Err, inl, inr, refl, sym, ap, ◌∙◌, subst, arith}
 use Rattle.std.specs.Prelude.{IsErrOf}
 use Rattle.std.specs.List.{AllByRecursion}
 use Rattle.dns_io.specs.Told.{Keeps}
@@ -14,7 +14,7 @@ use Rattle.dns_update.specs.Change.{batch_of, serial_after_batch, applied}
 use Rattle.dns_update.specs.declared.batch.Batch.{Batch}
 use Rattle.dns_update.specs.Replay.{IsJournalledAsIs, Replays}
 use Rattle.dns_zone.specs.Updates.{IsBatchOf, zone_after, Journals}
-use Rattle.dns_store.specs.Store.{StoreOf, HasRows, StandFor, IsStored, zone_with, stored_with, IsGrown, HasFailed, IsWithout, Stores}
+use Rattle.dns_store.specs.Store.{StoreOf, HasRows, StandFor, IsStored, zone_with, IsGrown, Stores}
 use Rattle.dns_store.proofs.Opened.{length-rows_of}
 
 HasRows-kept : (before after : Option (List Row)) (n : ℕ) → Keeps before after → HasRows before n → HasRows after n

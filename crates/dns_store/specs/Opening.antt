@@ -1,5 +1,5 @@
 -- What opening a journal gives, and when it is refused.
-use Rattle.std.specs.Prelude.{◌≡◌, ◌≢◌, ◌≤◌, ℕ, ℤ, List, [], length, Option, Some, None, Result, Ok, Err}
+use Rattle.std.specs.Prelude.{◌≡◌, ◌≢◌, ◌≤◌, ℕ, ℤ, List, [], length, Option, Some, None, Err}
 use Rattle.dns_name.specs.Name.{fold_of}
 use Rattle.dns_keeper.specs.declared.row.Row.{Row}
 use Rattle.dns_keeper.specs.declared.keeper.KeepFault.{KeepFault}

@@ -1,5 +1,5 @@
 -- Updates that a book settles, and the replies that come of them (RFC 2136 3).
-use Rattle.std.specs.Prelude.{◌≡◌, ◌≢◌, ℕ, List, [], ◌∷◌, Option, Some, None}
+use Rattle.std.specs.Prelude.{◌≡◌, ◌≢◌, ℕ, List, [], ◌∷◌, Some, None}
 use Rattle.std.specs.Option.{option_map}
 use Rattle.dns_io.specs.declared.peer.Protocol.TheVariants.{Quic}
 use Rattle.dns_wire.specs.declared.message.Message.{Message}

@@ -1,4 +1,3 @@
-use Rattle.std.proofs.Common.{◌∙◌, ap}
 use Rattle.dns_frames.proofs.Cutting.{frames-short, frames-partial_at, frames-whole_at}
 use Rattle.dns_frames.proofs.frames.first_frame.Goals as goal
 

@@ -1,10 +1,8 @@
-use Rattle.std.proofs.Common.{◌≡◌, ℕ, ◌+◌, ◌-◌, ◌<◌, length, false, Some, None, Err, refl, sym, ap, ◌∙◌, subst, arith}
+use Rattle.std.proofs.Common.{◌≡◌, ◌+◌, ◌-◌, ◌<◌, length, false, Some, None, Err, sym, ap, ◌∙◌, subst, arith}
 use Rattle.dns_zone_map.specs.Zone.{Contents}
 use Rattle.dns_update.specs.Change.{batch_of}
 use Rattle.dns_book.specs.Book.{SeenOf, seen, Ends}
 use Rattle.dns_book.specs.Outcome.{Journals}
-use Rattle.dns_book.specs.Crash.{LeavesBatch, LeavesOn}
-use Rattle.dns_store.specs.Crash.{LeavesRows}
 use Rattle.dns_book.proofs.Growing.{journals_refused, journals_idle, more_rows, journals_grown}
 use Rattle.dns_book.proofs.book.Book.journal.Goals as goal
 
