@@ -158,7 +158,7 @@ static void ask_stream(int port, double seconds, int window, int each) {
             if (more <= 0) die("read");
             have += (size_t)more;
             /* What came is acknowledged at once: a server that writes each reply by itself may wait for it, which Linux delays by 40 ms. */
-            if (i < window) setsockopt(s, IPPROTO_TCP, TCP_QUICKACK, &on, sizeof on);
+            setsockopt(s, IPPROTO_TCP, TCP_QUICKACK, &on, sizeof on);
         }
     }
     printf("%zu %f 0\n", replies, now() - begin);
