@@ -1,6 +1,7 @@
 -- Why no version was told, and what a journal tells whose version was raised.
-use Rattle.std.proofs.Common.{◌≡◌, ◌≢◌, ℤ, Bool, true, false, if◌then◌else◌, List, [], Some, inl, inr, refl, sym, ap, subst, ◌∙◌, IsTrue, to_z, of_z, w64}
+use Rattle.std.proofs.Common.{◌≡◌, ◌≢◌, ¬, ⊥, ℤ, Bool, true, false, if◌then◌else◌, List, [], Some, inl, inr, refl, sym, ap, subst, ◌∙◌, IsTrue, to_z, of_z, w64}
 use Rattle.sqlite_trees.proofs.Doubt.{clean_of}
+use Rattle.sqlite.specs.Schema.{Schema}
 use Rattle.sqlite.specs.Effect.{Database, IsDatabase}
 use Rattle.sqlite.specs.declared.error.Error.{Error}
 use Rattle.sqlite.specs.State.{State, HasCleanDisk}
@@ -15,11 +16,11 @@ use Rattle.dns_sqlite.proofs.Versions.{in_bits, version_one}
 use Rattle.dns_keeper.specs.declared.row.Row.{Row}
 use Rattle.dns_keeper.specs.declared.batch_row.BatchRow.{BatchRow}
 use Rattle.dns_keeper.specs.Batches.{runs_of}
-use Rattle.dns_keeper.specs.Keeping.{Kept}
+use Rattle.dns_keeper.specs.Keeping.{Kept, with_runs}
 use Rattle.dns_sqlite.specs.Shapes.{IsStart}
 use Rattle.dns_journal.specs.declared.error.PersistenceError.TheVariants.{Sqlite, OutOfMemory}
 use Rattle.dns_journal.specs.Told.{told, batches_told, or_none, rows_in, AreRowsBelow, IsReady, FitsConnection, TakesCalls}
-use Rattle.dns_journal.specs.Crash.{IsJournal, with_runs}
+use Rattle.dns_journal.specs.Crash.{IsJournal}
 use Rattle.dns_journal.specs.Migrating.{AreBatchesFor, BecomesWith}
 use Rattle.dns_journal.proofs.Order.{told_is}
 use Rattle.dns_journal.proofs.BatchOrder.{runs_told}
@@ -45,10 +46,14 @@ before version d Rows start fits = (start.0, subst (λ n. IsVersion n (d.trees 0
 
 -- ---- the rows that there are, and the runs of them
 
+-- a schema with other tables is none with a table of rows
+fewer : (schema : Schema) → schema ≡ row_schema → ¬ (schema.tables ≡ row_schema.tables) → ⊥
+fewer schema same others = others (ap (λ (s : Schema). s.tables) same)
+
 -- the rows that were stored read as the rows that there are
 rows_read : (start : Start) (version : ℤ) (s : State) (rows : List Row) → IsStart start version s.now.schema → AreRowsBelow s rows → told (rows_before start s.now) ≡ Some rows
-rows_read NoTable version s rows from below = rw (below.none (λ e. absurd (let it : empty_schema ≡ row_schema = sym from ∙ e in cc))) refl
-rows_read VersionAlone version s rows from below = rw (below.none (λ e. absurd (let it : version_schema ≡ row_schema = sym from.0 ∙ e in cc))) refl
+rows_read NoTable version s rows from below = rw (below.none (λ e. fewer empty_schema (sym from ∙ e) (λ same. absurd cc))) refl
+rows_read VersionAlone version s rows from below = rw (below.none (λ e. fewer version_schema (sym from.0 ∙ e) (λ same. absurd cc))) refl
 rows_read Rows version s rows from below = below.there from.0
 
 none_of : (rows : List Row) → told [] ≡ Some rows → rows ≡ []

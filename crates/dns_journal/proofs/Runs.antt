@@ -1,5 +1,5 @@
 -- The runs of the rows of a table that were read one by one.
-use Rattle.std.proofs.Common.{◌≡◌, ◌+ℤ◌, ◌-◌, ◌^◌, ◌++◌, ◌⊎◌, ◌≤◌, ℤ, pos, neg_ℤ, false, List, [], ◌∷◌, Option, Some, None, IsTrue, inl, inr, refl, sym, ap, subst, ◌∙◌, arith, append_assoc, append-nil}
+use Rattle.std.proofs.Common.{◌≡◌, ◌+ℤ◌, ◌-◌, ◌^◌, ◌++◌, ◌⊎◌, ◌≤◌, ℤ, pos, neg_ℤ, false, List, [], ◌∷◌, Option, Some, None, IsTrue, Result, Ok, Err, IfOk, inl, inr, refl, sym, ap, subst, ◌∙◌, arith, append_assoc, append-nil}
 use Rattle.sqlite_trees.specs.View.{doubt}
 use Rattle.sqlite.specs.Order.{Row as Shown}
 use Rattle.sqlite.specs.Effect.{Database}
@@ -109,3 +109,24 @@ module _ {S : Type 0} (g : Ghosts S) where
       let found = next_of first mid now was is from None alone so_far.asked asked so_far.held takes in
       let early : HasCleanDisk (state g mid) = omega (arith, asked.falls, clean) in
       counted_all ((state g first).now.trees 1) from runs batches (so_far.counted early has) (found clean has).0 ends
+
+  -- the row that comes next has the last id that there is
+  pub counts_full : (first mid now : Held S) (was is : Page) (from : ℤ) (row : Row) (runs after : RunsSoFar) (batches : List BatchRow) → (state g first).in_transaction ≡ false → Counted first mid was from runs → WasAsked g mid now → TakesNext g from mid was now is (Some row)
+      → row.id ≡ pos (2 ^ 63 - 1) → ((rows : List Row) → AreRunsOf rows runs → AreRunsOf (rows ++ row ∷ []) after) → ((rows : List Row) → AreRunsOf rows after → batches ≡ runs_of rows) → HasCleanDisk (state g now) → HasRecords (state g first).now
+      → AreRunsOfTable ((state g first).now.trees 1) batches
+  counts_full first mid now was is from row runs after batches alone so_far asked takes last counts ends clean has =
+      let next = counts_more first mid now was is from (row.id +ℤ pos 1) row runs after alone so_far asked takes refl counts in
+      counted_full ((state g first).now.trees 1) (row.id +ℤ pos 1) after batches (ap (λ n. n +ℤ pos 1) last) (next.counted clean has) ends
+
+-- ---- over a page from which a row was taken, or none
+
+-- what holds of the page that was left holds of the page before
+pub takes_of : {S : Type 0} (g : Ghosts S) (id : ℤ) (old new : Held S) (was left is : Page) (found : Option Row) → ((table : List Shown) → Holds was table → Holds left table) → TakesNext g id old left new is found → TakesNext g id old was new is found
+takes_of g id old new was left is found held takes = λ clean. elim (takes clean) [
+  | inl page ↦ inl (λ table holds. page table (held table holds))
+  | inr read ↦ inr read
+]
+
+pub takes_as : {S E : Type 0} (g : Ghosts S) (id : ℤ) (old new : Held S) (was left is : Page) (r : Result (Option Row) E) → ((table : List Shown) → Holds was table → Holds left table) → IfOk r (TakesNext g id old left new is) → IfOk r (TakesNext g id old was new is)
+takes_as g id old new was left is (Ok found) held takes = takes_of g id old new was left is found held takes
+takes_as g id old new was left is (Err e) held takes = tt

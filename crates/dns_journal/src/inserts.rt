@@ -156,7 +156,10 @@ impl<S: Alter> Keeper for Journal<S> {
         }
         match select_batch_from(&mut self.conn, first) {
             Ok(found) => Ok(found),
-            Err(error) => Err(self.keep_fault(error)),
+            Err(error) => {
+                self.page = Page::empty(self.alloc);
+                Err(self.keep_fault(error))
+            }
         }
     }
 

@@ -19,7 +19,8 @@ use std::alloc::Global;
 
 /// The next row of a page that goes on from this id; else none.
 fn taken(page: &mut Page, id: i64) -> Option<Row>
-    ensures { IfSome result (λ row. (table : List Shown) → Holds page.old table → IsNextIn id table page.new (Some row)) }
+    ensures held { (table : List Shown) → Holds page.old table → Holds page.new table }
+    ensures next { IfSome result (λ row. (table : List Shown) → Holds page.old table → IsNextIn id table page.new (Some row)) }
 {
     if page.next != id {
         return None;

@@ -2,3 +2,4 @@ pub mod ReadRows
 pub mod Growing
 pub mod Opened
 pub mod LeavingOn
+pub mod Migrated

@@ -3,6 +3,7 @@
 #![tactic(auto)]
 
 mod kept_records;
+pub mod laws;
 mod opening;
 mod opening_records;
 mod recovering;

@@ -15,14 +15,13 @@ loop-init g c =
     }
 
 pub loop-preserved : goal.loop-preserved
-loop-preserved g c =
-    let next = to_z-of_z w64 c.in-Some.next c.in-Some.ensures.fits ∙ c.in-Some.ensures.some in
-    counts_more g.S.Store c.args.conn.now c.loop.conn c.next_row.new.conn c.loop.page c.next_row.new.page (to_z w64 c.loop.from-bits) _ c.in-Some-row.row c.loop.runs c.count_row.new.runs c.requires c.loop.invariant
-    c.next_row.ensures.asked c.in_ok-row.ensures.next next c.in_ok-count_row.ensures
+loop-preserved g c = ?
 
-pub returns-in_default : goal.returns-in_default
-returns-in_default g c = record {
-  asked = asked_then g.S.Store c.args.conn.now c.loop.conn c.next_row.new.conn c.loop.invariant.asked c.next_row.ensures.asked;
-  runs = counts_all g.S.Store c.args.conn.now c.loop.conn c.next_row.new.conn c.loop.page c.next_row.new.page (to_z w64 c.loop.from-bits) c.loop.runs c.into_batches.result.items c.requires c.loop.invariant
-      c.next_row.ensures.asked c.in_ok-row.ensures.next c.into_batches.ensures;
-}
+pub returns-in_default-clause-asked : goal.returns-in_default-clause-asked
+returns-in_default-clause-asked g c = ?
+
+pub returns-in_default-clause-runs : goal.returns-in_default-clause-runs
+returns-in_default-clause-runs g c = ?
+
+pub returns-in-None-clause-runs : goal.returns-in-None-clause-runs
+returns-in-None-clause-runs g c = ?
