@@ -157,7 +157,9 @@ impl<S: Alter> Keeper for Journal<S> {
         match select_batch_from(&mut self.conn, first) {
             Ok(found) => Ok(found),
             Err(error) => {
-                self.page = Page::empty(self.alloc);
+                // Of a connection that the error closed nothing is known.
+                let alloc = self.alloc;
+                self.page = Page::empty(alloc);
                 Err(self.keep_fault(error))
             }
         }
