@@ -1,5 +1,5 @@
 -- Why no version was told, and what a journal tells whose version was raised.
-use Rattle.std.proofs.Common.{◌≡◌, ◌≢◌, ¬, ⊥, ℤ, Bool, true, false, if◌then◌else◌, List, [], Some, inl, inr, refl, sym, ap, subst, ◌∙◌, IsTrue, to_z, of_z, w64}
+use Rattle.std.proofs.Common.{◌≡◌, ◌≢◌, ℤ, Bool, true, false, if◌then◌else◌, List, [], Some, inl, inr, refl, sym, ap, subst, ◌∙◌, IsTrue, to_z, of_z, w64}
 use Rattle.sqlite_trees.proofs.Doubt.{clean_of}
 use Rattle.sqlite.specs.Schema.{Schema}
 use Rattle.sqlite.specs.Effect.{Database, IsDatabase}
@@ -9,18 +9,19 @@ use Rattle.dns_sqlite.specs.declared.version.VersionFault.{VersionFault}
 use Rattle.dns_sqlite.specs.declared.version.VersionFault.TheVariants.{NoVersion, Refused}
 use Rattle.dns_sqlite.specs.declared.schema.Start.{Start}
 use Rattle.dns_sqlite.specs.declared.schema.Start.TheVariants.{NoTable, VersionAlone, Rows}
+use Rattle.dns_sqlite.specs.Statements.{HasTables}
 use Rattle.dns_sqlite.specs.Tables.{empty_schema, version_schema, row_schema}
-use Rattle.dns_sqlite.specs.Versions.{current_version, IsAtVersion, LacksVersion, FitsTables, IsVersion, IsRefusal, no_memory}
+use Rattle.dns_sqlite.specs.Versions.{current_version, IsAtVersion, LacksVersion, FitsTables, KeepsDatabase, IsVersion, IsRefusal, no_memory}
 use Rattle.dns_sqlite.specs.Migration.{AreBatchesPut, IsBefore, IsRaised, rows_before}
 use Rattle.dns_sqlite.proofs.Versions.{in_bits, version_one}
 use Rattle.dns_keeper.specs.declared.row.Row.{Row}
 use Rattle.dns_keeper.specs.declared.batch_row.BatchRow.{BatchRow}
 use Rattle.dns_keeper.specs.Batches.{runs_of}
-use Rattle.dns_keeper.specs.Keeping.{Kept, with_runs}
+use Rattle.dns_keeper.specs.Keeping.{Kept}
 use Rattle.dns_sqlite.specs.Shapes.{IsStart}
 use Rattle.dns_journal.specs.declared.error.PersistenceError.TheVariants.{Sqlite, OutOfMemory}
 use Rattle.dns_journal.specs.Told.{told, batches_told, or_none, rows_in, AreRowsBelow, IsReady, FitsConnection, TakesCalls}
-use Rattle.dns_journal.specs.Crash.{IsJournal}
+use Rattle.dns_journal.specs.Crash.{IsJournal, with_runs}
 use Rattle.dns_journal.specs.Migrating.{AreBatchesFor, BecomesWith}
 use Rattle.dns_journal.proofs.Order.{told_is}
 use Rattle.dns_journal.proofs.BatchOrder.{runs_told}
@@ -90,6 +91,15 @@ ready_raised start old s alone made = (refl, alone, λ clean live. (made clean).
 
 pub fits_raised : (start : Start) (old s : State) → (HasCleanDisk s → BecomesWith start old s) → FitsConnection current_version s
 fits_raised start old s made = λ clean live _. (made clean).becomes.made.version
+
+-- ---- what a journal that was not raised keeps of it, where its database is as it was
+
+pub ready_kept : (ready : Bool) (version : ℤ) (old s : State) → s.in_transaction ≡ false → (HasCleanDisk s → HasCleanDisk old) → KeepsDatabase old s → IsReady ready version old → IsReady ready version s
+ready_kept false version old s alone early kept it = tt
+ready_kept true version old s alone early kept it = (it.0, alone, λ clean live. let k = kept clean live in subst HasTables (sym k.1) (it.2 (early clean) k.0))
+
+pub fits_kept : (version : ℤ) (old s : State) → (HasCleanDisk s → HasCleanDisk old) → KeepsDatabase old s → FitsConnection version old → FitsConnection version s
+fits_kept version old s early kept it = λ clean live. let k = kept clean live in subst (FitsTables version) (sym k.1) (it (early clean) k.0)
 
 -- it is ready where its connection takes calls
 pub ready_if : (ready : Bool) (version : ℤ) (s : State) → (IsTrue ready → TakesCalls version s) → IsReady ready version s

@@ -10,11 +10,15 @@ use Rattle.dns_sqlite.specs.Migration.{BecomesCurrent}
 use Rattle.dns_keeper.specs.declared.row.Row.{Row}
 use Rattle.dns_keeper.specs.declared.batch_row.BatchRow.{BatchRow}
 use Rattle.dns_keeper.specs.Batches.{runs_of}
-use Rattle.dns_keeper.specs.Keeping.{Kept, with_runs}
+use Rattle.dns_keeper.specs.Keeping.{Kept}
 use Rattle.dns_keeper.specs.Crash.{AreTold}
 use Rattle.dns_journal.specs.Told.{View, AreRowsBelow}
 pub use Rattle.dns_journal.specs.Left.{IsJournal, LeftAs, MayLeave, MayLeaveClean}
 use Rattle.dns_journal.specs.Keepers.{journal_keeper}
+
+-- the rows and the batches of a table of rows that has no batches yet: the batches are the runs of the rows
+abbrev pub with_runs : List Row → Kept
+with_runs rows = record { rows = rows; batches = runs_of rows }
 
 -- whatever rows and batches a crash now may leave, this holds of them
 abbrev pub Leaves : State → (Kept → Type 0) → Type 0

@@ -8,7 +8,7 @@ use Rattle.dns_keeper.specs.declared.batch_row.BatchRow.{BatchRow}
 use Rattle.dns_keeper.specs.declared.keeper.KeepFault.{KeepFault}
 use Rattle.dns_keeper.specs.declared.keeper.KeepFault.TheVariants.{Failed, OutOfMemory}
 use Rattle.dns_keeper.specs.Rows.{appended, last_id, first_of, first_from, AreAscending}
-use Rattle.dns_keeper.specs.Batches.{first_batch, batch_from, batches_with, AreByFirst, runs_of}
+use Rattle.dns_keeper.specs.Batches.{first_batch, batch_from, batches_with, AreByFirst}
 
 -- what a keeper tells of itself: its rows, where they are told; where they are, its batches; and how many calls failed
 pub record KeeperTold : Type 0 where
@@ -20,10 +20,6 @@ pub record KeeperTold : Type 0 where
 pub record Kept : Type 0 where
   pub rows : List Row
   pub batches : List BatchRow
-
--- rows that were written without batches, with the runs of the rows as their batches
-abbrev pub with_runs : List Row → Kept
-with_runs rows = record { rows = rows; batches = runs_of rows }
 
 -- what is known of a keeper: what it tells, and which rows and batches a crash now may leave in it. A keeper that does not tell these
 -- lets none be left, and then nothing is said of them

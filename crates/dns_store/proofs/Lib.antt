@@ -2,4 +2,3 @@ pub mod ReadRows
 pub mod Growing
 pub mod Opened
 pub mod LeavingOn
-pub mod Migrated

@@ -35,8 +35,3 @@ GoesOnByOne told some = (some ≡ told) ⊎ ((b : BatchRow) × (some ≡ told ++
 -- rows and batches that may be left: the rows are covered by the batches
 abbrev pub IsCoveredKept : Kept → Type 0
 IsCoveredKept kept = Covers (pos 1) kept.rows kept.batches
-
--- rows and batches stand for these records of a zone: the rows do, and the batches cover them
-pub record StandCovered (origin : List (List ℕ)) (kept : Kept) (records : List Record) : Type 0 where
-  pub replays : Replays (fold_of origin) kept.rows (Ok records)
-  pub covered : IsCoveredKept kept

@@ -3,7 +3,6 @@
 #![tactic(auto)]
 
 mod kept_records;
-pub mod laws;
 mod opening;
 mod opening_records;
 mod recovering;

@@ -95,7 +95,7 @@ place_is : (place : ℕ) (id : ℤ) → is_place place id ≡ true → id ≡ po
 place_is place (pos n) passed = ap pos ((Decides-eqb n place).0 passed)
 place_is place (negsuc n) passed = absurd cc
 
-pub taken_place : (origin : List (List ℕ)) (place : ℕ) (records : List Record) (row : Row) (next : List Record) → IsTaken origin place records row next → row.id ≡ pos place
+taken_place : (origin : List (List ℕ)) (place : ℕ) (records : List Record) (row : Row) (next : List Record) → IsTaken origin place records row next → row.id ≡ pos place
 taken_place origin place records row next t =
     place_is place row.id (both_of (is_place place row.id) (is_serial row.serial && (is_snapshot origin t.r || (not (place == 1) && is_journalled origin t.r))) t.placed).0
 

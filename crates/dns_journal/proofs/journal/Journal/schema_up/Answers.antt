@@ -1,13 +1,14 @@
 use Rattle.std.proofs.Common.{◌⊎◌, arith, inl, inr, refl, sym, subst}
 use Rattle.sqlite.specs.Held.{state}
+use Rattle.sqlite.specs.State.{HasCleanDisk}
 use Rattle.dns_journal.specs.Crash.{LeftRaised, LeavesTrees}
 use Rattle.dns_journal.specs.Migrating.{BecomesWith}
-use Rattle.dns_journal.proofs.Opening.{before, runs_for, raised_journal, tells_journal, ready_raised, fits_raised}
+use Rattle.dns_journal.proofs.Opening.{before, runs_for, raised_journal, tells_journal, ready_raised, fits_raised, ready_kept, fits_kept}
 use Rattle.dns_journal.proofs.Pages.{holds_none}
 use Rattle.dns_journal.proofs.journal.Journal.schema_up.Goals as goal
 
-pub invariant_of-self-in-Ok : goal.invariant_of-self-in-Ok
-invariant_of-self-in-Ok g c =
+pub invariant_of-self : goal.invariant_of-self
+invariant_of-self g c =
     let old = state g.S.Store c.self.inside.conn in
     let new = state g.S.Store c.raise.new.conn in
     let done = c.in-Ok.ensures.done in
@@ -17,6 +18,18 @@ invariant_of-self-in-Ok g c =
       ready = ready_raised c.in-Some.start old new done.alone made;
       page = λ clean. holds_none c.empty.result _ c.empty.ensures;
       fits = fits_raised c.in-Some.start old new made;
+    }
+
+pub invariant_of-self-in-Err : goal.invariant_of-self-in-Err
+invariant_of-self-in-Err g c =
+    let old = state g.S.Store c.self.inside.conn in
+    let new = state g.S.Store c.raise.new.conn in
+    let failed = c.in-Err.ensures.done in
+    let early : HasCleanDisk new → HasCleanDisk old = λ clean. omega (arith, failed.falls, clean) in
+    record {
+      ready = ready_kept c.self.inside.ready c.self.inside.version old new failed.alone early failed.kept c.self.invariant.ready;
+      page = λ clean. holds_none c.empty.result _ c.empty.ensures;
+      fits = fits_kept c.self.inside.version old new early failed.kept c.self.invariant.fits;
     }
 
 pub returns-in-Ok-clause-stored : goal.returns-in-Ok-clause-stored
