@@ -127,7 +127,7 @@ unopened_since before between now kind kept batches same is =
     }
 
 -- batches that did not cover rows when these were looked at did not before
-uncovered_since : (Pass : List Row → Type 0) (before between now : KeeperTold) (place : ℤ) (kind : ReplayKind) → Keeps before.rows between.rows → KeepsBatches before between
+pub uncovered_since : (Pass : List Row → Type 0) (before between now : KeeperTold) (place : ℤ) (kind : ReplayKind) → Keeps before.rows between.rows → KeepsBatches before between
     → AreUncovered Pass between now place kind → AreUncovered Pass before now place kind
 uncovered_since Pass before between now place kind kept batches is =
     since_both (λ o bs s. Pass o × (kind ≡ BatchOutOfPlace) × (uncovered (pos 1) o bs ≡ Some place)) before.rows between.rows now.rows before.batches between.batches kept batches is
@@ -140,7 +140,7 @@ passing P Q None (Some n) batches place kind more is = absurd is
 passing P Q (Some b) (Some n) batches place kind more is = (more b is.0, is.1, is.2)
 
 -- of those that were not refused for another cause
-uncovered_more : (P Q : List Row → Type 0) (before now : KeeperTold) (place : ℤ) (kind : ReplayKind) → ((l : List Row) → P l → Q l) → AreUncovered P before now place kind → AreUncovered Q before now place kind
+pub uncovered_more : (P Q : List Row → Type 0) (before now : KeeperTold) (place : ℤ) (kind : ReplayKind) → ((l : List Row) → P l → Q l) → AreUncovered P before now place kind → AreUncovered Q before now place kind
 uncovered_more P Q before now place kind more is = passing P Q before.rows now.rows before.batches place kind more is
 
 -- a journal without rows was begun, since it was looked at
@@ -179,17 +179,22 @@ opens_not_begun before between now origin given NoZone kept batches same is = re
 }
 opens_not_begun before between now origin given OutOfMemory kept batches same is = record { unfound = tt; unopened = unopened_since before between now _ kept batches same is.unopened }
 
+-- a journal was read back, since it was looked at
+pub recovers_since : {K : Type 0} (keeper : KeeperOf K) (before between : KeeperTold) (origin : List (List ℕ)) (store : StoreOf K) → Keeps before.rows between.rows → KeepsBatches before between
+    → between.faults ≡ before.faults → Recovers keeper between origin store → Recovers keeper before origin store
+recovers_since keeper before between origin store kept batches same done = record {
+  kept = kept_on before.rows between.rows (keeper.told store.keeper).rows kept done.kept;
+  batches = batches_on before between (keeper.told store.keeper) kept batches done.batches;
+  uncounted = done.uncounted ∙ same;
+  named = done.named;
+  stands = done.stands;
+}
+
 -- one with rows
 pub opens_recovered : {K : Type 0} (keeper : KeeperOf K) (before between : KeeperTold) (origin : List (List ℕ)) (given : Option Contents) (moment : ℕ) (store : StoreOf K) (row : Row) → Keeps before.rows between.rows
     → KeepsBatches before between → between.faults ≡ before.faults → IsFirstRow between.rows (Some row) → Recovers keeper between origin store → Opens keeper before origin given moment store
 opens_recovered keeper before between origin given moment store row kept batches same seen done =
-    recovered (some_seen before.rows between.rows (keeper.told store.keeper).rows row kept seen done.kept) (record {
-      kept = kept_on before.rows between.rows (keeper.told store.keeper).rows kept done.kept;
-      batches = batches_on before between (keeper.told store.keeper) kept batches done.batches;
-      uncounted = done.uncounted ∙ same;
-      named = done.named;
-      stands = done.stands;
-    })
+    recovered (some_seen before.rows between.rows (keeper.told store.keeper).rows row kept seen done.kept) (recovers_since keeper before between origin store kept batches same done)
 
 -- why it was not read back is why it was not opened
 unfound_by : (before between now : KeeperTold) (origin : List (List ℕ)) (given : Option Contents) (id : ℤ) (why : ReplayKind) → Keeps before.rows between.rows → KeepsBatches before between
