@@ -188,9 +188,9 @@ pub fn open_book<K: Keeper>(
     match opening {
         Opening::Begin(zone) => match Book::begin(alloc, keeper, allow_update, moment, zone) {
             Ok(book) => Ok(book),
-            Err(fault) => Err(Refusal {
-                status: unopened(fault.kind),
-                keeper: fault.keeper,
+            Err(refused) => Err(Refusal {
+                status: unopened(refused.kind),
+                keeper: refused.keeper,
             }),
         },
         Opening::Recover => match Book::recover(alloc, keeper, &options.origin, allow_update) {

@@ -158,7 +158,7 @@ fn append_opening<K: Keeper>(
             zone,
             alloc,
         }),
-        Err(fault) => refuse(keeper_kind(fault), keeper),
+        Err(refused) => refuse(keeper_kind(refused), keeper),
     }
 }
 
