@@ -60,3 +60,11 @@ covers_appended rows batches client serial stamp (r ∷ rs) last c =
     let more = covers_more (pos 1) rows new batches c (is_run id client serial stamp r rs) in
     let below = subst (λ k. AllBelow k batches) at (all_below (pos 1) rows batches c) in
     subst (Covers (pos 1) (rows ++ new)) (ap (λ b. batches ++ b ∷ []) same ∙ sym (put_behind (record { first = id; count = pos (length (r ∷ rs)) }) batches below)) more
+
+-- the batch of records that come behind rows which batches cover comes behind these
+pub batches_behind : (rows : List Row) (batches : List BatchRow) (r : Record) (rs : List Record) → last_id rows ≡ pos (length rows) → Covers (pos 1) rows batches
+    → batches_with (last_id rows +ℤ pos 1) (r ∷ rs) batches ≡ batches ++ record { first = last_id rows +ℤ pos 1; count = pos (length (r ∷ rs)) } ∷ []
+batches_behind rows batches r rs last c =
+    let id = last_id rows +ℤ pos 1 in
+    let at : pos 1 +ℤ pos (length rows) ≡ id = ap (λ n. pos 1 +ℤ n) (sym last) ∙ omega (arith, ints) in
+    put_behind (record { first = id; count = pos (length (r ∷ rs)) }) batches (subst (λ k. AllBelow k batches) at (all_below (pos 1) rows batches c))

@@ -9,3 +9,4 @@ pub mod Covering
 pub mod KeptBatches
 pub mod CoversGrow
 pub mod Fronts
+pub mod CoverageSteps

@@ -4,7 +4,7 @@ use Rattle.std.specs.Ordering.{int_eq}
 use Rattle.std.specs.Int.Signed.{le_z}
 use Rattle.dns_keeper.specs.declared.row.Row.{Row}
 use Rattle.dns_keeper.specs.declared.batch_row.BatchRow.{BatchRow}
-use Rattle.dns_keeper.specs.Batches.{runs_of, AreNumbered}
+use Rattle.dns_keeper.specs.Batches.{runs_of, uncovered, AreNumbered}
 
 -- the place that is reached, and the runs of the rows from there on
 pub record Reached : Type 0 where
@@ -25,3 +25,9 @@ cut n (r ∷ runs) = if int_eq n r.count then runs else record { first = r.first
 pub record Reaches (rows : List Row) (reached : Reached) : Type 0 where
   pub numbered : AreNumbered reached.place rows
   pub runs : reached.runs ≡ runs_of rows
+
+-- a batch covers a front of these rows, and the place that is reached moves behind it
+pub record Passes (rows : List Row) (b : BatchRow) (old new : Reached) : Type 0 where
+  pub left : List Row
+  pub reaches : Reaches left new
+  pub same : (more : List BatchRow) → uncovered old.place rows (b ∷ more) ≡ uncovered new.place left more

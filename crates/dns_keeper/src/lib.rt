@@ -3,6 +3,7 @@
 
 mod batch_row;
 mod batching;
+mod coverage;
 mod keeper;
 pub mod laws;
 mod memory;
@@ -10,6 +11,7 @@ mod row;
 mod row_runs;
 
 pub use batch_row::BatchRow;
+pub use coverage::Coverage;
 pub use keeper::{KeepFault, Keeper};
 pub use memory::MemoryKeeper;
 pub use row::Row;

@@ -96,7 +96,7 @@ fn longer(batch: &BatchRow) -> Option<BatchRow>
 }
 
 /// Adds a batch at the end.
-fn push(batches: &mut Vec<BatchRow>, batch: BatchRow) -> Result<(), OutOfMemory>
+pub(crate) fn push(batches: &mut Vec<BatchRow>, batch: BatchRow) -> Result<(), OutOfMemory>
     ensures { OnOk result (batches.new.items ≡ batches.old.items ++ batch ∷ []) }
 {
     match batches.push(batch) {

@@ -1,4 +1,6 @@
+pub mod ToldBatches
 pub mod ReadRows
+pub mod ReadBatches
 pub mod Growing
 pub mod Opened
 pub mod LeavingOn

@@ -6,7 +6,7 @@ use Rattle.dns_wire.specs.declared.record.Record.{Record}
 use Rattle.dns_keeper.specs.declared.row.Row.{Row}
 use Rattle.dns_keeper.specs.declared.batch_row.BatchRow.{BatchRow}
 use Rattle.dns_keeper.specs.Batches.{Covers, uncovered}
-use Rattle.dns_keeper.specs.Keeping.{KeeperTold, Kept}
+use Rattle.dns_keeper.specs.Keeping.{KeeperTold}
 use Rattle.dns_update.specs.declared.replay_kind.ReplayKind.{ReplayKind}
 use Rattle.dns_update.specs.declared.replay_kind.ReplayKind.TheVariants.{BatchOutOfPlace}
 use Rattle.dns_update.specs.Replay.{Replays}
@@ -19,19 +19,23 @@ IsCovered told = IfSome told.rows (λ rows. Covers (pos 1) rows told.batches)
 abbrev pub HadNothing : KeeperTold → KeeperTold → Type 0
 HadNothing before after = Told (λ old new. (old ≡ []) × (before.batches ≡ [])) before.rows after.rows
 
--- there were no rows, or they stand for records
+-- there are no rows
+abbrev pub AreNone : List Row → Type 0
+AreNone rows = rows ≡ []
+
+-- the rows stand for the records of a zone that has this origin, in whatever case
+abbrev pub Stand : List (List ℕ) → List Row → Type 0
+Stand origin rows = (records : List Record) × Replays (fold_of origin) rows (Ok records)
+
+-- there are no rows, or they stand for such records
 abbrev pub StandOrNone : List (List ℕ) → List Row → Type 0
-StandOrNone origin rows = (rows ≡ []) ⊎ ((records : List Record) × Replays (fold_of origin) rows (Ok records))
+StandOrNone origin rows = AreNone rows ⊎ Stand origin rows
 
 -- the rows are not refused, but the batches cease to cover them at this place, where they are told
-abbrev pub AreUncovered : KeeperTold → KeeperTold → List (List ℕ) → ℤ → ReplayKind → Type 0
-AreUncovered before after origin place kind =
-    Told (λ old new. StandOrNone origin old × (kind ≡ BatchOutOfPlace) × (uncovered (pos 1) old before.batches ≡ Some place)) before.rows after.rows
+abbrev pub AreUncovered : (List Row → Type 0) → KeeperTold → KeeperTold → ℤ → ReplayKind → Type 0
+AreUncovered Pass before after place kind =
+    Told (λ old new. Pass old × (kind ≡ BatchOutOfPlace) × (uncovered (pos 1) old before.batches ≡ Some place)) before.rows after.rows
 
 -- batches that may be left go on past those of the journal by nothing or by one
 abbrev pub GoesOnByOne : List BatchRow → List BatchRow → Type 0
 GoesOnByOne told some = (some ≡ told) ⊎ ((b : BatchRow) × (some ≡ told ++ b ∷ []))
-
--- rows and batches that may be left: the rows are covered by the batches
-abbrev pub IsCoveredKept : Kept → Type 0
-IsCoveredKept kept = Covers (pos 1) kept.rows kept.batches

@@ -3,3 +3,4 @@ pub mod Opening
 pub mod Recovering
 pub mod Crash
 pub mod Covered
+pub mod Covering
