@@ -4,3 +4,4 @@ pub mod ReadBatches
 pub mod Growing
 pub mod Opened
 pub mod LeavingOn
+pub mod Migrated

@@ -4,3 +4,4 @@ pub mod Recovering
 pub mod Crash
 pub mod Covered
 pub mod Covering
+pub mod Migrated

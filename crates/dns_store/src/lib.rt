@@ -4,6 +4,7 @@
 
 mod covering;
 mod kept_records;
+pub mod laws;
 mod opening;
 mod opening_records;
 mod recovering;
