@@ -1,6 +1,7 @@
 //! How the tables of an earlier version become those of the current one.
 
-ghost use Rattle.std.specs.Prelude.{◌≡◌, ◌++◌, ◌∷◌, [], false, List, IfOk, IfSome, OnOk, Some};
+ghost use Rattle.std.specs.Prelude.{◌≡◌, ◌-◌, ◌^◌, ◌+ℤ◌, ◌++◌, ◌∷◌, [], pos, false, List, IfOk, IfSome, IfNone, OnOk, Some, FitsSigned};
+ghost use Rattle.std.specs.Int.{w64};
 ghost use Rattle.sqlite.specs.Held.{state};
 ghost use Rattle.sqlite.specs.Order.{Row as Shown};
 ghost use Rattle.dns_keeper.specs.declared.row.Row.{Row as JournalRow};
@@ -71,6 +72,15 @@ fn count_row(runs: &mut RowRuns, row: &Row) -> Result<(), Error>
     }
 }
 
+/// The id that follows a row's, if there is one.
+fn id_behind(row: &Row) -> Option<i64>
+    ensures some { IfSome result (λ next. next ≡ row.now.id +ℤ pos 1) }
+    ensures fits { IfSome result (FitsSigned w64) }
+    ensures none { IfNone result (row.now.id ≡ pos (2 ^ 63 - 1)) }
+{
+    id_after(row.id)
+}
+
 /// The runs of all rows, as batches. It changes nothing, and what a crash may leave stays as it is.
 fn all_runs<S: Alter>(alloc: Global, conn: &mut Connection<S>) -> Result<Vec<BatchRow>, Error>
     requires alone { (state S.Store conn.old).in_transaction ≡ false }
@@ -85,7 +95,7 @@ fn all_runs<S: Alter>(alloc: Global, conn: &mut Connection<S>) -> Result<Vec<Bat
             return Ok(runs.into_batches());
         };
         count_row(&mut runs, &row)?;
-        match id_after(row.id) {
+        match id_behind(&row) {
             Some(next) => from = next,
             None => return Ok(runs.into_batches()),
         }

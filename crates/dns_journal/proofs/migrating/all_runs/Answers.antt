@@ -17,7 +17,7 @@ loop-init g c =
 pub loop-preserved : goal.loop-preserved
 loop-preserved g c =
     let taken = rw c.in-Some.is at c.in_ok-row.ensures.next in
-    let next = to_z-of_z w64 c.in-Some-id_after.next c.in-Some-id_after.ensures.fits ∙ c.in-Some-id_after.ensures.some in
+    let next = to_z-of_z w64 c.in-Some-id_behind.next c.in-Some-id_behind.ensures.fits ∙ c.in-Some-id_behind.ensures.some in
     counts_more g.S.Store c.args.conn.now c.loop.conn c.next_row.new.conn c.loop.page c.next_row.new.page (to_z w64 c.loop.from-bits) _ c.in-Some.row c.loop.runs c.count_row.new.runs c.requires.alone c.loop.invariant
     c.next_row.ensures.asked taken next c.in_ok-count_row.ensures
 

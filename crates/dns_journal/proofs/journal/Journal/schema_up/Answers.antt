@@ -13,7 +13,7 @@ invariant_of-self g c =
     let new = state g.S.Store c.raise.new.conn in
     let done = c.in-Ok.ensures.done in
     let start = rw (← c.self.view_is) at c.in-Some.ensures.start in
-    let made = λ clean. done.made clean (before c.self.inside.version old.now c.in-Some.start start (c.self.invariant.fits (omega (arith, done.falls, clean)) (done.opened clean))) in
+    let made = λ (clean : HasCleanDisk new). done.made clean (before c.self.inside.version old.now c.in-Some.start start (c.self.invariant.fits (omega (arith, done.falls, clean)) (done.opened clean))) in
     record {
       ready = ready_raised c.in-Some.start old new done.alone made;
       page = λ clean. holds_none c.empty.result _ c.empty.ensures;
