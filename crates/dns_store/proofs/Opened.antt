@@ -1,6 +1,6 @@
 -- The rows of a journal that was begun, and how an opening goes on from the look at the first row.
 use Rattle.std.proofs.Common.{◌≡◌, ◌≤◌, ℕ, suc, ℤ, pos, ◌+ℤ◌, List, [], ◌∷◌, length, Option, Some, None, inl, inr, refl, sym, ap, ◌∙◌, subst, arith}
-use Rattle.std.specs.Prelude.{◌≢◌, Result, Ok, Err, IfOk, IfSome, IsSomeAnd}
+use Rattle.std.specs.Prelude.{◌≢◌, Result, Ok, Err, IfOk, IfErr, IfSome, IsSomeAnd}
 use Rattle.dns_io.proofs.ToldContents.{Keeps-same}
 use Rattle.dns_io.specs.Told.{Keeps, Told}
 use Rattle.dns_wire.specs.declared.record.Record.{Record}
@@ -247,22 +247,6 @@ appends_not before now f kind is kept batches cause =
 pub appends_wanting : (told : KeeperTold) → AppendsNot told told OutOfMemory
 appends_wanting told = record { keepers = tt; unopened = record { kept = Keeps-same told.rows; batches = batches_same told; later = omega arith; counts = refl } }
 
--- a journal that was looked at for batches was not begun: the append was refused
-pub begins_not_appended : {K : Type 0} (keeper : KeeperOf K) (old between : K) (now : KeeperTold) (given : Option Contents) (kind : OpenKind) → ReadsRows keeper old between (Ok tt)
-    → AppendsNot (keeper.told between) now kind → BeginsNot (keeper.told old) now given kind
-begins_not_appended keeper old between now given (Recovery row why) read not = absurd not.keepers
-begins_not_appended keeper old between now given KeeperFault read not =
-    record { unbegun = tt; unopened = unopened_since (keeper.told old) (keeper.told between) now _ read.kept read.batches read.counts not.unopened }
-begins_not_appended keeper old between now given NoZone read not = absurd not.keepers
-begins_not_appended keeper old between now given OutOfMemory read not =
-    record { unbegun = tt; unopened = unopened_since (keeper.told old) (keeper.told between) now _ read.kept read.batches read.counts not.unopened }
-
--- or there is no zone
-pub begins_without : {K : Type 0} (keeper : KeeperOf K) (old now : K) → HadNothing (keeper.told old) (keeper.told now) → ReadsRows keeper old now (Ok tt)
-    → BeginsNot (keeper.told old) (keeper.told now) None NoZone
-begins_without keeper old now none read =
-    record { unbegun = (none, refl); unopened = record { kept = read.kept; batches = read.batches; later = read.later; counts = read.counts } }
-
 stray : (b n : Option (List Row)) (batches : List BatchRow) (place : ℤ) (kind : ReplayKind) → HadNoRow b b
     → Told (λ (o : List Row) (s : List Row). (kind ≡ BatchOutOfPlace) × (uncovered (pos 1) o batches ≡ Some place)) b n
     → Told (λ (o : List Row) (s : List Row). AreNone o × (kind ≡ BatchOutOfPlace) × (uncovered (pos 1) o batches ≡ Some place)) b n
@@ -337,3 +321,8 @@ unread_uncovered before between now origin zone OutOfMemory kept batches stand n
 pub on_ok : {A E : Type 0} (P Q : A → Type 0) (result : Result A E) → ((value : A) → P value → Q value) → IfOk result P → IfOk result Q
 on_ok P Q (Ok value) follows holds = follows value holds
 on_ok P Q (Err fault) follows holds = tt
+
+-- and from what one with a fault gives
+pub on_err : {A E : Type 0} (P Q : E → Type 0) (result : Result A E) → ((fault : E) → P fault → Q fault) → IfErr result P → IfErr result Q
+on_err P Q (Ok value) follows holds = tt
+on_err P Q (Err fault) follows holds = follows fault holds

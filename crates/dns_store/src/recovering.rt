@@ -145,10 +145,10 @@ fn count_row(runs: &mut RowRuns, row: &Row) -> Result<(), OpenKind>
     ensures counted { OnOk result ((rows : List JournalRow) → AreRunsOf rows runs.old → AreRunsOf (rows ++ row.now ∷ []) runs.new) }
     ensures err { IfErr result (λ kind. kind ≡ OpenKind.OutOfMemory) }
 {
-    let Ok(()) = runs.count_row(row) else {
-        return Err(OpenKind::OutOfMemory);
-    };
-    Ok(())
+    match runs.count_row(row) {
+        Ok(()) => Ok(()),
+        Err(_) => Err(OpenKind::OutOfMemory),
+    }
 }
 
 /// The first row of a keeper, if it has any.

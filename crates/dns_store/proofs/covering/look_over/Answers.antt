@@ -1,9 +1,10 @@
 use Rattle.std.proofs.Common.{◌∙◌, Option, subst}
 use Rattle.std.specs.Prelude.{IfSome}
+use Rattle.std.proofs.lemmas.Result.{on_ok_weaker}
 use Rattle.dns_keeper.specs.declared.batch_row.BatchRow.{BatchRow}
 use Rattle.dns_store.specs.Covering.{IsCoveredUpTo}
 use Rattle.dns_store.proofs.ReadRows.{kept_on}
-use Rattle.dns_store.proofs.ReadBatches.{covering_goes_on}
+use Rattle.dns_store.proofs.ReadBatches.{covering_goes_on, covering_ends}
 use Rattle.dns_store.proofs.ToldBatches.{batches_on}
 use Rattle.dns_store.proofs.covering.look_over.Goals as goal
 
@@ -21,3 +22,10 @@ loop-preserved g c =
       left = λ some now. was.invariant.left some (c.batch_behind.ensures.reads.left some now);
       uncounted = c.in_ok-next-2.ensures.reads.counts ∙ was.invariant.uncounted;
     }
+
+pub returns-in_default-clause-ok : goal.returns-in_default-clause-ok
+returns-in_default-clause-ok g c =
+    let was = c.loop in
+    let told = g.K.Keeper.keeper.told was.keeper in
+    let read = subst (λ (next : Option BatchRow). IfSome told.rows (IsCoveredUpTo was.coverage next told.batches)) c.in_default.is was.invariant.read in
+    on_ok_weaker c.end.result (λ ends. covering_ends told was.coverage read ends) c.end.ensures.ok

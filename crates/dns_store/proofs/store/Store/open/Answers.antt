@@ -1,9 +1,9 @@
 use Rattle.std.proofs.Common.{refl, inl, inr}
 use Rattle.std.specs.Prelude.{IsSomeAnd}
 use Rattle.dns_keeper.specs.Crash.{LeavesNoOther}
-use Rattle.dns_store.specs.Opening.{Begins, Recovers, Opens}
+use Rattle.dns_store.specs.Opening.{Begins, Recovers, RecoversNot, Opens, OpensNot}
 use Rattle.dns_store.specs.Crash.{LeavesRows, LeavesOpened, LeavesStoreOn}
-use Rattle.dns_store.proofs.Opened.{on_ok, opens_begun, opens_recovered}
+use Rattle.dns_store.proofs.Opened.{on_ok, on_err, opens_begun, opens_recovered, opens_not_recovered}
 use Rattle.dns_store.proofs.ReadRows.{kept_on}
 use Rattle.dns_store.proofs.ToldBatches.{batches_on}
 use Rattle.dns_store.proofs.LeavingOn.{both_ok, on_begun, on_recovered}
@@ -56,3 +56,12 @@ returns-in-Ok-Some-clause-left_on g c alone =
     (batches_on (keeper.told c.args.keeper) (keeper.told c.row_from.new.self) (keeper.told store.keeper) c.in-Ok-Some.ensures.read.kept c.in-Ok-Some.ensures.read.batches done.batches)
     (λ some left. alone some (c.row_from.ensures.read.left some (more some left))))
     c.recover.ensures.ok c.recover.ensures.left
+
+pub returns-in-Ok-Some-clause-err : goal.returns-in-Ok-Some-clause-err
+returns-in-Ok-Some-clause-err g c =
+    let keeper = g.K.Keeper.keeper in
+    on_err (λ f. RecoversNot (keeper.told c.row_from.new.self) (keeper.told f.keeper) c.args.origin f.kind)
+    (λ f. OpensNot (keeper.told c.args.keeper) (keeper.told f.keeper) c.args.origin c.args.zone f.kind) c.recover.result
+    (λ f not. opens_not_recovered (keeper.told c.args.keeper) (keeper.told c.row_from.new.self) (keeper.told f.keeper) c.args.origin c.args.zone f.kind c.in-Ok-Some.field-0-0
+    c.in-Ok-Some.ensures.read.kept c.in-Ok-Some.ensures.read.batches c.in-Ok-Some.ensures.read.cause.counts (rw c.in-Ok-Some.field-0-is at (c.in-Ok-Some.ensures.read.first refl)) not)
+    c.recover.ensures.err
