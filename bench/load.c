@@ -129,7 +129,7 @@ static void ask_stream(int port, double seconds, int window, int each) {
     static unsigned char read_[1 << 20];
     unsigned char *out = malloc((size_t)window * 300);
     size_t next = 0, replies = 0;
-    int s = -1, left = 0;
+    int s = -1, left = 0, on = 1;
     double begin = now(), end = begin + seconds;
     while (now() < end) {
         if (s < 0 || (each && !left)) {

@@ -2,7 +2,8 @@
 """Asks the built program, which serves on loopback, with the clients that people use, and treats it as they do at their worst.
 
 dig, kdig and dnspython ask hits, aliases, referrals, wildcards and negatives, with and without EDNS, over UDP and TCP, and an answer
-that is too long for UDP; dnsperf asks the same with many under way; nsupdate sends each kind of prerequisite, and adds and deletes; a restart on the same journal shows what was
+that is too long for UDP; dnsperf asks the same with many under way; kdig and dnspython ask more over a connection that they keep than
+one has, and connect again; nsupdate sends each kind of prerequisite, and adds and deletes; a restart on the same journal shows what was
 acknowledged. Then the program is killed under streams of updates, and what was answered NoError has to be there afterwards; and 900
 connections come at once, and a hundred behind them, half of which send a single byte or nothing. A client that is not installed is skipped, with a line.
 
@@ -65,6 +66,7 @@ ASKED = [
 MOST = 100  # messages of a connection, which is closed behind the last of them
 PERF_TURNS = 100  # times that dnsperf asks each question
 PERF_WAYS = [("-m", "udp"), ("-m", "tcp", "-O", f"num-queries-per-conn={MOST}"), ("-m", "udp", "-e")]
+KEPT = 250  # questions over a connection that is kept
 LONG = [f"many.example.com. 60 IN A 10.0.0.{place}" for place in range(MANY)]
 
 
@@ -220,6 +222,57 @@ def dnspython(server):
     return count + 2
 
 
+def kdig_kept(server, names):
+    """Asks for the text of each name by kdig over a connection that it keeps: the names that are answered."""
+    words = [word for name in names for word in (name, "TXT")]
+    command = ["kdig", "@127.0.0.1", "-p", str(server.port), "+tcp", "+keepopen", "+noall", "+answer", *words]
+    ran = subprocess.run(command, stdout=subprocess.PIPE, stderr=subprocess.DEVNULL, text=True, timeout=BOUND)
+    lines = [line.split() for line in ran.stdout.splitlines()]
+    return {line[0] for line in lines if line[2:] == ["IN", "TXT", '"w"']}
+
+
+def kdig_keeps(server):
+    """More questions than a connection has. kdig connects again where its connection ended, but tells of the question that it had sent there
+    that it is not answered, and does not ask it again: so it is run again for these."""
+    if shutil.which("kdig") is None:
+        return 0
+    left = [f"n{place}.wild.example.com." for place in range(KEPT)]
+    for lost in (KEPT // MOST, 0):
+        answered = kdig_kept(server, left)
+        left = [name for name in left if name not in answered]
+        if len(left) > lost:
+            raise Wrong(f"kdig +keepopen: {len(left)} questions are not answered where {lost} may be: {left[:4]}")
+    return KEPT
+
+
+def dnspython_keeps(server):
+    """More questions than a connection has, by dnspython, over one that is made anew where it ended."""
+    try:
+        import dns.message, dns.query
+    except ImportError:
+        return 0
+    made, stream = 0, None
+    for place in range(KEPT):
+        question = dns.message.make_query(f"n{place}.wild.example.com", "TXT")
+        for _ in range(2):
+            if stream is None:
+                made, stream = made + 1, server.connected()
+            try:
+                got = dns.query.tcp(question, "127.0.0.1", timeout=BOUND, sock=stream)
+                break
+            except (EOFError, OSError):
+                stream.close()
+                stream = None
+        else:
+            raise Wrong(f"dnspython: question {place} is not answered over a new connection")
+        if [line.to_text().split(" ", 1)[1] for line in got.answer] != ['3600 IN TXT "w"']:
+            raise Wrong(f"dnspython: question {place} is answered {got}")
+    stream.close()
+    if made != -(-KEPT // MOST):
+        raise Wrong(f"dnspython: {KEPT} questions took {made} connections")
+    return KEPT
+
+
 # lines for nsupdate, and the code that the server has to answer (RFC 2136 2.4, 2.5, 3.2)
 UPDATES = [
     ("update add new.example.com. 3600 A 192.0.2.55", "NOERROR"),
@@ -302,7 +355,7 @@ def clients():
         with Serving("--update", zone=zone, journal=journal) as server:
             count = diggers(server, "dig", [("+edns=0",), ("+noedns",), ("+tcp",), ("+tcp", "+noedns"), ("+edns=0", "+bufsize=4096")])
             count += diggers(server, "kdig", [(), ("+edns",), ("+tcp",)])
-            count += dnspython(server)
+            count += dnspython(server) + dnspython_keeps(server) + kdig_keeps(server)
             count += dnsperf(server, folder)
             sent = nsupdates(server)
             if sent:

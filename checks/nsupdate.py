@@ -3,9 +3,9 @@
 
 Each kind of prerequisite and of change is sent to the server, which serves example.com and lets updates in, and what is served
 afterwards is asked for. A server of this script's own looks at the bytes that come, and answers with another id, with what is no reply,
-with what is no message, with half a frame, byte by byte, or not at all. Then scripts that have a line at fault, which send nothing;
-words that are no command; and a server that is not there. One script is given to BIND's nsupdate, too, whose messages must say the same,
-section by section; that is skipped with a line where it is not installed.
+with what is no message, with half a frame, byte by byte, or not at all, and ends each connection behind its 100th message. Then scripts
+that have a line at fault, which send nothing; words that are no command; and a server that is not there. One script is given to BIND's
+nsupdate, too, whose messages must say the same, section by section; that is skipped with a line where it is not installed.
 
   nsupdate.py
 
@@ -252,6 +252,36 @@ class Plain:
         return self.came
 
 
+class Ending(Plain):
+    """A server that answers NoError, ends each connection behind its 100th message, and takes so many connections."""
+
+    def __init__(self, connections):
+        self.connections, self.counts = connections, []
+        super().__init__(lambda tcp, message: tcp.sendall(framed(reply_to(message))))
+
+    def serve(self, answer):
+        self.listener.settimeout(BOUND)
+        try:
+            for place in range(self.connections):
+                tcp, _ = self.listener.accept()
+                if place == self.connections - 1:
+                    self.listener.close()
+                self.counts.append(self.served(tcp, answer))
+        except OSError:
+            pass
+
+    def served(self, tcp, answer):
+        """How many messages a connection brings."""
+        count = 0
+        with tcp:
+            tcp.settimeout(BOUND)
+            while count < serving.MOST and (message := self.message(tcp)) is not None:
+                self.came.append(message)
+                answer(tcp, message)
+                count += 1
+        return count
+
+
 @contextmanager
 def plain(answer):
     server = Plain(answer)
@@ -426,6 +456,28 @@ def beside_another_client():
         yield f"what another client says for {script!r}", said_by(lambda port: sent_to(port, script, 0)), theirs
 
 
+def added(count):
+    """A script of so many messages, each of which adds a name that is in no use before."""
+    lines = [f"prereq nxdomain m{place}.example.com.\nadd m{place}.example.com. 60 A 192.0.2.1\nsend" for place in range(count)]
+    return "\n".join(["zone example.com.", *lines, ""])
+
+
+def many_messages():
+    """More messages than a server lets a connection have: those behind a hundred go over a new connection, and none goes twice."""
+    lines = lambda count: "".join(f"{place:04x} 0\n" for place in range(count))
+    rows = serving.ZONE.count("\n") + 1 + 250  # the snapshot's, one for each record, and one for each message
+    with serving.serving("--update") as server:
+        yield "250 messages", sent_to(server.port, added(250), 0), (0, lines(250))
+        yield "what 250 messages left", server.stop()[:2], (0, f"serial 257\njournal_len {rows}\n")
+    for counts in ([99], [100], [100, 1], [100, 100, 50]):
+        server = Ending(len(counts))
+        got = sent_to(server.port, added(sum(counts)), 0)
+        ids = [int.from_bytes(message[:2], "big") for message in server.ended()]
+        yield f"{sum(counts)} messages", (got, server.counts, ids), ((0, lines(sum(counts))), counts, list(range(sum(counts))))
+    server = Ending(1)
+    yield "a server that is gone behind the hundredth message", (sent_to(server.port, added(101), 0), len(server.ended())), ((6, "read fault\n"), 100)
+
+
 def slow_script():
     """A script that comes slowly: the connection is made when it was read, so that a server with a limit does not end it."""
     with serving.serving("--update", f"--limit={serving.LIMIT}") as server:
@@ -444,6 +496,7 @@ def tried():
     yield from refused()
     yield from example()
     yield from beside_another_client()
+    yield from many_messages()
     yield from slow_script()
 
 

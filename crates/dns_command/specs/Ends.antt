@@ -47,9 +47,10 @@ pub record Begins {K : Type 0} (keeper : KeeperOf K) (w : World) (options : Opti
   pub opened : IsOpened keeper w.journal.before options moment opening first
 
 -- Messages were settled on the journal that was opened: of those that a valid list of events completes, at most the first 100 of a
--- connection, the ones that are picked. Each message in turn was settled on the zone that the rows then stood for, where the words say who is let in and
--- whether updates are; the rows grew by the records of each update that was answered NoError; and no more updates got ServFail
--- than the journal's count of faults rose, unless that stands at its last value: where none got it that count stood still.
+-- connection, the ones that are picked. Each message in turn was settled on the zone that the rows then stood for, where the words
+-- say who is let in and whether updates are; the rows grew by the records of each update that was answered NoError; and no more
+-- updates got ServFail than the journal's count of faults rose, unless that stands at its last value: where none got it that count
+-- stood still.
 pub record Serves {K : Type 0} (keeper : KeeperOf K) (w : World) (picked : List Completed → List Completed) (events : List Event) (outs : List Out) (last : SeenOf K)
     : Type 0 where
   pub options : Options

@@ -21,7 +21,7 @@ In the place of an IP may stand its 8 hex digits (IPv4) or 32 (IPv6), as in what
   --workers=  how many connections are served at once, 1 to 64; 16 where it does not stand. Others wait.
   --limit=    for how many milliseconds a connection may stay without a whole message; 5000 where it does not stand, 0 for
               any time.
-A connection has 100 messages: the last is answered, then it is closed, and what came behind it is dropped.
+A connection has at most 100 messages: the 100th is answered, then it is closed, and what came behind it is dropped.
 
 events answers a list of events from standard input, and writes a line for each reply: the same server without a network.
 
@@ -55,7 +55,8 @@ An event line is one of these, with one space between words:
 AT is a moment in milliseconds, not below that of the line before; CONN the connection's number, greater than those
 accepted before; LIMIT for how many milliseconds it may stay without a whole message, or 0. AT and LIMIT are below
 2^47. IP and PORT are the other end, IP in 8 or 32 hex digits. HEX is at most 65535 bytes, two hex digits each, or - for none. On a
-connection each message stands behind the two bytes of its length, and the 100th closes it. Empty lines and lines that begin with # are passed over.
+connection each message stands behind the two bytes of its length; the 100th message is answered, and closes it. Empty lines and
+lines that begin with # are passed over.
 
 The output of events has a line for each reply, P IP PORT HEX or C CONN HEX. That of load has in their place
   messages N     how many messages were drawn

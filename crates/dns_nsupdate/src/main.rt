@@ -1,18 +1,18 @@
 //! The program: it sends the updates of a script to a server.
 #![tactic(auto)]
 
-use dns_edges::{FileSource, Sink, Writing};
-use dns_io::{Ip, OutOfMemory, Peer};
+mod link;
+
+use crate::link::{Incoming, Outgoing, connection};
+use dns_edges::{FileSource, Reading, Sink, Writing};
+use dns_io::OutOfMemory;
 use dns_update_client::{HELP, UpdateStatus, VERSION, after_writing, nsupdate, settings_of};
 use dns_words::{Action, action_of, hex_words, put_text, unread_words};
+use std::cell::RefCell;
 use std::env;
 use std::io::{self, BufWriter, Cursor, Read};
-use std::net::{IpAddr, Ipv4Addr, Ipv6Addr, Net, SocketAddr, TcpStream};
+use std::net::TcpStream;
 use std::process::ExitCode;
-use std::time::Duration;
-
-/// For how many seconds the server may leave the program waiting, for a connection, for bytes, or to take bytes.
-const PATIENCE: u64 = 5;
 
 /// So much of the script is read at most: one byte more than it may have.
 const MOST: u64 = 1_048_577;
@@ -52,49 +52,21 @@ fn words_in(rt: &HostRuntime) -> Result<Vec<String>, OutOfMemory> {
 /// server does not wait for it; where none can be made, the first read of it fails. For other words nothing is read or connected.
 fn update<O: Sink>(rt: &HostRuntime, words: &Vec<String>, out: &mut O) -> UpdateStatus {
     let Some(settings) = settings_of(words.as_slice()) else {
-        return converse(rt, words, &mut FileSource::new(None), None, out);
+        return refuse(rt, words, out);
     };
     let mut script = FileSource::new(Some(script_text(rt)));
-    converse(
-        rt,
-        words,
-        &mut script,
-        Some(connection(rt, settings.server)),
-        out,
-    )
+    let link = RefCell::new(connection(rt, settings.server));
+    let mut input = Reading::new(Incoming::new(&link));
+    let mut output = Writing::new(Outgoing::new(rt, settings.server, &link));
+    nsupdate(rt.alloc(), words, &mut script, &mut input, &mut output, out)
 }
 
-/// Runs the client over this script and this connection, or what came of making one.
-fn converse<O: Sink>(
-    rt: &HostRuntime,
-    words: &Vec<String>,
-    script: &mut FileSource<Cursor<Vec<u8>>>,
-    connection: Option<io::Result<(TcpStream, TcpStream)>>,
-    out: &mut O,
-) -> UpdateStatus {
-    match connection {
-        Some(Ok((from, to))) => {
-            let mut input = FileSource::new(Some(Ok(from)));
-            nsupdate(
-                rt.alloc(),
-                words,
-                script,
-                &mut input,
-                &mut Writing::new(to),
-                out,
-            )
-        }
-        Some(Err(error)) => {
-            let mut input: FileSource<TcpStream> = FileSource::new(Some(Err(error)));
-            let mut output = Writing::new(io::sink());
-            nsupdate(rt.alloc(), words, script, &mut input, &mut output, out)
-        }
-        None => {
-            let mut input: FileSource<TcpStream> = FileSource::new(None);
-            let mut output = Writing::new(io::sink());
-            nsupdate(rt.alloc(), words, script, &mut input, &mut output, out)
-        }
-    }
+/// Runs the client over words that name no server: without a script, and without a connection.
+fn refuse<O: Sink>(rt: &HostRuntime, words: &Vec<String>, out: &mut O) -> UpdateStatus {
+    let mut script: FileSource<Cursor<Vec<u8>>> = FileSource::new(None);
+    let mut input: FileSource<TcpStream> = FileSource::new(None);
+    let mut output = Writing::new(io::sink());
+    nsupdate(rt.alloc(), words, &mut script, &mut input, &mut output, out)
 }
 
 /// What standard input has, or so much of it that it is known to be too long.
@@ -102,26 +74,4 @@ fn script_text(rt: &HostRuntime) -> io::Result<Cursor<Vec<u8>>> {
     let mut text = Vec::new(rt.alloc());
     rt.reader().take(MOST).read_to_end(&mut text)?;
     Ok(Cursor::new(text))
-}
-
-/// A connection to this server: what comes from it, and what goes to it.
-fn connection<R: Net<Stream = TcpStream>>(
-    rt: &R,
-    server: Peer,
-) -> io::Result<(TcpStream, TcpStream)> {
-    let patience = Duration::from_secs(PATIENCE);
-    let stream = TcpStream::connect_timeout(rt, &socket_address(server), patience)?;
-    stream.set_read_timeout(Some(patience))?;
-    stream.set_write_timeout(Some(patience))?;
-    let back = stream.try_clone()?;
-    Ok((stream, back))
-}
-
-/// The socket address of a peer.
-fn socket_address(peer: Peer) -> SocketAddr {
-    let ip = match peer.ip {
-        Ip::V4(bits) => IpAddr::V4(Ipv4Addr::from_bits(bits)),
-        Ip::V6(bits) => IpAddr::V6(Ipv6Addr::from_bits(bits)),
-    };
-    SocketAddr::new(ip, peer.port)
 }

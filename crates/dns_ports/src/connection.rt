@@ -30,6 +30,7 @@ pub struct ConnectionInput {
     stream: TcpStream,
     stop: StopToken,
     waits: u64,
+    has_read: bool,
     faults: u64,
 }
 
@@ -50,6 +51,7 @@ impl ConnectionInput {
             stream,
             stop,
             waits,
+            has_read: false,
             faults: 0,
         }
     }
@@ -65,7 +67,9 @@ impl Source for ConnectionInput {
         ensures faults { self.new ≡ counted self.old result }
     {
         let ended = read_waiting(&mut self.stream, &self.stop, self.waits, room);
-        count(heard(ended), &mut self.faults)
+        let outcome = heard(ended);
+        self.has_read |= outcome.is_ok();
+        count(outcome, &mut self.faults)
     }
 }
 
@@ -117,11 +121,11 @@ impl Sink for ConnectionOutput {
     }
 }
 
-/// Ends a connection in order: nothing more is sent, and what its peer still sends is read and dropped, up to a megabyte and for about a
-/// second of silence. A connection that is closed with bytes unread is reset (RFC 1122 4.2.2.13), and its peer may lose replies by that.
-/// No fault of this is counted.
+/// Ends a connection in order: nothing more is sent, and where something was read, what its peer still sends is read and dropped, up to a
+/// megabyte and for about a second of silence. A connection that is closed with bytes unread is reset (RFC 1122 4.2.2.13), and its peer
+/// may lose replies by that. No fault of this is counted.
 pub(crate) fn end(mut input: ConnectionInput, output: ConnectionOutput) {
-    if output.stream.shutdown(Shutdown::Write).is_ok() {
+    if input.has_read && output.stream.shutdown(Shutdown::Write).is_ok() {
         drop_rest(&mut input.stream, &input.stop);
     }
 }

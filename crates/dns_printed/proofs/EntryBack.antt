@@ -21,7 +21,7 @@ use Rattle.dns_printed.specs.Printed.{name_text, data_words, type_text, record_l
 use Rattle.dns_printed.specs.Reading.{Says}
 use Rattle.dns_printed.proofs.Numbers.{Led-decimal, digit_bounds}
 use Rattle.dns_printed.proofs.Spans.{Writes, Writes-plain, Passes-ordinary, tokens_of-words, seen_words}
-use Rattle.dns_printed.proofs.Escaping.{ordinary_plain}
+use Rattle.dns_printed.proofs.Escaping.{ordinary_alphanumeric}
 use Rattle.dns_printed.proofs.NameBack.{Begins, Begins-name, Writes-name}
 use Rattle.dns_printed.proofs.WordsBack.{bare, Writes-decimal, word_seconds-decimal, word_name-back}
 use Rattle.dns_printed.proofs.DataBack.{IsTyped, IsSound, typed}
@@ -115,7 +115,7 @@ module _ (origin : List (List ℕ)) (r : Record) (is : IsEntry origin r) (kept :
   said_of class = Ok (entry.Record (record { name = r.name; rtype = r.rtype; class = class; ttl = r.ttl; rdata = r.rdata }) (Some r.ttl))
 
   writes_class : Writes (codes "IN") (bare (codes "IN"))
-  writes_class = Writes-plain (codes "IN") refl (Passes-ordinary (codes "IN") (ordinary_plain (codes "IN") refl))
+  writes_class = Writes-plain (codes "IN") refl (Passes-ordinary (codes "IN") (ordinary_alphanumeric (codes "IN") refl))
 
   writes_owner : Writes (name_text r.name) (bare (name_text r.name))
   writes_owner = Writes-name r.name kept.ranges.name.each kept.owner

@@ -1,5 +1,6 @@
 -- An escaped byte is read as that byte.
 use Rattle.std.proofs.Common.{◌≡◌, ℕ, ◌+◌, ◌/◌, ◌%◌, ◌<◌, ◌≤◌, Bool, true, false, ◌==◌, ◌&&◌, nat_le, List, [], ◌∷◌, Some, refl, arith}
+use Rattle.std.specs.Char.{is_ascii_alphanumeric}
 use Rattle.std.specs.List.{AllByRecursion, list_all}
 use Rattle.dns_name.specs.Escapes.{is_digit, decimal_of, escape_of}
 use Rattle.dns_printed.specs.Printed.{is_plain}
@@ -43,10 +44,14 @@ IsOrdinary-digit byte digit =
 pub IsOrdinary-plain : (byte : ℕ) → is_plain byte ≡ true → IsOrdinary byte
 IsOrdinary-plain byte plain = record { stop = grind arith; slash = grind arith; dot = grind arith; dollar = grind arith; at = grind arith; seen = grind arith }
 
+IsOrdinary-alphanumeric : (byte : ℕ) → is_ascii_alphanumeric byte ≡ true → IsOrdinary byte
+IsOrdinary-alphanumeric byte is = record { stop = grind arith; slash = grind arith; dot = grind arith; dollar = grind arith; at = grind arith; seen = grind arith }
+
 -- letters and digits are ordinary
-pub ordinary_plain : (bytes : List ℕ) → list_all is_plain bytes ≡ true → AllByRecursion IsOrdinary bytes
-ordinary_plain [] all = tt
-ordinary_plain (byte ∷ bytes) all = (IsOrdinary-plain byte (first (is_plain byte) (list_all is_plain bytes) all), ordinary_plain bytes (second (is_plain byte) (list_all is_plain bytes) all))
+pub ordinary_alphanumeric : (bytes : List ℕ) → list_all is_ascii_alphanumeric bytes ≡ true → AllByRecursion IsOrdinary bytes
+ordinary_alphanumeric [] all = tt
+ordinary_alphanumeric (byte ∷ bytes) all =
+    (IsOrdinary-alphanumeric byte (first (is_ascii_alphanumeric byte) (list_all is_ascii_alphanumeric bytes) all), ordinary_alphanumeric bytes (second (is_ascii_alphanumeric byte) (list_all is_ascii_alphanumeric bytes) all))
   where
     first : (a b : Bool) → (a && b) ≡ true → a ≡ true
     first true b both = refl

@@ -6,7 +6,7 @@ use Rattle.hex.specs.Hex.{IsBytes, lower_digits, encode_with, encode_lower, deco
 use Rattle.hex.proofs.HexLemmas.{decode_of-encode_lower}
 use Rattle.dns_presentation.specs.Words.{begins_plain}
 use Rattle.dns_printed.specs.Kept.{AreBytes}
-use Rattle.dns_printed.proofs.Escaping.{IsOrdinary, ordinary_plain}
+use Rattle.dns_printed.proofs.Escaping.{IsOrdinary, ordinary_alphanumeric}
 use Rattle.dns_printed.proofs.Spans.{Passes-ordinary, Writes, Writes-plain}
 
 bytes_at : (bytes : List ℕ) → AreBytes bytes → IsBytes bytes
@@ -25,7 +25,7 @@ at_place (digit ∷ digits) zero all within = all.0
 at_place (digit ∷ digits) (suc place) all within = at_place digits place all.1 (omega arith)
 
 digit_at : (place : ℕ) → place < 16 → IsOrdinary (slice_index lower_digits place)
-digit_at place below = at_place lower_digits place (ordinary_plain lower_digits refl) below
+digit_at place below = at_place lower_digits place (ordinary_alphanumeric lower_digits refl) below
 
 ordinary_hex : (bytes : List ℕ) → AreBytes bytes → AllByRecursion IsOrdinary (encode_lower bytes)
 unfolding encode_with

@@ -9,7 +9,7 @@ use Rattle.dns_presentation.specs.Words.{Word}
 use Rattle.dns_presentation.specs.DataText.{is_meta_type, number_behind_type, numbered_type, typed, type_of}
 use Rattle.dns_printed.specs.Printed.{type_text}
 use Rattle.dns_printed.proofs.Numbers.{AreDigits-decimal, number_up_to-decimal}
-use Rattle.dns_printed.proofs.Escaping.{ordinary_plain}
+use Rattle.dns_printed.proofs.Escaping.{ordinary_alphanumeric}
 use Rattle.dns_printed.proofs.Spans.{Passes-append, Passes-ordinary, ordinary_digits, Writes, Writes-plain}
 use Rattle.dns_printed.proofs.WordsBack.{bare}
 
@@ -102,7 +102,7 @@ pub IsTypeBack-numbered : (number : ℕ) → number < 2 ^ 16 → is_meta_type nu
 IsTypeBack-numbered number below plain none = record {
   word = bare (codes "TYPE" ++ decimal number);
   writes = subst (λ text. Writes text (bare (codes "TYPE" ++ decimal number))) (sym (type_text-numbered number none))
-      (Writes-plain (codes "TYPE" ++ decimal number) refl (Passes-append (codes "TYPE") (decimal number) (Passes-ordinary (codes "TYPE") (ordinary_plain (codes "TYPE") refl)) (Passes-ordinary (decimal number) (ordinary_digits (decimal number) (AreDigits-decimal number (omega arith))))));
+      (Writes-plain (codes "TYPE" ++ decimal number) refl (Passes-append (codes "TYPE") (decimal number) (Passes-ordinary (codes "TYPE") (ordinary_alphanumeric (codes "TYPE") refl)) (Passes-ordinary (decimal number) (ordinary_digits (decimal number) (AreDigits-decimal number (omega arith))))));
   read = numbered_type_of number below plain;
 }
 
@@ -112,36 +112,36 @@ named_word number writes read = record { word = bare (type_text number); writes 
 
 pub IsTypeBack-a : IsTypeBack 1 false
 unfolding type_of
-IsTypeBack-a = named_word 1 (Writes-plain (codes "A") refl (Passes-ordinary (codes "A") (ordinary_plain (codes "A") refl))) refl
+IsTypeBack-a = named_word 1 (Writes-plain (codes "A") refl (Passes-ordinary (codes "A") (ordinary_alphanumeric (codes "A") refl))) refl
 
 pub IsTypeBack-ns : IsTypeBack 2 false
 unfolding type_of
-IsTypeBack-ns = named_word 2 (Writes-plain (codes "NS") refl (Passes-ordinary (codes "NS") (ordinary_plain (codes "NS") refl))) refl
+IsTypeBack-ns = named_word 2 (Writes-plain (codes "NS") refl (Passes-ordinary (codes "NS") (ordinary_alphanumeric (codes "NS") refl))) refl
 
 pub IsTypeBack-cname : IsTypeBack 5 false
 unfolding type_of
-IsTypeBack-cname = named_word 5 (Writes-plain (codes "CNAME") refl (Passes-ordinary (codes "CNAME") (ordinary_plain (codes "CNAME") refl))) refl
+IsTypeBack-cname = named_word 5 (Writes-plain (codes "CNAME") refl (Passes-ordinary (codes "CNAME") (ordinary_alphanumeric (codes "CNAME") refl))) refl
 
 pub IsTypeBack-soa : IsTypeBack 6 false
 unfolding type_of
-IsTypeBack-soa = named_word 6 (Writes-plain (codes "SOA") refl (Passes-ordinary (codes "SOA") (ordinary_plain (codes "SOA") refl))) refl
+IsTypeBack-soa = named_word 6 (Writes-plain (codes "SOA") refl (Passes-ordinary (codes "SOA") (ordinary_alphanumeric (codes "SOA") refl))) refl
 
 pub IsTypeBack-ptr : IsTypeBack 12 false
 unfolding type_of
-IsTypeBack-ptr = named_word 12 (Writes-plain (codes "PTR") refl (Passes-ordinary (codes "PTR") (ordinary_plain (codes "PTR") refl))) refl
+IsTypeBack-ptr = named_word 12 (Writes-plain (codes "PTR") refl (Passes-ordinary (codes "PTR") (ordinary_alphanumeric (codes "PTR") refl))) refl
 
 pub IsTypeBack-mx : IsTypeBack 15 false
 unfolding type_of
-IsTypeBack-mx = named_word 15 (Writes-plain (codes "MX") refl (Passes-ordinary (codes "MX") (ordinary_plain (codes "MX") refl))) refl
+IsTypeBack-mx = named_word 15 (Writes-plain (codes "MX") refl (Passes-ordinary (codes "MX") (ordinary_alphanumeric (codes "MX") refl))) refl
 
 pub IsTypeBack-txt : IsTypeBack 16 false
 unfolding type_of
-IsTypeBack-txt = named_word 16 (Writes-plain (codes "TXT") refl (Passes-ordinary (codes "TXT") (ordinary_plain (codes "TXT") refl))) refl
+IsTypeBack-txt = named_word 16 (Writes-plain (codes "TXT") refl (Passes-ordinary (codes "TXT") (ordinary_alphanumeric (codes "TXT") refl))) refl
 
 pub IsTypeBack-aaaa : IsTypeBack 28 false
 unfolding type_of
-IsTypeBack-aaaa = named_word 28 (Writes-plain (codes "AAAA") refl (Passes-ordinary (codes "AAAA") (ordinary_plain (codes "AAAA") refl))) refl
+IsTypeBack-aaaa = named_word 28 (Writes-plain (codes "AAAA") refl (Passes-ordinary (codes "AAAA") (ordinary_alphanumeric (codes "AAAA") refl))) refl
 
 pub IsTypeBack-srv : IsTypeBack 33 false
 unfolding type_of
-IsTypeBack-srv = named_word 33 (Writes-plain (codes "SRV") refl (Passes-ordinary (codes "SRV") (ordinary_plain (codes "SRV") refl))) refl
+IsTypeBack-srv = named_word 33 (Writes-plain (codes "SRV") refl (Passes-ordinary (codes "SRV") (ordinary_alphanumeric (codes "SRV") refl))) refl

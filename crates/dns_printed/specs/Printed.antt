@@ -2,8 +2,8 @@
 use Rattle.std.specs.Prelude.{ℕ, ◌+◌, ◌/◌, ◌%◌, ◌^◌, nat_le, Bool, ◌==◌, ◌&&◌, ◌||◌, not, if◌then◌else◌, List, [], ◌∷◌, ◌++◌, length, map}
 use Rattle.std.specs.List.{flat_map}
 use Rattle.std.specs.Fmt.{decimal}
-use Rattle.std.specs.Char.{is_ascii_alphanumeric, digit_char}
-use Rattle.std.specs.Net.Text.{dotted_text}
+use Rattle.std.specs.Char.{is_ascii_digit, is_ascii_lowercase}
+use Rattle.std.specs.Net.Text.{dotted_text, groups_text}
 use Rattle.hex.specs.Hex.{encode_lower}
 use lib.Chars.{codes}
 use Rattle.dns_wire.specs.declared.rdata.Data.{Data}
@@ -15,9 +15,9 @@ use Rattle.dns_wire.specs.declared.record.Record.{Record}
 abbrev pub escaped : ℕ → List ℕ
 escaped byte = 92 ∷ (48 + byte / 100) ∷ (48 + byte / 10 % 10) ∷ (48 + byte % 10) ∷ []
 
--- a letter, a digit, a hyphen or an underscore
+-- a small letter, a digit, a hyphen, an underscore or an asterisk
 abbrev pub is_plain : ℕ → Bool
-is_plain byte = is_ascii_alphanumeric byte || ((byte == 45) || (byte == 95))
+is_plain byte = (is_ascii_lowercase byte || is_ascii_digit byte) || ((byte == 45) || ((byte == 95) || (byte == 42)))
 
 -- a byte of a label: it stands for itself, or is escaped
 abbrev pub label_character : ℕ → List ℕ
@@ -54,16 +54,7 @@ groups_of address =
     (address / 2 ^ 112) ∷ (address / 2 ^ 96 % 2 ^ 16) ∷ (address / 2 ^ 80 % 2 ^ 16) ∷ (address / 2 ^ 64 % 2 ^ 16)
     ∷ (address / 2 ^ 48 % 2 ^ 16) ∷ (address / 2 ^ 32 % 2 ^ 16) ∷ (address / 2 ^ 16 % 2 ^ 16) ∷ (address % 2 ^ 16) ∷ []
 
--- a group in four hex digits
-abbrev pub group_text : ℕ → List ℕ
-group_text n = digit_char (n / 4096) ∷ digit_char (n / 256 % 16) ∷ digit_char (n / 16 % 16) ∷ digit_char (n % 16) ∷ []
-
--- groups with colons between them
-abbrev pub groups_text : List ℕ → List ℕ
-groups_text [] = []
-groups_text (n ∷ groups) = group_text n ++ flat_map (λ m. 58 ∷ group_text m) groups
-
--- an IPv6 address in eight groups
+-- an IPv6 address in eight groups of small hex digits with colons between them; no group has zeros at its front
 abbrev pub wide_address_text : ℕ → List ℕ
 wide_address_text address = groups_text (groups_of address)
 

@@ -19,14 +19,14 @@ ghost use Rattle.dns_printed.specs.Rows.{address, wide_address, host, exchange, 
 /// How records are printed, each form once.
 pub fn printed_rows()
     ensures a { record_line address ≡ codes "www.example.com. 3600 IN A 192.0.2.1" }
-    ensures aaaa { record_line wide_address ≡ codes "www.example.com. 3600 IN AAAA 2001:0db8:0000:0000:0000:0000:0000:0001" }
+    ensures aaaa { record_line wide_address ≡ codes "www.example.com. 3600 IN AAAA 2001:db8:0:0:0:0:0:1" }
     ensures ns { record_line host ≡ codes "www.example.com. 0 IN NS ." }
     ensures mx { record_line exchange ≡ codes "www.example.com. 4294967295 IN MX 10 mail.example.com." }
     ensures srv { record_line service ≡ codes "_sip._tcp.example.com. 3600 IN SRV 1 20 5060 sip.example.com." }
     ensures soa { record_line start ≡ codes "example.com. 3600 IN SOA ns.example.com. admin.example.com. 2024010100 7200 3600 1209600 300" }
     ensures txt { record_line strings ≡ codes "www.example.com. 3600 IN TXT \"a b;c\" \"\" \"\\034\\092\\010\\255\"" }
     ensures opaque { record_line private_type ≡ codes "www.example.com. 3600 IN TYPE65280 \\# 3 00ab0f" }
-    ensures wildcard { record_line wildcard ≡ codes "\\042.example.com. 3600 IN CNAME www.example.com." }
+    ensures wildcard { record_line wildcard ≡ codes "*.example.com. 3600 IN CNAME www.example.com." }
     ensures odd { record_line odd_name ≡ codes "a\\046b\\000c.example.com. 3600 IN PTR \\064." }
 {}
 

@@ -1,5 +1,5 @@
 -- The first messages of a stream, and what stands behind them.
-use Rattle.std.proofs.Common.{◌≡◌, ◌≢◌, ◌≤◌, ◌<◌, ℕ, ◌+◌, ◌-◌, ◌*◌, min, List, [], ◌∷◌, ◌++◌, length, take, drop, refl, sym, ap, ◌∙◌, subst, arith, zero, suc, inl, inr, length-append, length-drop, false}
+use Rattle.std.proofs.Common.{◌≡◌, ◌≢◌, ◌≤◌, ◌<◌, ℕ, ◌+◌, ◌-◌, ◌*◌, min, List, [], ◌∷◌, ◌++◌, length, take, drop, refl, sym, ap, ◌∙◌, subst, arith, zero, suc, inl, inr, length-drop, false}
 use Rattle.std.proofs.lemmas.Bool.{cases_lt, leb-false}
 use Rattle.std.proofs.lemmas.List.{drop-append-le, drop-drop, length-take, length-take-le, take-append-le, take_all}
 use Rattle.std.proofs.Math.Seq.{take-append-add, take-nil}
@@ -47,14 +47,6 @@ frames-size_by (suc k) (a ∷ b ∷ bytes) p =
 
 pub frames-size : (xs : List ℕ) → framed_size (frames xs).messages + length (frames xs).rest ≡ length xs
 frames-size xs = frames-size_by (length xs) xs (omega arith)
-
--- each message takes two bytes at least
-pub two_each : (ms : List (List ℕ)) → 2 * length ms ≤ framed_size ms
-two_each [] = omega arith
-two_each (m ∷ ms) = omega (arith, two_each ms)
-
-pub few_messages : (bytes : List ℕ) → 2 * length (frames bytes).messages ≤ length bytes
-few_messages bytes = omega (arith, two_each (frames bytes).messages, frames-size bytes)
 
 -- as many as there are, or more, are all
 pub first_all : (most : ℕ) (bytes : List ℕ) → length (frames bytes).messages ≤ most → first_messages most bytes ≡ (frames bytes).messages

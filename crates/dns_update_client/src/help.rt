@@ -10,9 +10,9 @@ dns_nsupdate: sends the updates of a script to a DNS server (RFC 2136)
 usage: dns_nsupdate --server=IP:PORT --id=N
        dns_nsupdate --help | --version
 
-The script is read from standard input, to its end. Then a connection is made to the server, by TCP; each message of the script is
-sent in turn, and the next one only when the reply has come. At the end a line ID CODE is written for each: its id in four hex
-digits, and the code of the reply in decimal, 0 for NoError.
+The script is read from standard input, to its end. Then a connection is made to the server, by TCP, and a new one behind each hundred
+messages; each message of the script is sent in turn, and the next one only when the reply has come. At the end a line ID CODE is
+written for each: its id in four hex digits, and the code of the reply in decimal, 0 for NoError.
   --server=  the server's address and port, as 127.0.0.1:53 or [::1]:53. In the place of an IP may stand its 8 hex digits (IPv4) or 32
              (IPv6): 7f000001:53.
   --id=      the id of the first message, below 65536. Those of the others count on from it, and 0 follows 65535.

@@ -3,6 +3,7 @@
 #![tactic(auto)]
 
 mod client;
+mod connections;
 mod help;
 pub mod laws;
 mod lines;
@@ -16,6 +17,7 @@ mod submit_fault;
 mod submitting;
 
 pub use client::nsupdate;
+pub use connections::{MOST_MESSAGES, is_used_up};
 pub use dns_update_script::{Script, ScriptFault, ScriptKind, Sending, read_entry, read_script};
 pub use help::{HELP, VERSION};
 pub use settings::{Settings, settings_of};

@@ -1,5 +1,6 @@
 use Rattle.std.proofs.Common.{refl}
 use Rattle.std.specs.Fmt.{digits}
+use Rattle.std.specs.Net.Text.{hex}
 use Rattle.hex.specs.Hex.{encode_with}
 use Rattle.dns_printed.proofs.laws.printed_rows.Goals as goal
 
@@ -8,7 +9,7 @@ unfolding digits encode_with
 returns-clause-a c = refl
 
 pub returns-clause-aaaa : goal.returns-clause-aaaa
-unfolding digits encode_with
+unfolding digits encode_with hex
 returns-clause-aaaa c = refl
 
 pub returns-clause-ns : goal.returns-clause-ns

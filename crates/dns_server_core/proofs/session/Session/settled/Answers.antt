@@ -1,7 +1,6 @@
 -- None was whole, or all that it may have are let go.
-use Rattle.std.proofs.Common.{◌≡◌, ◌≤◌, ◌<◌, ◌^◌, ◌+◌, ◌-◌, ap, arith, List, ℕ, length, subst, sym}
+use Rattle.std.proofs.Common.{◌≡◌, ◌≤◌, ◌+◌, ◌-◌, ap, arith, List, ℕ, length, subst, sym}
 use Rattle.dns_server_core.specs.Connections.{Connection, messages_left}
-use Rattle.dns_server_core.specs.FrameRuns.{behind_first}
 use Rattle.dns_server_core.specs.Steps.{fed_by}
 use Rattle.dns_server_core.proofs.FirstFrames.{behind_le, fed_none, fed_some, first_count}
 use Rattle.dns_server_core.proofs.session.Session.settled.Goals as goal
