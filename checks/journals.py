@@ -6,7 +6,7 @@ The cases are the datagrams of those of updates.py, cut into up to four runs of 
 to the first run alone. After each run every row is compared: its id, its client, its serial, its stamp and its bytes. A killed run
 has to leave a front of the rows that were due, which ends with a whole batch, or nothing; the program goes on with it, and where a
 line of its replies was out, all rows are there. A run that makes the tables, opens a zone and settles an update is stopped before each
-of its calls that change a file, in turn. Then files that are no journal, or a damaged one, are refused and left as they are.
+of its calls that change a file, in turn; so is one over a file of version 1, whose batches it makes. Then files that are no journal, or a damaged one, are refused and left as they are.
 
   journals.py [COUNT [KILLS [SEED]]]  that many cases and killed runs, or 60 and 200; the same ones for the same seed
 
@@ -199,19 +199,33 @@ def left(journal):
     return version[0][0], [(row[0], row[1], row[2], row[4]) for row in stored(journal)]
 
 
-def stopped(count, whole):
+def earlier():
+    """A journal of version 1 with the zone of eight rows, as a file."""
+    with tempfile.TemporaryDirectory() as folder:
+        journal = Path(folder, "journal")
+        run(["events", "example.com."], journal, [], TOP / "examples" / "example.com.zone")
+        spoil(journal, "DROP TABLE batches", "UPDATE tdns_schema SET version = 1")
+        spoil(journal, "PRAGMA wal_checkpoint(TRUNCATE)")
+        return journal.read_bytes()
+
+
+def stopped(count, whole, begun):
     """What is wrong with what is left of a run that is stopped before its call of this number that changes a file, and whether it was: it
-    makes the tables, opens the zone of eight rows, and settles one update. None where nothing is wrong."""
+    makes the tables, or those that a file of version 1 lacks; opens the zone of eight rows; and settles one update. None where nothing is
+    wrong."""
     zone = TOP / "examples" / "example.com.zone"
     with tempfile.TemporaryDirectory() as folder:
         journal, given, told = (Path(folder, name) for name in ("journal", "given", "told"))
         given.write_text(f"D 0 7f000001 5300 {UPDATE.hex()}\n", encoding="ascii")
+        if begun:
+            journal.write_bytes(begun)
         command = [updates.PROGRAM, "events", "example.com.", "--update", f"--journal={journal}", f"--zone={zone}"]
         with given.open("rb") as text, told.open("wb") as output:
             status = traced.stopped_before(count, command, stdin=text, stdout=output)
         version, rows = left(journal)
         place = f"stopped before call {count}"
-        if (version, len(rows)) not in [(-1, 0), (1, 0), (1, 8), (1, 9)] or whole and rows != whole[: len(rows)]:
+        due = [(1, 8), (2, 8), (2, 9)] if begun else [(-1, 0), (2, 0), (2, 8), (2, 9)]
+        if (version, len(rows)) not in due or whole and rows != whole[: len(rows)]:
             return f"{place}: version {version}, {len(rows)} rows", rows, False
         if told.stat().st_size and len(rows) != 9:
             return f"{place}: replies were out, and {len(rows)} rows are left", rows, False
@@ -227,15 +241,18 @@ def stops():
     if not traced.is_there():
         print("journals: programs cannot be traced here, so none is stopped at its calls")
         return 0, []
-    wrong, whole, is_over = [], stopped(MOST_CALLS, [])[1], False
-    count = 0
-    while not is_over and count < MOST_CALLS and not wrong:
-        count += 1
-        fault, _, is_over = stopped(count, whole)
-        wrong += [fault] if fault else []
-    if not wrong and (count < 10 or not is_over):
-        wrong.append(f"a run was stopped before {count} of its calls, and is none that ends")
-    return count, wrong
+    calls, wrong = 0, []
+    for begun in (None, earlier()):
+        whole, is_over = stopped(MOST_CALLS, [], begun)[1], False
+        count = 0
+        while not is_over and count < MOST_CALLS and not wrong:
+            count += 1
+            fault, _, is_over = stopped(count, whole, begun)
+            wrong += [fault] if fault else []
+        if not wrong and (count < 10 or not is_over):
+            wrong.append(f"a run was stopped before {count} of its calls, and is none that ends")
+        calls += count
+    return calls, wrong
 
 
 def duration(events):
@@ -277,7 +294,7 @@ def foreign_table(journal, zone):
 
 def later_version(journal, zone):
     begin(journal, zone)
-    spoil(journal, "UPDATE tdns_schema SET version = 2")
+    spoil(journal, "UPDATE tdns_schema SET version = 3")
 
 
 def cut_row(journal, zone):
@@ -311,6 +328,48 @@ def text_for_bytes(journal, zone):
     spoil(journal, "UPDATE records SET record = 'text' WHERE id = 2")
 
 
+def no_batch(journal, zone):
+    begin(journal, zone)
+    spoil(journal, "DELETE FROM batches")
+
+
+def empty_batch(journal, zone):
+    begin(journal, zone)
+    spoil(journal, "UPDATE batches SET count = 0")
+
+
+def batch_cut_short(journal, zone):
+    begin(journal, zone)
+    spoil(journal, "UPDATE batches SET count = 2")
+
+
+def batch_without_rows(journal, zone):
+    begin(journal, zone)
+    spoil(journal, "DELETE FROM records")
+
+
+def nine_rows(journal, zone):
+    """A journal of an opening of eight rows and an update of one, in the file itself."""
+    zone.write_bytes((TOP / "examples" / "example.com.zone").read_bytes())
+    run(["events", "example.com.", "--update"], journal, [{"kind": "D", "at": 0, "peer": PEER, "piece": UPDATE}], zone)
+    spoil(journal, "PRAGMA wal_checkpoint(TRUNCATE)")
+
+
+def batch_behind_its_row(journal, zone):
+    nine_rows(journal, zone)
+    spoil(journal, "UPDATE batches SET first = 10 WHERE first = 9")
+
+
+def batch_of_two_serials(journal, zone):
+    nine_rows(journal, zone)
+    spoil(journal, "DELETE FROM batches WHERE first = 9", "UPDATE batches SET count = 9")
+
+
+def missing_row_and_batch(journal, zone):
+    missing_row(journal, zone)
+    spoil(journal, "DELETE FROM batches")
+
+
 def missing_row_before_text(journal, zone):
     missing_row(journal, zone)
     spoil(journal, "INSERT INTO records SELECT 4, client_id, soa_serial, timestamp, 'text' FROM records WHERE id = 3")
@@ -328,6 +387,13 @@ REFUSALS = [
     (no_soa, 5, "journal row 1: not one SOA"),
     (text_for_bytes, 8, "keeper fault"),
     (missing_row_before_text, 5, "journal row 3: row out of place"),
+    (no_batch, 5, "journal row 1: batch out of place"),
+    (empty_batch, 5, "journal row 1: batch out of place"),
+    (batch_cut_short, 5, "journal row 3: batch out of place"),
+    (batch_without_rows, 5, "journal row 1: batch out of place"),
+    (batch_behind_its_row, 5, "journal row 9: batch out of place"),
+    (batch_of_two_serials, 5, "journal row 1: batch out of place"),
+    (missing_row_and_batch, 5, "journal row 3: row out of place"),
 ]
 
 

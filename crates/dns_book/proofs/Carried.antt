@@ -57,8 +57,8 @@ given_ready zone protocol ok broken outcome (Some change) true ready other some 
 pub failed_some : {K : Type 0} (keeper : KeeperOf K) (before : SeenOf K) (ask : Ask) (batch : List Record) (fails : Bool) (receipt : Option Receipt) (ended : SeenOf K)
     → Ends keeper before ask batch fails receipt ended → fails ≡ true → 0 < length batch
 failed_some keeper before ask batch _ _ _ (idle none) e = absurd cc
-failed_some keeper before ask batch _ _ _ (journalled some held grown later) e = some
-failed_some keeper before ask batch _ _ _ (failed some held kept later rose) e = some
+failed_some keeper before ask batch _ _ _ (journalled some held grown run later) e = some
+failed_some keeper before ask batch _ _ _ (failed some held kept batches later rose) e = some
 
 -- what is owed where the journal failed or not
 abbrev pub owed_if : Contents → Bool → Decision → Bool → Reply

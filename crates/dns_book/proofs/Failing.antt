@@ -14,20 +14,20 @@ use Rattle.dns_book.proofs.Carried.{failed_some}
 faults_later : {K : Type 0} (keeper : KeeperOf K) (before : SeenOf K) (ask : Ask) (batch : List Record) (fails : Bool) (receipt : Option Receipt) (ended : SeenOf K)
     → Ends keeper before ask batch fails receipt ended → (keeper.told before.keeper).faults ≤ (keeper.told ended.keeper).faults
 faults_later keeper before ask batch _ _ _ (idle none) = omega arith
-faults_later keeper before ask batch _ _ _ (journalled some held grew same) = omega (arith, same)
-faults_later keeper before ask batch _ _ _ (failed some held kept later rose) = later
+faults_later keeper before ask batch _ _ _ (journalled some held grew run same) = omega (arith, same)
+faults_later keeper before ask batch _ _ _ (failed some held kept batches later rose) = later
 
 faults_same : {K : Type 0} (keeper : KeeperOf K) (before : SeenOf K) (ask : Ask) (batch : List Record) (fails : Bool) (receipt : Option Receipt) (ended : SeenOf K)
     → Ends keeper before ask batch fails receipt ended → fails ≡ false → (keeper.told ended.keeper).faults ≡ (keeper.told before.keeper).faults
 faults_same keeper before ask batch _ _ _ (idle none) e = refl
-faults_same keeper before ask batch _ _ _ (journalled some held grew same) e = same
-faults_same keeper before ask batch _ _ _ (failed some held kept later rose) e = absurd cc
+faults_same keeper before ask batch _ _ _ (journalled some held grew run same) e = same
+faults_same keeper before ask batch _ _ _ (failed some held kept batches later rose) e = absurd cc
 
 faults_rose : {K : Type 0} (keeper : KeeperOf K) (before : SeenOf K) (ask : Ask) (batch : List Record) (fails : Bool) (receipt : Option Receipt) (ended : SeenOf K)
     → Ends keeper before ask batch fails receipt ended → fails ≡ true → Rose (keeper.told before.keeper).faults (keeper.told ended.keeper).faults
 faults_rose keeper before ask batch _ _ _ (idle none) e = absurd cc
-faults_rose keeper before ask batch _ _ _ (journalled some held grew later) e = absurd cc
-faults_rose keeper before ask batch _ _ _ (failed some held kept later rose) e = rose
+faults_rose keeper before ask batch _ _ _ (journalled some held grew run later) e = absurd cc
+faults_rose keeper before ask batch _ _ _ (failed some held kept batches later rose) e = rose
 
 pub Settles-later : {K : Type 0} (keeper : KeeperOf K) (access : Access) (before after : SeenOf K) (ask : Ask) (settled : Settled) → Settles keeper access before ask settled after
     → (keeper.told before.keeper).faults ≤ (keeper.told after.keeper).faults

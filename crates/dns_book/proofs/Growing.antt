@@ -10,6 +10,7 @@ use Rattle.dns_update.specs.declared.batch.Batch.{Batch}
 use Rattle.dns_update.specs.declared.batch.Modified.{Modified}
 use Rattle.dns_counts.specs.Counters.{changed}
 use Rattle.dns_store.specs.Store.{StoreOf, stored_with, IsGrown, Stores}
+use Rattle.dns_store.proofs.ToldBatches.{batches_same}
 use Rattle.dns_io.proofs.ToldContents.{Keeps-same}
 use Rattle.dns_book.specs.declared.ask.Ask.{Ask}
 use Rattle.dns_book.specs.Counted.{counts_with}
@@ -18,7 +19,7 @@ use Rattle.dns_book.specs.Outcome.{Journals}
 
 -- a book that nothing was done to
 pub IsLeft-same : {K : Type 0} (keeper : KeeperOf K) (book : SeenOf K) → IsLeft keeper book book
-IsLeft-same keeper book = record { same = refl; kept = Keeps-same (keeper.told book.keeper).rows; uncounted = refl }
+IsLeft-same keeper book = record { same = refl; kept = Keeps-same (keeper.told book.keeper).rows; batches = batches_same (keeper.told book.keeper); uncounted = refl }
 
 module _ {K : Type 0} (keeper : KeeperOf K) (store after : StoreOf K) (allow_update : Bool) (counts : List (List ℕ)) (ask : Ask) (batch : List Record) where
   -- the keeper failed, or memory ran out
@@ -26,9 +27,9 @@ module _ {K : Type 0} (keeper : KeeperOf K) (store after : StoreOf K) (allow_upd
       → Journals keeper (seen store allow_update counts) ask batch (Err fault) (seen after allow_update counts)
   journals_refused keep.Failed is =
       subst (λ (s : StoreOf K). Ends keeper (seen store allow_update counts) ask batch true None (seen s allow_update counts)) (sym is.same)
-      (failed is.some after.keeper is.kept is.later is.rose)
+      (failed is.some after.keeper is.kept is.batches is.later is.rose)
   journals_refused keep.OutOfMemory is =
-      record { same = ap (λ (s : StoreOf K). seen s allow_update counts) is.same; kept = is.kept; uncounted = is.uncounted }
+      record { same = ap (λ (s : StoreOf K). seen s allow_update counts) is.same; kept = is.kept; batches = is.batches; uncounted = is.uncounted }
 
   -- an update without a batch changed nothing
   pub journals_idle : (done : Batch) → length batch ≡ 0 → Stores keeper store ask.client ask.at batch (Ok done) after
@@ -63,7 +64,7 @@ module _ {K : Type 0} (keeper : KeeperOf K) (store after : StoreOf K) (allow_upd
       let book_now : seen after allow_update told ≡ grown before after.keeper batch =
       ap (λ (s : StoreOf K). seen s allow_update told) more.is ∙ ap (λ (c : List (List ℕ)). seen (stored_with store after.keeper batch) allow_update c) told_now
       in
-      let ends : Ends keeper before ask batch false (Some (receipt_of before ask batch)) (grown before after.keeper batch) = journalled some after.keeper more.grown more.uncounted in
+      let ends : Ends keeper before ask batch false (Some (receipt_of before ask batch)) (grown before after.keeper batch) = journalled some after.keeper more.grown more.run more.uncounted in
       let ends_so : Ends keeper before ask batch false (Some (record { client = ask.client; first = first; count = count })) (grown before after.keeper batch) =
       subst (λ (n : ℕ). Ends keeper before ask batch false (Some (record { client = ask.client; first = n; count = count })) (grown before after.keeper batch)) (sym placed)
       (subst (λ (n : ℕ). Ends keeper before ask batch false (Some (record { client = ask.client; first = store.row_count + 1; count = n })) (grown before after.keeper batch)) (sym counted) ends)

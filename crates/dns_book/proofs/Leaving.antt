@@ -30,8 +30,8 @@ left_by keeper before ask batch _ _ _ after (idle none) by = λ some now. elim (
   | inl was ↦ was
   | inr grown ↦ absurd (omega (arith, none, grown.0))
 ]
-left_by keeper before ask batch _ _ _ after (journalled more held grew later) by = by
-left_by keeper before ask batch _ _ _ after (failed more held kept later rose) by = by
+left_by keeper before ask batch _ _ _ after (journalled more held grew run later) by = by
+left_by keeper before ask batch _ _ _ after (failed more held kept batches later rose) by = by
 
 leaving : {K : Type 0} (keeper : KeeperOf K) (access : Access) (before : SeenOf K) (ask : Ask) (settled : Settled) (after : SeenOf K) (batch : List Record)
     → (is : Settles keeper access before ask settled after) → batch ≡ batch_by before.zone before.allow_update is.reply.decision → LeavesBy keeper before ask batch settled.receipt after

@@ -2,7 +2,7 @@
 use Rattle.std.specs.Prelude.{◌≡◌, ℕ, ◌+◌, ◌<◌, ◌≤◌, List, length, Option, Some, None, Bool, true, false}
 use Rattle.dns_io.specs.Told.{Keeps, Rose}
 use Rattle.dns_wire.specs.declared.record.Record.{Record}
-use Rattle.dns_keeper.specs.Keeping.{KeeperOf, GrowsByBatch}
+use Rattle.dns_keeper.specs.Keeping.{KeeperOf, GrowsByBatch, GrowsByRun, KeepsBatches}
 use Rattle.dns_zone_map.specs.Zone.{Contents}
 use Rattle.dns_update.specs.Change.{serial_after_batch}
 use Rattle.dns_store.specs.Store.{StoreOf, IsStored, zone_with}
@@ -31,7 +31,7 @@ seen store allow_update counts =
 abbrev pub stored_of : {K : Type 0} → SeenOf K → StoreOf K
 stored_of book = record { keeper = book.keeper; zone = book.zone; row_count = book.row_count }
 
--- what always holds of a book: its rows are so many as it says, and its zone is what they stand for
+-- what always holds of a book: its rows are so many as it says, its zone is what they stand for, and its batches cover them
 abbrev pub IsKept : {K : Type 0} → KeeperOf K → SeenOf K → Type 0
 IsKept keeper book = IsStored keeper (stored_of book)
 
@@ -54,16 +54,18 @@ grown before held batch = record {
 }
 
 -- what becomes of the records that a message brings: there are none, and nothing changes; they come into the journal, all with
--- the serial that they leave, the zone is what they make of it, and the keeper's count of faults is as it was; or the keeper fails
--- and counts it, and nothing else changes. The flag says that it failed.
+-- the serial that they leave and as one of its batches, the zone is what they make of it, and the keeper's count of faults is as it was;
+-- or the keeper fails and counts it, and nothing else changes. The flag says that it failed.
 pub data Ends {K : Type 0} (keeper : KeeperOf K) (before : SeenOf K) (ask : Ask) (batch : List Record) : Bool → Option Receipt → SeenOf K → Type 0 where
   idle : length batch ≡ 0 → Ends keeper before ask batch false None before
   journalled : 0 < length batch → (held : K)
       → GrowsByBatch (keeper.told before.keeper).rows (keeper.told held).rows ask.client
       (serial_after_batch before.zone.origin before.zone.records batch) ask.at batch
+      → GrowsByRun (keeper.told before.keeper) (keeper.told held) batch
       → (keeper.told held).faults ≡ (keeper.told before.keeper).faults
       → Ends keeper before ask batch false (Some (receipt_of before ask batch)) (grown before held batch)
   failed : 0 < length batch → (held : K) → Keeps (keeper.told before.keeper).rows (keeper.told held).rows
+      → KeepsBatches (keeper.told before.keeper) (keeper.told held)
       → (keeper.told before.keeper).faults ≤ (keeper.told held).faults → Rose (keeper.told before.keeper).faults (keeper.told held).faults
       → Ends keeper before ask batch true None (record before { keeper = held })
 
@@ -85,4 +87,5 @@ pub record Settles {K : Type 0} (keeper : KeeperOf K) (access : Access) (before 
 pub record IsLeft {K : Type 0} (keeper : KeeperOf K) (before after : SeenOf K) : Type 0 where
   pub same : after ≡ record before { keeper = after.keeper }
   pub kept : Keeps (keeper.told before.keeper).rows (keeper.told after.keeper).rows
+  pub batches : KeepsBatches (keeper.told before.keeper) (keeper.told after.keeper)
   pub uncounted : (keeper.told after.keeper).faults ≡ (keeper.told before.keeper).faults

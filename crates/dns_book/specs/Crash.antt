@@ -1,4 +1,4 @@
--- What a crash may leave of the rows of a book, where its keeper tells it.
+-- What a crash may leave of the rows and batches of a book, where its keeper tells it.
 use Rattle.std.specs.Prelude.{List, Option, Some, None, Bool, true, false, Result, Ok, Err}
 use Rattle.dns_wire.specs.declared.record.Record.{Record}
 use Rattle.dns_keeper.specs.declared.keeper.KeepFault.{KeepFault}
@@ -15,11 +15,11 @@ use Rattle.dns_book.specs.Owed.{batch_by}
 use Rattle.dns_book.specs.Book.{SeenOf, stored_of, Settles}
 pub use Rattle.dns_store.specs.Crash.{LeavesOpened, LeavesOpening, LeavesUnopened, GoesOn}
 
--- what might be left before or, where there are records, the rows with them as a whole batch of this message
+-- what might be left before or, where there are records, rows and batches with them as a whole batch of this message
 abbrev pub LeavesBatch : {K : Type 0} → KeeperOf K → SeenOf K → Ask → List Record → SeenOf K → Type 0
 LeavesBatch keeper before ask batch after = LeavesStored keeper (stored_of before) ask.client ask.at batch after.keeper
 
--- where a batch was journalled, the rows alone; else as above
+-- where a batch was journalled, the rows and batches alone; else as above
 abbrev pub LeavesBy : {K : Type 0} → KeeperOf K → SeenOf K → Ask → List Record → Option Receipt → SeenOf K → Type 0
 LeavesBy keeper before ask batch None after = LeavesBatch keeper before ask batch after
 LeavesBy keeper before ask batch (Some receipt) after = LeavesRows keeper after.keeper
@@ -29,8 +29,8 @@ abbrev pub receipt_in : Result (Option Receipt) KeepFault → Option Receipt
 receipt_in (Ok receipt) = receipt
 receipt_in (Err fault) = None
 
--- where a message was settled: the rows alone, where its batch was journalled; where the keeper failed, what might be left before or
--- the rows with the whole batch; and else what might be left before
+-- where a message was settled: the rows and batches alone, where its batch was journalled; where the keeper failed, what might be left
+-- before or both with the whole batch; and else what might be left before
 abbrev pub LeavesSettled : {K : Type 0} → KeeperOf K → SeenOf K → Ask → List Record → Bool → Option Receipt → SeenOf K → Type 0
 LeavesSettled keeper before ask batch failed (Some receipt) after = LeavesRows keeper after.keeper
 LeavesSettled keeper before ask batch true None after = LeavesBatch keeper before ask batch after
@@ -42,12 +42,12 @@ pub record SettlesLeaving {K : Type 0} (keeper : KeeperOf K) (access : Access) (
   pub settles : Settles keeper access before ask settled after
   pub leaves : LeavesSettled keeper before ask (batch_by before.zone before.allow_update settles.reply.decision) settles.failed settled.receipt after
 
--- where no memory was found: what might be left before or, where the message brings records, the rows with the whole batch
+-- where no memory was found: what might be left before or, where the message brings records, rows and batches with the whole batch
 pub data LeavesUnsettled {K : Type 0} (keeper : KeeperOf K) (access : Access) (before : SeenOf K) (ask : Ask) (after : SeenOf K) : Type 0 where
   untouched : LeavesNoOther (keeper.may_leave before.keeper) (keeper.may_leave after.keeper) → LeavesUnsettled keeper access before ask after
   refused : (decision : Option Decision) → Decides before.zone access ask decision
       → LeavesBatch keeper before ask (batch_by before.zone before.allow_update decision) after → LeavesUnsettled keeper access before ask after
 
--- so do all rows that a crash may leave of a book, where its keeper tells the rows that it has
+-- so do all rows and batches that a crash may leave of a book, where its keeper tells those that it has
 abbrev pub LeavesOn : {K : Type 0} → KeeperOf K → SeenOf K → Type 0
 LeavesOn keeper book = GoesOnAll keeper book.zone.origin book.keeper

@@ -43,8 +43,8 @@ impl<K: Keeper> Book<K> {
     /// Settles one message at its moment: gives the reply that it is owed, within its limit, where `access` says which
     /// sources are let in, and what it did to the journal. An update that passes and changes the zone is journalled by one
     /// append, and then the zone has changed; where the keeper fails, it has not, and the reply is ServFail. Where memory
-    /// ran out, nothing has changed. Once a batch is journalled a crash leaves just the rows; where that was refused it may
-    /// leave them with the whole batch too.
+    /// ran out, nothing has changed. Once a batch is journalled a crash leaves just the rows and the batches; where that was refused it
+    /// may leave them with the whole batch too.
     pub fn settle(&mut self, access: &AccessControl, ask: &Ask) -> Result<Settled, OutOfMemory>
         requires moment { ask.now.at < 2 ^ 47 }
         requires bytes { length ask.now.bytes ≤ 65535 }

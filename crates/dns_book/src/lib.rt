@@ -19,5 +19,5 @@ mod settling;
 pub use access::{AccessControl, IpNet};
 pub use ask::{Ask, Receipt, Settled, SettledInto, UnsafeSource, sanitize_src_address};
 pub use book::Book;
-pub use dns_store::{BeginFault, OpenFault, OpenKind};
+pub use dns_store::{OpenFault, OpenKind};
 pub use reply_bytes::ReplyBytes;

@@ -1,6 +1,6 @@
 //! How a book is opened: by its store.
 
-ghost use Rattle.std.specs.Prelude.{◌≡◌, ◌<◌, ◌^◌, IfOk, IfErr, IfSome};
+ghost use Rattle.std.specs.Prelude.{◌≡◌, ◌<◌, ◌^◌, Some, IfOk, IfErr, IfSome};
 ghost use Rattle.dns_name.specs.Name.{fold_of};
 ghost use Rattle.dns_keeper.specs.Crash.{LeavesNoOther};
 ghost use Rattle.dns_store.specs.Crash.{LeavesRows, LeavesOpened, LeavesOpening, LeavesUnopened};
@@ -13,15 +13,15 @@ use crate::counted::counts_of_zone;
 use crate::in_place::InPlace;
 use dns_keeper::Keeper;
 use dns_name::Name;
-use dns_store::{BeginFault, OpenFault, Store};
+use dns_store::{OpenFault, Store};
 use dns_zone::Zone;
 use std::alloc::Global;
 
 impl<K: Keeper> Book<K> {
     /// Opens a journal. One with rows is read back (`Book::recover`), and the zone is not used; one without rows is begun
     /// with the zone at this moment (`Book::begin`; milliseconds, below 2^47). `allow_update` says whether updates are let
-    /// in (RFC 2136 3.3). A refusal leaves the rows as before. Where a crash might leave just the rows before, what it may leave
-    /// from now on goes on past the rows by one batch at most.
+    /// in (RFC 2136 3.3). A refusal leaves rows and batches as before. Where a crash might leave just these before, what it may leave
+    /// from now on goes on past them by one batch at most.
     pub fn open(
         alloc: Global,
         keeper: K,
@@ -42,20 +42,21 @@ impl<K: Keeper> Book<K> {
         Ok(Book::of_store(alloc, store, allow_update))
     }
 
-    /// Begins the journal of a keeper that was looked at (`Keeper::row_from` of the least id) and has no row: one append
-    /// at this moment (milliseconds, below 2^47) of a snapshot row and the zone's records, all with the SOA's serial and
-    /// client 0. `allow_update` says whether updates are let in (RFC 2136 3.3). A refusal leaves the rows as before.
+    /// Begins the journal of a keeper that was looked at (`Keeper::row_from` of the least id) and has no row. Where it has a batch it is
+    /// refused; else there is one append at this moment (milliseconds, below 2^47) of a snapshot row and the zone's records, all with the
+    /// SOA's serial and client 0. `allow_update` says whether updates are let in (RFC 2136 3.3). A refusal leaves rows and batches as
+    /// before.
     pub fn begin(
         alloc: Global,
         keeper: K,
         allow_update: bool,
         moment: u64,
         zone: Zone,
-    ) -> Result<Book<K>, BeginFault<K>>
+    ) -> Result<Book<K>, OpenFault<K>>
         requires moment { moment < 2 ^ 47 }
         requires empty { HadNoRow (K.keeper.told keeper).rows (K.keeper.told keeper).rows }
         ensures ok { IfOk result (Begins K.keeper (K.keeper.told keeper) zone allow_update moment) }
-        ensures err { IfErr result (λ f. BeginsNot (K.keeper.told keeper) (K.keeper.told f.keeper) f.fault) }
+        ensures err { IfErr result (λ f. BeginsNot (K.keeper.told keeper) (K.keeper.told f.keeper) (Some zone) f.kind) }
         ensures left { IfOk result (λ book. LeavesRows K.keeper book.keeper) }
         ensures left_unopened { IfErr result (λ f. LeavesOpening K.keeper zone moment keeper f.keeper) }
     {
@@ -64,8 +65,9 @@ impl<K: Keeper> Book<K> {
     }
 
     /// Reads a journal back, row by row from the least id on: the zone that its rows stand for, whose origin this is, in
-    /// whatever case. Rows that are no zone's are refused with the first that is wrong, and no rows as none with an SOA.
-    /// `allow_update` says whether updates are let in (RFC 2136 3.3). The rows stay as they are.
+    /// whatever case. Rows that are no zone's are refused with the first that is wrong, and no rows as none with an SOA; then batches that
+    /// do not cover the rows, with the place at which they cease to. `allow_update` says whether updates are let in (RFC 2136 3.3). Rows
+    /// and batches stay as they are.
     pub fn recover(
         alloc: Global,
         keeper: K,

@@ -30,7 +30,7 @@ fn three_rows(alloc: Global, words: &str) -> Result<MemoryKeeper, Fail> {
     let first = row(alloc, 1, first)?;
     let second = row(alloc, 2, second)?;
     let third = row(alloc, 3, third)?;
-    Ok(MemoryKeeper::from_rows(alloc, vec![in alloc; first, second, third]?))
+    Ok(MemoryKeeper::from_rows(alloc, vec![in alloc; first, second, third]?)?)
 }
 
 /// A row of serial 9.

@@ -1,18 +1,24 @@
 -- Of what the program was given nothing is at fault: then it ends with the replies, or for want of memory.
-use Rattle.std.proofs.Common.{◌≡◌, ℕ, ◌≤◌, List, [], ◌∷◌, inl, inr, length, Option, Some, None, IsSome, MatchOption, Result, Ok, Err, refl, sym, ap, subst, ◌∙◌, length-append, arith}
+use Rattle.std.proofs.Common.{◌≡◌, ℕ, ℤ, pos, ◌≤◌, List, [], ◌∷◌, inl, inr, length, Option, Some, None, IsSome, MatchOption, Result, Ok, Err, refl, sym, ap, subst, ◌∙◌, length-append, arith}
+use Rattle.std.specs.Prelude.{IfSome}
 use Rattle.std.proofs.lemmas.Option.{same_Some}
 use Rattle.dns_io.specs.Told.{Told, WasLonger, Rose}
 use Rattle.dns_name.specs.Name.{fold_of}
 use Rattle.dns_wire.specs.declared.record.Record.{Record}
 use Rattle.dns_keeper.specs.declared.row.Row.{Row}
+use Rattle.dns_keeper.specs.declared.batch_row.BatchRow.{BatchRow}
+use Rattle.dns_keeper.specs.Batches.{Covers, uncovered}
 use Rattle.dns_keeper.specs.Keeping.{KeeperOf}
+use Rattle.dns_keeper.proofs.Covering.{covering}
 use Rattle.dns_update.specs.declared.replay_kind.ReplayKind.{ReplayKind}
+use Rattle.dns_update.specs.declared.replay_kind.ReplayKind.TheVariants.{BatchOutOfPlace}
 use Rattle.dns_update.specs.Replay.{Replays}
 use Rattle.dns_update.proofs.Replayed.{replays_one}
 use Rattle.dns_zone.specs.ZoneText.{zone_of}
 use Rattle.dns_server_core.specs.declared.event.Event.{Event}
 use Rattle.dns_server_core.specs.Valid.{Valid}
 use Rattle.dns_server_core.specs.Connections.{new_kept}
+use Rattle.dns_store.specs.Covered.{IsCovered, StandOrNone}
 use Rattle.dns_book.specs.Opening.{HadNoRow, HadRows}
 use Rattle.dns_generator.specs.Loaded.{loaded}
 use Rattle.dns_command.specs.declared.status.Status.{Status}
@@ -26,7 +32,7 @@ use Rattle.dns_command.specs.EventText.{events_of}
 use Rattle.dns_words.specs.Writing.{IsUntouched}
 use Rattle.dns_command.specs.World.{World}
 use Rattle.dns_command.specs.Steps.{zone_bound, event_bound, Finds, LoadsEvents, SeesNoRow, journal_unread, journal_without_memory, ReadsNoZone, zone_unread, zone_too_long, zone_faulty, zone_without_memory, FindsNot, unseen, no_zone, FindsExample, FindsBy, FindsNotBy}
-use Rattle.dns_command.specs.Steps.{LoadsNoEvents, events_unread, events_too_long, event_faulty, events_without_memory, OpensNot, rows_refused, journal_failed, opening_without_memory, IsRefused, at_words, without_memory, at_finding, at_events, at_opening}
+use Rattle.dns_command.specs.Steps.{LoadsNoEvents, events_unread, events_too_long, event_faulty, events_without_memory, OpensNot, rows_refused, batches_refused, journal_failed, opening_without_memory, IsRefused, at_words, without_memory, at_finding, at_events, at_opening}
 use Rattle.dns_command.specs.Ends.{Rejects, Ends, with_answers, with_refusal, with_rejection, with_write_fault, cut_for_memory, refused_for_memory, broken_for_memory}
 use Rattle.dns_command.specs.Completeness.{HasZone, in_text, in_rows, HasJournal, without_rows, with_rows, HasZoneBy, HasEventText, HasEvents, IsSound, Completes}
 
@@ -54,7 +60,7 @@ no_rows : (origin : List (List ℕ)) (rows : List Row) (records : List Record) �
 no_rows origin [] records none r = absurd (let ran = r.runs in let end = r.is in cc)
 no_rows origin (row ∷ rows) records none r = absurd cc
 
-module _ (w : World) (no_zone_fault : Rose w.zone.before.faults w.zone.after.faults → ⊥) (no_journal_fault : Rose w.journal.before.faults w.journal.after.faults → ⊥) (told_zone : IsSome w.zone.after.left) (told_journal : IsSome w.journal.after.rows) where
+module _ (w : World) (no_zone_fault : Rose w.zone.before.faults w.zone.after.faults → ⊥) (no_journal_fault : Rose w.journal.before.faults w.journal.after.faults → ⊥) (told_zone : IsSome w.zone.after.left) (told_journal : IsSome w.journal.after.rows) (covered : IsCovered w.journal.before) where
   of_look : (s : Status) → SeesNoRow w.journal s → s ≡ status.OutOfMemory
   of_look s (journal_unread rose) = absurd (no_journal_fault rose)
   of_look s (journal_without_memory still) = refl
@@ -91,10 +97,20 @@ module _ (w : World) (no_zone_fault : Rose w.zone.before.faults w.zone.after.fau
       let same = replays_one (fold_of origin) rows (Ok records) (Err (record { row = row; kind = why })) stands t.1 in
       absurd cc
 
+  -- batches that cover the rows are not refused
+  none_uncovered : (before after : Option (List Row)) (batches : List BatchRow) (Pass : List Row → Type 0) (place : ℤ) (why : ReplayKind) → IsSome after
+      → IfSome before (λ rows. Covers (pos 1) rows batches)
+      → Told (λ (old : List Row) (new : List Row). Pass old × (why ≡ BatchOutOfPlace) × (uncovered (pos 1) old batches ≡ Some place)) before after → ⊥
+  none_uncovered before None batches Pass place why some cover is = absurd cc
+  none_uncovered None (Some new) batches Pass place why some cover is = absurd is
+  none_uncovered (Some old) (Some new) batches Pass place why some cover is = let none = covering (pos 1) batches old cover in let gone = is.2 in absurd cc
+
   -- a journal that can be opened is opened
   pub of_journal : (origin : List (List ℕ)) (opening : Opening) (s : Status) → HasJournal w origin → (opening ≡ Recover → HadRows w.journal.before.rows w.journal.after.rows)
       → OpensNot w.journal origin opening s → s ≡ status.OutOfMemory
   of_journal origin opening s has had (rows_refused row why refused still) = absurd (none_refused origin row why has (had refl) refused)
+  of_journal origin opening s has had (batches_refused place why un still) =
+      absurd (none_uncovered w.journal.before.rows w.journal.after.rows w.journal.before.batches (StandOrNone origin) place why told_journal covered un)
   of_journal origin opening s has had (journal_failed rose) = absurd (no_journal_fault rose)
   of_journal origin opening s has had (opening_without_memory still) = refl
 
@@ -154,9 +170,9 @@ module _ (w : World) (x : IsSound w) where
   of_refusal : (s : Status) → IsRefused w.words w.zone w.events w.journal w.moment s → s ≡ status.OutOfMemory
   of_refusal s (at_words none a b c d) = absurd (let some = x.legal in cc)
   of_refusal s (without_memory a b c d) = refl
-  of_refusal s (at_finding options legal finds u unasked) = of_finding_words w x.faultless.zone x.faultless.journal x.told.zone x.told.journal options s (zone_for options legal) finds
+  of_refusal s (at_finding options legal finds u unasked) = of_finding_words w x.faultless.zone x.faultless.journal x.told.zone x.told.journal x.covered options s (zone_for options legal) finds
   of_refusal s (at_events options opening legal found still loads unasked) = of_events_by options.drawn s (events_for options legal) loads
-  of_refusal s (at_opening options opening events legal found heard opens asked) = of_opening_words w x.faultless.zone x.faultless.journal x.told.zone x.told.journal options opening s (zone_for options legal) found opens
+  of_refusal s (at_opening options opening events legal found heard opens asked) = of_opening_words w x.faultless.zone x.faultless.journal x.told.zone x.told.journal x.covered options opening s (zone_for options legal) found opens
 
   -- the events that were loaded are the valid ones
   valid_loaded : (events : List Event) → HasEventText w → LoadsEvents w.events events → Valid new_kept events

@@ -18,7 +18,7 @@ use Rattle.dns_command.specs.declared.command_line.Options.{Options}
 use Rattle.dns_command.specs.declared.command_line.Drawn.{Drawn}
 use Rattle.dns_words.specs.Writing.{IsUntouched}
 use Rattle.dns_command.specs.World.{World, IsStill, IsStillJournal}
-use Rattle.dns_command.specs.Steps.{Finds, FindsExample, FindsBy, FindsNot, unseen, no_zone, FindsNotBy, SeesNoRow, journal_unread, journal_without_memory, OpensNot, rows_refused, journal_failed, opening_without_memory, HearsBy, HearsNotBy, LoadsEvents, LoadsNoEvents, events_unread, events_too_long, event_faulty, events_without_memory}
+use Rattle.dns_command.specs.Steps.{Finds, FindsExample, FindsBy, FindsNot, unseen, no_zone, FindsNotBy, SeesNoRow, journal_unread, journal_without_memory, OpensNot, rows_refused, batches_refused, journal_failed, opening_without_memory, HearsBy, HearsNotBy, LoadsEvents, LoadsNoEvents, events_unread, events_too_long, event_faulty, events_without_memory}
 use Rattle.dns_command.specs.Steps.{ReadsNoZone, zone_unread, zone_too_long, zone_faulty, zone_without_memory, IsRefused, at_words, without_memory, at_finding, at_events, at_opening}
 use Rattle.dns_command.specs.Ends.{TookFront, Serves, Rejects, all, Refuses, IsCut, in_refusal, in_rejection, in_answers, Ends, with_answers, with_refusal, with_rejection, with_write_fault, cut_for_memory, refused_for_memory, broken_for_memory}
 use Rattle.dns_command.specs.Counts.{ComesOf, with_line, cut_by_fault, cut_for_memory as cut_for_want, CountsReading, CountsWriting, CountsJournal, FailsSome, Counts}
@@ -129,6 +129,7 @@ unfound_journal_by (Some d) journal source origin s finds = of_unseen journal s 
 
 pub of_unopened : (journal : Around KeeperTold) (origin : List (List ℕ)) (opening : Opening) (s : Status) → OpensNot journal origin opening s → Kept journal s
 of_unopened journal origin opening s (rows_refused row why refused still) = inl still
+of_unopened journal origin opening s (batches_refused place why un still) = inl still
 of_unopened journal origin opening s (journal_failed rose) = inr (rose, refl)
 of_unopened journal origin opening s (opening_without_memory still) = inl still
 

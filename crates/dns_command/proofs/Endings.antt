@@ -1,19 +1,22 @@
 -- How the program ends, by what its parts did.
-use Rattle.std.proofs.Common.{◌≡◌, ℕ, ◌≤◌, List, Option, Some, None, IfSome, MatchOption, Result, Ok, Err, refl, sym, ap, ◌∙◌, subst, take, length}
+use Rattle.std.proofs.Common.{◌≡◌, ◌⊎◌, inl, inr, ℕ, ℤ, ◌≤◌, List, Option, Some, None, IfSome, MatchOption, Result, Ok, Err, refl, sym, ap, ◌∙◌, subst, take, length}
 use Rattle.dns_edges.specs.Edges.{Around, SourceTold, SinkTold}
 use Rattle.dns_io.specs.Told.{NeverBegins, Keeps, Rose}
 use Rattle.dns_io.specs.declared.io_fault.IoFault.{IoFault}
 use Rattle.dns_io.specs.declared.io_fault.IoFault.TheVariants.{Failed, OutOfMemory}
 use Rattle.dns_io.proofs.ToldContents.{Keeps-more}
-use Rattle.dns_keeper.specs.Keeping.{KeeperTold, KeeperOf, HasCause}
+use Rattle.dns_keeper.specs.Keeping.{KeeperTold, KeeperOf, KeepsBatches, HasCause}
 use Rattle.dns_keeper.specs.declared.keeper.KeepFault.{KeepFault}
 use Rattle.dns_keeper.specs.declared.keeper.KeepFault.TheVariants as keep
 use Rattle.dns_zone_map.specs.Zone.{Contents, serial_of}
-use Rattle.dns_update.specs.Replay.{opening_of}
+use Rattle.dns_update.specs.declared.replay_kind.ReplayKind.{ReplayKind}
 use Rattle.dns_server_core.specs.declared.event.Event.{Event}
 use Rattle.dns_server_core.specs.declared.event.Out.{Out}
-use Rattle.dns_book.specs.Book.{SeenOf, IsKept, Settles}
+use Rattle.dns_book.specs.Book.{SeenOf, stored_of, IsKept, Settles}
 use Rattle.dns_book.specs.Opening as book
+use Rattle.dns_store.specs.Covered.{AreNone, Stand, StandOrNone, AreUncovered}
+use Rattle.dns_store.specs.Opening.{AreRefused}
+use Rattle.dns_store.proofs.Opened.{uncovered_since, uncovered_more, begins_since, recovers_since}
 use Rattle.dns_store.specs.declared.opening.OpenKind.{OpenKind}
 use Rattle.dns_store.specs.declared.opening.OpenKind.TheVariants as kind
 use Rattle.dns_server_core.specs.Serving.{ServerOf}
@@ -35,13 +38,13 @@ use Rattle.dns_command.specs.Lines.{lines_by}
 use Rattle.dns_command.specs.Status.{refusal_line}
 use Rattle.dns_words.specs.Writing.{IsUntouched, IsWritten}
 use Rattle.dns_command.specs.World.{World}
-use Rattle.dns_command.specs.Steps.{Finds, FindsExample, FindsBy, LoadsEvents, SeesNoRow, journal_unread, journal_without_memory, OpensNot, rows_refused, journal_failed, opening_without_memory, at_opening}
+use Rattle.dns_command.specs.Steps.{Finds, FindsExample, FindsBy, LoadsEvents, SeesNoRow, journal_unread, journal_without_memory, OpensNot, rows_refused, batches_refused, journal_failed, opening_without_memory, at_opening}
 use Rattle.dns_command.specs.Ends.{IsOpened, CountsFailures, Begins, Serves, Rejects, Answers, Breaks, all, TookFront, Refuses, IsCut, in_refusal, in_rejection, in_answers}
 use Rattle.dns_command.specs.Ends.{Ends, with_answers, with_refusal, with_rejection, with_write_fault, cut_for_memory, refused_for_memory, broken_for_memory}
 use Rattle.dns_words.specs.Writing.{WritesWhole}
 use Rattle.dns_command.specs.Writing.{after_writing, EndsWriting, EndsRefusing, silent, by_line}
 use Rattle.dns_command.specs.Parts.{Prepares, OpensBook, unopened, unkept, SettlesPart, of_invalid, of_memory, SettlesAll, SettlesNot, not_opened, not_settled}
-use Rattle.dns_command.proofs.Told.{NeverBegins-told, NeverBegins-same, NeverBegins-more, HadNoRow-on, HadRows-on, HadNoRow-earlier, AreRefused-earlier, GrowsByBatch-earlier}
+use Rattle.dns_command.proofs.Told.{NeverBegins-told, NeverBegins-same, NeverBegins-more, HadNoRow-on, HadRows-on, AreRefused-earlier}
 use Rattle.dns_command.proofs.Settled.{Run-told}
 
 -- ---- the output
@@ -102,10 +105,11 @@ is_undrawn : (drawn : Option Drawn) (source : Around SourceTold) (events : List 
 is_undrawn None source events few heard invalid = refl
 is_undrawn (Some d) source events few heard invalid = absurd (invalid (subst (λ (l : List Event). Valid new_kept l) (sym heard.0) (valid d.seed d.count few)))
 
-pub OpensNot-earlier : (b m a : KeeperTold) (origin : List (List ℕ)) (opening : Opening) (s : Status) → OpensNot (journal_of m a) origin opening s → Keeps b.rows m.rows → m.faults ≡ b.faults → OpensNot (journal_of b a) origin opening s
-OpensNot-earlier b m a origin opening s (rows_refused row why refused still) k same = rows_refused row why (AreRefused-earlier b.rows m.rows a.rows origin row why k refused) (still ∙ same)
-OpensNot-earlier b m a origin opening s (journal_failed rose) k same = journal_failed (subst (λ (n : ℕ). Rose n a.faults) same rose)
-OpensNot-earlier b m a origin opening s (opening_without_memory still) k same = opening_without_memory (still ∙ same)
+pub OpensNot-earlier : (b m a : KeeperTold) (origin : List (List ℕ)) (opening : Opening) (s : Status) → OpensNot (journal_of m a) origin opening s → Keeps b.rows m.rows → KeepsBatches b m → m.faults ≡ b.faults → OpensNot (journal_of b a) origin opening s
+OpensNot-earlier b m a origin opening s (batches_refused place why un still) k kb same = batches_refused place why (uncovered_since (StandOrNone origin) b m a place why k kb un) (still ∙ same)
+OpensNot-earlier b m a origin opening s (rows_refused row why refused still) k kb same = rows_refused row why (AreRefused-earlier b.rows m.rows a.rows origin row why k refused) (still ∙ same)
+OpensNot-earlier b m a origin opening s (journal_failed rose) k kb same = journal_failed (subst (λ (n : ℕ). Rose n a.faults) same rose)
+OpensNot-earlier b m a origin opening s (opening_without_memory still) k kb same = opening_without_memory (still ∙ same)
 
 -- a journal whose first row was not seen
 pub sees_no_row : {T : Type 0} (journal : Around KeeperTold) (why : KeepFault) → HasCause {T = T} journal.before.faults journal.after.faults (Err why) → SeesNoRow journal (unkept why)
@@ -113,39 +117,35 @@ sees_no_row journal keep.Failed cause = journal_unread cause.counts
 sees_no_row journal keep.OutOfMemory cause = journal_without_memory cause.counts
 
 -- a journal that was not begun
-pub begun_not : (b a : KeeperTold) (origin : List (List ℕ)) (zone : Contents) (why : KeepFault) → book.BeginsNot b a why → OpensNot (journal_of b a) origin (Begin zone) (unkept why)
-begun_not b a origin zone keep.Failed h = journal_failed h.cause.counts
-begun_not b a origin zone keep.OutOfMemory h = opening_without_memory h.cause.counts
+pub begun_not : (b a : KeeperTold) (origin : List (List ℕ)) (zone : Contents) (why : OpenKind) → book.BeginsNot b a (Some zone) why → OpensNot (journal_of b a) origin (Begin zone) (unopened why)
+begun_not b a origin zone (kind.Recovery id why) h =
+    batches_refused id why (uncovered_more AreNone (StandOrNone origin) b a id why (λ rows none. inl none) h.unbegun) h.unopened.counts
+begun_not b a origin zone kind.KeeperFault h = journal_failed h.unopened.counts
+begun_not b a origin zone kind.NoZone h = opening_without_memory h.unopened.counts
+begun_not b a origin zone kind.OutOfMemory h = opening_without_memory h.unopened.counts
 
 -- a journal that was not read back
+refused_by : (b a : KeeperTold) (origin : List (List ℕ)) (id : ℤ) (why : ReplayKind) → AreRefused b.rows a.rows origin id why ⊎ AreUncovered (Stand origin) b a id why → a.faults ≡ b.faults
+    → OpensNot (journal_of b a) origin Recover (status.Recovery id why)
+refused_by b a origin id why (inl refused) still = rows_refused id why refused still
+refused_by b a origin id why (inr un) still = batches_refused id why (uncovered_more (Stand origin) (StandOrNone origin) b a id why (λ rows stand. inr stand) un) still
+
 pub recovered_not : (b a : KeeperTold) (origin : List (List ℕ)) (why : OpenKind) → book.RecoversNot b a origin why → OpensNot (journal_of b a) origin Recover (unopened why)
-recovered_not b a origin (kind.Recovery id why) h = rows_refused id why h.unread h.unopened.counts
+recovered_not b a origin (kind.Recovery id why) h = refused_by b a origin id why h.unread h.unopened.counts
 recovered_not b a origin kind.KeeperFault h = journal_failed h.unopened.counts
 recovered_not b a origin kind.NoZone h = opening_without_memory h.unopened.counts
 recovered_not b a origin kind.OutOfMemory h = opening_without_memory h.unopened.counts
 
 -- what was opened of a journal that nothing had changed yet
-pub IsOpened-earlier : {K : Type 0} (keeper : KeeperOf K) (b m : KeeperTold) (options : Options) (moment : ℕ) (opening : Opening) (first : SeenOf K) → Keeps b.rows m.rows → m.faults ≡ b.faults
-    → IsOpened keeper m options moment opening first → IsOpened keeper b options moment opening first
-IsOpened-earlier keeper b m options moment (Begin zone) first k same o = record {
-  store = record {
-    empty = HadNoRow-earlier b.rows m.rows (keeper.told first.keeper).rows k o.store.empty;
-    grown = GrowsByBatch-earlier b.rows m.rows (keeper.told first.keeper).rows 0 (serial_of zone.records) moment (opening_of zone) k o.store.grown;
-    uncounted = o.store.uncounted ∙ same;
-    is = o.store.is;
-    row_count = o.store.row_count;
-    stands = o.store.stands;
-  };
+pub IsOpened-earlier : {K : Type 0} (keeper : KeeperOf K) (b m : KeeperTold) (options : Options) (moment : ℕ) (opening : Opening) (first : SeenOf K) → Keeps b.rows m.rows → KeepsBatches b m
+    → m.faults ≡ b.faults → IsOpened keeper m options moment opening first → IsOpened keeper b options moment opening first
+IsOpened-earlier keeper b m options moment (Begin zone) first k kb same o = record {
+  store = begins_since keeper b m zone moment (stored_of first) k kb same o.store;
   allow_update = o.allow_update;
   counts = o.counts;
 }
-IsOpened-earlier keeper b m options moment Recover first k same o = record {
-  store = record {
-    kept = Keeps-more b.rows m.rows (keeper.told first.keeper).rows k o.store.kept;
-    uncounted = o.store.uncounted ∙ same;
-    named = o.store.named;
-    stands = o.store.stands;
-  };
+IsOpened-earlier keeper b m options moment Recover first k kb same o = record {
+  store = recovers_since keeper b m options.origin (stored_of first) k kb same o.store;
   allow_update = o.allow_update;
   counts = o.counts;
 }
@@ -162,7 +162,7 @@ IsOpened-still keeper m options moment Recover first o = o.store.uncounted
 
 -- ---- what was prepared, and then served
 
-module _ {K : Type 0} (keeper : KeeperOf K) (words : List (List ℕ)) (z e : Around SourceTold) (out : Around SinkTold) (b : KeeperTold) (moment : ℕ) (inputs : Inputs) (held left : K) (p : Prepares words z e (journal_of b (keeper.told held)) inputs) (k : Keeps b.rows (keeper.told held).rows) (same : (keeper.told held).faults ≡ b.faults) where
+module _ {K : Type 0} (keeper : KeeperOf K) (words : List (List ℕ)) (z e : Around SourceTold) (out : Around SinkTold) (b : KeeperTold) (moment : ℕ) (inputs : Inputs) (held left : K) (p : Prepares words z e (journal_of b (keeper.told held)) inputs) (k : Keeps b.rows (keeper.told held).rows) (kb : KeepsBatches b (keeper.told held)) (same : (keeper.told held).faults ≡ b.faults) where
   abbrev world : World
   world = record { words = words; zone = z; events = e; journal = journal_of b (keeper.told left); output = out; moment = Some moment }
 
@@ -176,7 +176,7 @@ module _ {K : Type 0} (keeper : KeeperOf K) (words : List (List ℕ)) (z e : Aro
     heard = p.heard;
     moment = moment;
     asked = refl;
-    opened = IsOpened-earlier keeper b (keeper.told held) inputs.options moment inputs.opening first k same o;
+    opened = IsOpened-earlier keeper b (keeper.told held) inputs.options moment inputs.opening first k kb same o;
   }
 
   -- messages were settled on it
@@ -237,7 +237,7 @@ module _ {K : Type 0} (keeper : KeeperOf K) (words : List (List ℕ)) (z e : Aro
   unopened_refused s t n keeps r = refused keeper world s t (record {
     cause = at_opening inputs.options inputs.opening inputs.events.items p.legal
         (FindsBy-on b (keeper.told held) (keeper.told left) z inputs.options inputs.opening p.found (NeverBegins-told _ (keeper.told held).rows (keeper.told left).rows keeps)) p.heard
-        (OpensNot-earlier b (keeper.told held) (keeper.told left) inputs.options.origin inputs.opening s n k same) refl;
+        (OpensNot-earlier b (keeper.told held) (keeper.told left) inputs.options.origin inputs.opening s n k kb same) refl;
     kept = Keeps-more b.rows (keeper.told held).rows (keeper.told left).rows k keeps;
   }) r
 

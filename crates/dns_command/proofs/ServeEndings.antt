@@ -7,7 +7,7 @@ use Rattle.dns_io.specs.Told.{Keeps, Rose}
 use Rattle.dns_io.specs.declared.io_fault.IoFault.{IoFault}
 use Rattle.dns_io.specs.declared.io_fault.IoFault.TheVariants.{Failed, OutOfMemory}
 use Rattle.dns_io.proofs.ToldContents.{Keeps-more}
-use Rattle.dns_keeper.specs.Keeping.{KeeperTold}
+use Rattle.dns_keeper.specs.Keeping.{KeepsBatches, KeeperTold}
 use Rattle.dns_zone_map.specs.Zone.{serial_of}
 use Rattle.dns_book.specs.Book.{SeenOf}
 use Rattle.dns_server.proofs.FailedUpdates.{few_failed_updates, still_failed_updates}
@@ -93,8 +93,8 @@ module _ {K U T R W C : Type 0} (m : Meanings K U T R W C) (w : World) (hub : Ar
 
     of_unserved : (s : Status) → IsUnserved m w s → s ≡ status.OutOfMemory
     of_unserved s (without_memory a b c) = refl
-    of_unserved s (at_finding service legal finds kept unasked) = of_finding w x.faultless.zone x.faultless.journal x.told.1 x.told.0 service.options.origin s (zone_for service legal) finds
-    of_unserved s (at_opening service opening legal found opens kept asked) = of_opening w x.faultless.zone x.faultless.journal x.told.1 x.told.0 service.options.origin opening s (zone_for service legal) found opens
+    of_unserved s (at_finding service legal finds kept unasked) = of_finding w x.faultless.zone x.faultless.journal x.told.1 x.told.0 x.covered service.options.origin s (zone_for service legal) finds
+    of_unserved s (at_opening service opening legal found opens kept asked) = of_opening w x.faultless.zone x.faultless.journal x.told.1 x.told.0 x.covered service.options.origin opening s (zone_for service legal) found opens
     of_unserved s (at_sharing service first begun is) = refl
 
     of_refusal : (s : Status) → Refusing s → s ≡ status.OutOfMemory
@@ -281,7 +281,7 @@ module _ {K U T R W C : Type 0} (m : Meanings K U T R W C) (t : Terms) (access :
       refl (new_total t 0 (λ port. IsFreshSocket (m.socket port)) before.sockets new.new_sockets) (new_total t listening.limit (λ port. IsFreshListener (m.listener.told port)) before.listeners new.new_listeners) none
 
 module _ {K U T R W C : Type 0} (m : Meanings K U T R W C) (words : List (List ℕ)) (z e : Around SourceTold) (out : Around SinkTold) (hub : Around (HubTold U T))
-    (b : KeeperTold) (moment : ℕ) (service : Service) (legal : service_of words ≡ Some service) (held left : K) (k : Keeps b.rows (m.keeper.told held).rows) (same : (m.keeper.told held).faults ≡ b.faults)
+    (b : KeeperTold) (moment : ℕ) (service : Service) (legal : service_of words ≡ Some service) (held left : K) (k : Keeps b.rows (m.keeper.told held).rows) (kb : KeepsBatches b (m.keeper.told held)) (same : (m.keeper.told held).faults ≡ b.faults)
     (opening : Opening) (found : Finds (journal_of b (m.keeper.told held)) z service.options.origin opening) where
   abbrev world : World
   world = record { words = words; zone = z; events = e; journal = journal_of b (m.keeper.told left); output = out; moment = Some moment }
@@ -294,7 +294,7 @@ module _ {K U T R W C : Type 0} (m : Meanings K U T R W C) (words : List (List �
     moment = moment;
     asked = refl;
     found = Finds-on b (m.keeper.told held) (m.keeper.told first.keeper) z service.options.origin opening found (IsOpened-told m.keeper (m.keeper.told held) service.options moment opening first o);
-    opened = IsOpened-earlier m.keeper b (m.keeper.told held) service.options moment opening first k same o;
+    opened = IsOpened-earlier m.keeper b (m.keeper.told held) service.options moment opening first k kb same o;
   }
 
   -- it was not
@@ -304,7 +304,7 @@ module _ {K U T R W C : Type 0} (m : Meanings K U T R W C) (words : List (List �
       unserved
       (at_opening service opening legal
       (Finds-on b (m.keeper.told held) (m.keeper.told left) z service.options.origin opening found (NeverBegins-told _ (m.keeper.told held).rows (m.keeper.told left).rows kept))
-      (OpensNot-earlier b (m.keeper.told held) (m.keeper.told left) service.options.origin opening s not k same)
+      (OpensNot-earlier b (m.keeper.told held) (m.keeper.told left) service.options.origin opening s not k kb same)
       (Keeps-more b.rows (m.keeper.told held).rows (m.keeper.told left).rows k kept) refl)
       unused untouched
 

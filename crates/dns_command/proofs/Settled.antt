@@ -26,8 +26,8 @@ use Rattle.dns_command.proofs.Told.{NeverBegins-told, NeverBegins-same, NeverBeg
 module _ {K : Type 0} (keeper : KeeperOf K) where
   Ends-told : (before : SeenOf K) (ask : Ask) (batch : List Record) (flag : _) (receipt : Option Receipt) (after : SeenOf K) → Ends keeper before ask batch flag receipt after → NeverBegins (keeper.told before.keeper).rows (keeper.told after.keeper).rows
   Ends-told before ask batch flag receipt after (idle none) = NeverBegins-same (keeper.told before.keeper).rows
-  Ends-told before ask batch flag receipt after (journalled some held grown later) = NeverBegins-told _ (keeper.told before.keeper).rows (keeper.told held).rows grown
-  Ends-told before ask batch flag receipt after (failed some held kept later rose) = NeverBegins-told _ (keeper.told before.keeper).rows (keeper.told held).rows kept
+  Ends-told before ask batch flag receipt after (journalled some held grown run later) = NeverBegins-told _ (keeper.told before.keeper).rows (keeper.told held).rows grown
+  Ends-told before ask batch flag receipt after (failed some held kept batches later rose) = NeverBegins-told _ (keeper.told before.keeper).rows (keeper.told held).rows kept
 
   Settles-told : (access : Access) (before : SeenOf K) (ask : Ask) (settled : Settled) (after : SeenOf K) → Settles keeper access before ask settled after → NeverBegins (keeper.told before.keeper).rows (keeper.told after.keeper).rows
   Settles-told access before ask settled after s = rw (s.counted) (Ends-told before ask _ s.failed settled.receipt s.ended s.ends)

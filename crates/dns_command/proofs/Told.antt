@@ -6,7 +6,7 @@ use Rattle.dns_name.specs.Name.{fold_of}
 use Rattle.dns_wire.specs.declared.record.Record.{Record}
 use Rattle.dns_keeper.specs.declared.row.Row.{Row}
 use Rattle.dns_keeper.specs.Rows.{first_of}
-use Rattle.dns_keeper.specs.Keeping.{HasBatch, GrowsByBatch, IsFirstRow}
+use Rattle.dns_keeper.specs.Keeping.{IsFirstRow}
 use Rattle.dns_update.specs.declared.replay_kind.ReplayKind.{ReplayKind}
 use Rattle.dns_update.specs.Replay.{Replays}
 use Rattle.dns_book.specs.Opening.{HadNoRow, HadRows, AreRefused}
@@ -49,9 +49,6 @@ HadNoRow-on = Told-more _ _ _ (λ x y z p q. p)
 pub HadRows-on : (a b c : Option (List Row)) → HadRows a b → NeverBegins b c → HadRows a c
 HadRows-on = Told-more _ _ _ (λ x y z p q. p)
 
-pub HadNoRow-earlier : (a b c : Option (List Row)) → Keeps a b → HadNoRow b c → HadNoRow a c
-HadNoRow-earlier = Told-more _ _ _ (λ x y z p q. sym p ∙ q)
-
 -- what was seen of the rows holds of them now
 pub HadNoRow-now : (a b : Option (List Row)) → HadNoRow a b → Keeps a b → HadNoRow b b
 HadNoRow-now a None p q = tt
@@ -62,11 +59,6 @@ pub AreRefused-earlier : (a b c : Option (List Row)) (origin : List (List ℕ)) 
 AreRefused-earlier a b c origin row why =
     Told-more (λ x y. y ≡ x) (λ (y z : List Row). Replays (fold_of origin) y (Err (record { row = row; kind = why }))) (λ (x z : List Row). Replays (fold_of origin) x (Err (record { row = row; kind = why })))
     (λ x y z p q. subst (λ (rows : List Row). Replays (fold_of origin) rows (Err (record { row = row; kind = why }))) p q) a b c
-
-pub GrowsByBatch-earlier : (a b c : Option (List Row)) (client serial moment : ℕ) (records : List Record) → Keeps a b → GrowsByBatch b c client serial moment records → GrowsByBatch a c client serial moment records
-GrowsByBatch-earlier a b c client serial moment records =
-    Told-more (λ x y. y ≡ x) (λ y z. HasBatch y client serial moment records z) (λ x z. HasBatch x client serial moment records z)
-    (λ x y z p q. subst (λ (rows : List Row). HasBatch rows client serial moment records z) p q) a b c
 
 pub Rose-earlier : (n m k : ℕ) → n ≤ m → Rose m k → Rose n k
 Rose-earlier n m k h r = omega arith

@@ -6,6 +6,7 @@ use Rattle.dns_wire.specs.declared.record.Record.{Record}
 use Rattle.dns_keeper.specs.declared.row.Row.{Row}
 use Rattle.dns_update.specs.Replay.{Replays}
 use Rattle.dns_zone.specs.ZoneText.{zone_of}
+use Rattle.dns_store.specs.Covered.{IsCovered}
 use Rattle.dns_server_core.specs.declared.event.Event.{Event}
 use Rattle.dns_server_core.specs.Valid.{Valid}
 use Rattle.dns_server_core.specs.Connections.{new_kept}
@@ -58,11 +59,12 @@ pub record IsTold (w : World) : Type 0 where
   pub zone : IsSome w.zone.after.left
   pub events : IsSome w.events.after.left
 
--- the words are legal, there is a zone, the events are valid, and no object failed
+-- the words are legal, there is a zone, the batches of the journal cover its rows, the events are valid, and no object failed
 pub record IsSound (w : World) : Type 0 where
   pub options : Options
   pub legal : options_of w.words ≡ Some options
   pub zone : HasZoneBy w options
+  pub covered : IsCovered w.journal.before
   pub events : HasEvents w options
   pub faultless : IsFaultless w
   pub told : IsTold w

@@ -13,6 +13,7 @@ use Rattle.dns_command.specs.Hubs.{Meanings}
 use Rattle.dns_words.specs.Writing.{IsUntouched, IsWritten}
 use Rattle.dns_command.specs.World.{World}
 use Rattle.dns_command.specs.Ends.{Ends, TookFront}
+use Rattle.dns_store.specs.Covered.{IsCovered}
 use Rattle.dns_command.specs.Completeness.{HasZone, Completes}
 use Rattle.dns_command.specs.Serving.{Serves, RefusesServing}
 use Rattle.dns_command.specs.Counts.{Counts, RunCounts}
@@ -45,11 +46,12 @@ module _ {U T : Type 0} (w : World) (hub : Around (HubTold U T)) where
     pub ports : Rose hub.before.faults hub.after.faults → ⊥
     pub output : Rose w.output.before.faults w.output.after.faults → ⊥
 
-  -- the words are legal, there is a zone, and no object failed
+  -- the words are legal, there is a zone, the batches of the journal cover its rows, and no object failed
   pub record IsSoundServing : Type 0 where
     pub service : Service
     pub legal : service_of w.words ≡ Some service
     pub zone : HasZone w service.options.origin
+    pub covered : IsCovered w.journal.before
     pub faultless : IsFaultlessServing
     pub told : IsSome w.journal.after.rows × IsSome w.zone.after.left
 

@@ -43,6 +43,7 @@ abbrev pub replay_kind_text : ReplayKind → List ℕ
 replay_kind_text replay.NoRecord = codes "row is no record"
 replay_kind_text replay.OutOfPlace = codes "row out of place"
 replay_kind_text replay.NotOneSoa = codes "not one SOA"
+replay_kind_text replay.BatchOutOfPlace = codes "batch out of place"
 
 -- the line that a run which ends so writes in place of its output; none after a fault of the output or want of memory
 abbrev pub refusal_line : Status → List ℕ

@@ -9,7 +9,7 @@ use Rattle.dns_zone.specs.declared.zone_text.ZoneTextKind.{ZoneTextKind}
 use Rattle.dns_zone.specs.declared.zone_text.ZoneTextFault.TheVariants.{Refused}
 use Rattle.dns_update.specs.declared.replay_kind.ReplayKind.{ReplayKind}
 use Rattle.dns_server_core.specs.declared.event.Event.{Event}
-use Rattle.dns_book.specs.Opening.{HadNoRow, HadRows, AreRefused}
+use Rattle.dns_book.specs.Opening.{HadNoRow, HadRows, AreRefused, StandOrNone, AreUncovered}
 use Rattle.dns_command.specs.declared.status.Status.{Status}
 use Rattle.dns_command.specs.declared.status.Status.TheVariants as status
 use Rattle.dns_command.specs.declared.opening.Opening.{Opening}
@@ -114,11 +114,14 @@ HearsNotBy source options s = MatchOption options.drawn
     (LoadsNoEvents source s)
     (λ drawn. (s ≡ status.OutOfMemory) × IsUntouched source)
 
--- why the journal was not opened: it has rows that stand for no zone of this origin, and this is the first that is refused;
--- it failed; or memory ran out. Its count of faults rose where it failed, and nowhere else
+-- why the journal was not opened: it has rows that stand for no zone of this origin, and this is the first that is refused; they stand for
+-- one, or there are none, but its batches do not cover them, and this is the place at which they cease to; it failed; or memory ran out.
+-- Its count of faults rose where it failed, and nowhere else
 pub data OpensNot (journal : Around KeeperTold) (origin : List (List ℕ)) : Opening → Status → Type 0 where
   rows_refused : (row : ℤ) (why : ReplayKind) → AreRefused journal.before.rows journal.after.rows origin row why → IsStillJournal journal
       → OpensNot journal origin Recover (status.Recovery row why)
+  batches_refused : {opening : Opening} (place : ℤ) (why : ReplayKind) → AreUncovered (StandOrNone origin) journal.before journal.after place why
+      → IsStillJournal journal → OpensNot journal origin opening (status.Recovery place why)
   journal_failed : {opening : Opening} → Rose journal.before.faults journal.after.faults → OpensNot journal origin opening status.KeeperFault
   opening_without_memory : {opening : Opening} → IsStillJournal journal → OpensNot journal origin opening status.OutOfMemory
 

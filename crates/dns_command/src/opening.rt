@@ -3,6 +3,7 @@
 ghost use Rattle.std.specs.Prelude.{◌≡◌, ◌<◌, ◌≤◌, ◌^◌, OnOk, IfOk, IfErr, true, false};
 ghost use Rattle.dns_edges.specs.Edges.{around};
 ghost use Rattle.dns_io.specs.Told.{Keeps};
+ghost use Rattle.dns_keeper.specs.Keeping.{KeepsBatches};
 ghost use Rattle.dns_name.specs.Name.{fold_of};
 ghost use Rattle.dns_book.specs.Opening.{HadNoRow, HadRows};
 ghost use Rattle.dns_command.specs.Steps.{ReadsZone, ReadsNoZone, Finds, SeesNoRow, FindsNot, FindsBy, FindsNotBy, FindsExample, IsExample, OpensNot};
@@ -26,7 +27,7 @@ const ZONE_BOUND: usize = 16_777_216;
 /// How the journal is opened.
 #[derive(Drop)]
 pub enum Opening {
-    /// It has no row, and is begun with the zone of the zone text.
+    /// It has no row, and is begun with the zone of the zone text, unless it has a batch.
     Begin(Zone),
     /// It has rows, which are to be read back.
     Recover,
@@ -56,6 +57,7 @@ pub fn find_opening<Z: Source, K: Keeper>(
         (around K.keeper.told keeper.old keeper.new) (around Z.source.told source.old source.new) origin.now) }
     ensures ready { IfOk result (λ opening. IsReady opening (K.keeper.told keeper.new).rows) }
     ensures kept { Keeps (K.keeper.told keeper.old).rows (K.keeper.told keeper.new).rows }
+    ensures batches { KeepsBatches (K.keeper.told keeper.old) (K.keeper.told keeper.new) }
     ensures later { (K.keeper.told keeper.old).faults ≤ (K.keeper.told keeper.new).faults }
     ensures still { OnOk result ((K.keeper.told keeper.new).faults ≡ (K.keeper.told keeper.old).faults) }
     ensures later_source { (Z.source.told source.old).faults ≤ (Z.source.told source.new).faults }
@@ -82,6 +84,7 @@ pub fn find_opening_by<Z: Source, K: Keeper>(
         (around K.keeper.told keeper.old keeper.new) (around Z.source.told source.old source.new) options.now) }
     ensures ready { IfOk result (λ opening. IsReady opening (K.keeper.told keeper.new).rows) }
     ensures kept { Keeps (K.keeper.told keeper.old).rows (K.keeper.told keeper.new).rows }
+    ensures batches { KeepsBatches (K.keeper.told keeper.old) (K.keeper.told keeper.new) }
     ensures later { (K.keeper.told keeper.old).faults ≤ (K.keeper.told keeper.new).faults }
     ensures still { OnOk result ((K.keeper.told keeper.new).faults ≡ (K.keeper.told keeper.old).faults) }
     ensures later_source { (Z.source.told source.old).faults ≤ (Z.source.told source.new).faults }
@@ -98,6 +101,7 @@ fn find_example<K: Keeper>(alloc: Global, keeper: &mut K) -> Result<Opening, Sta
     ensures err { IfErr result (SeesNoRow (around K.keeper.told keeper.old keeper.new)) }
     ensures ready { IfOk result (λ opening. IsReady opening (K.keeper.told keeper.new).rows) }
     ensures kept { Keeps (K.keeper.told keeper.old).rows (K.keeper.told keeper.new).rows }
+    ensures batches { KeepsBatches (K.keeper.told keeper.old) (K.keeper.told keeper.new) }
     ensures later { (K.keeper.told keeper.old).faults ≤ (K.keeper.told keeper.new).faults }
     ensures still { OnOk result ((K.keeper.told keeper.new).faults ≡ (K.keeper.told keeper.old).faults) }
 {
@@ -129,6 +133,7 @@ fn has_rows<K: Keeper>(keeper: &mut K) -> Result<bool, Status>
     ensures none { IfOk result (λ has. has ≡ false → HadNoRow (K.keeper.told keeper.old).rows (K.keeper.told keeper.new).rows) }
     ensures err { IfErr result (SeesNoRow (around K.keeper.told keeper.old keeper.new)) }
     ensures kept { Keeps (K.keeper.told keeper.old).rows (K.keeper.told keeper.new).rows }
+    ensures batches { KeepsBatches (K.keeper.told keeper.old) (K.keeper.told keeper.new) }
     ensures later { (K.keeper.told keeper.old).faults ≤ (K.keeper.told keeper.new).faults }
     ensures still { OnOk result ((K.keeper.told keeper.new).faults ≡ (K.keeper.told keeper.old).faults) }
 {
@@ -183,9 +188,9 @@ pub fn open_book<K: Keeper>(
     match opening {
         Opening::Begin(zone) => match Book::begin(alloc, keeper, allow_update, moment, zone) {
             Ok(book) => Ok(book),
-            Err(fault) => Err(Refusal {
-                status: unkept(fault.fault),
-                keeper: fault.keeper,
+            Err(refused) => Err(Refusal {
+                status: unopened(refused.kind),
+                keeper: refused.keeper,
             }),
         },
         Opening::Recover => match Book::recover(alloc, keeper, &options.origin, allow_update) {
@@ -198,7 +203,7 @@ pub fn open_book<K: Keeper>(
     }
 }
 
-/// The status of a journal that was not read back. No zone is asked for then, so `NoZone` does not come.
+/// The status of a journal that was not opened. A zone is there where one is asked for, so `NoZone` does not come.
 fn unopened(kind: OpenKind) -> Status
     ensures { result ≡ unopened kind }
 {

@@ -3,6 +3,7 @@
 ghost use Rattle.std.specs.Prelude.{◌≡◌, ◌<◌, ◌≤◌, ◌^◌, ℕ, Option, None, length, IsSome, IfSome, OnOk, IfOk, IfErr, map, string_bytes};
 ghost use Rattle.dns_edges.specs.Edges.{around};
 ghost use Rattle.dns_io.specs.Told.{Keeps};
+ghost use Rattle.dns_keeper.specs.Keeping.{KeepsBatches};
 ghost use Rattle.dns_zone_map.specs.Zone.{serial_of};
 ghost use Rattle.dns_command.specs.declared.status.Status.TheVariants as status;
 ghost use Rattle.dns_command.specs.Lines.{lines_by};
@@ -110,6 +111,7 @@ fn prepare<Z: Source, E: Source, K: Keeper>(
         (around K.keeper.told keeper.old keeper.new) None) }
     ensures ready { IfOk result (λ inputs. IsReady inputs.opening (K.keeper.told keeper.new).rows) }
     ensures kept { Keeps (K.keeper.told keeper.old).rows (K.keeper.told keeper.new).rows }
+    ensures batches { KeepsBatches (K.keeper.told keeper.old) (K.keeper.told keeper.new) }
     ensures later { (K.keeper.told keeper.old).faults ≤ (K.keeper.told keeper.new).faults }
     ensures still { OnOk result ((K.keeper.told keeper.new).faults ≡ (K.keeper.told keeper.old).faults) }
     ensures later_zone { (Z.source.told zone.old).faults ≤ (Z.source.told zone.new).faults }

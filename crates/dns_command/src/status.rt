@@ -33,9 +33,9 @@ pub enum Status {
     },
     /// The events are no valid list. The journal was opened, and nothing else was done.
     NotValid,
-    /// The rows of the journal are no zone's.
+    /// The rows of the journal are no zone's, or its batches do not cover them.
     Recovery {
-        /// The id of the first row that is refused.
+        /// The id of the first row that is refused, or the place at which the batches cease to cover the rows.
         row: i64,
         /// Why it is.
         kind: ReplayKind,
@@ -165,5 +165,6 @@ fn replay_kind_text(kind: ReplayKind) -> &'static str
         ReplayKind::NoRecord => "row is no record",
         ReplayKind::OutOfPlace => "row out of place",
         ReplayKind::NotOneSoa => "not one SOA",
+        ReplayKind::BatchOutOfPlace => "batch out of place",
     }
 }

@@ -61,10 +61,10 @@ some_none a b e none some = omega (arith, none, some, ap length e)
 alike_ends : {K : Type 0} (keeper : KeeperOf K) → OneAnswer → (a b : SeenOf K) (ask : Ask) (xs ys : List Record) (f g : Bool) (p q : Option Receipt) (x y : SeenOf K)
     → Ends keeper a ask xs f p x → Ends keeper b ask ys g q y → f ≡ false → g ≡ false → xs ≡ ys → AreAlike keeper a b → AreAlike keeper x y
 alike_ends keeper one a b ask xs ys _ _ _ _ _ _ (idle none) (idle nor) e f same h = h
-alike_ends keeper one a b ask xs ys _ _ _ _ _ _ (idle none) (journalled some held grew later) e f same h = absurd (some_none xs ys same none some)
-alike_ends keeper one a b ask xs ys _ _ _ _ _ _ (idle none) (failed some held kept later rose) e f same h = absurd cc
-alike_ends keeper one a b ask xs ys _ _ _ _ _ _ (journalled some held grew later) (idle none) e f same h = absurd (some_none ys xs (sym same) none some)
-alike_ends keeper one a b ask xs ys _ _ _ _ _ _ (journalled some held grew later) (journalled more second grown since) e f same h = record {
+alike_ends keeper one a b ask xs ys _ _ _ _ _ _ (idle none) (journalled some held grew run later) e f same h = absurd (some_none xs ys same none some)
+alike_ends keeper one a b ask xs ys _ _ _ _ _ _ (idle none) (failed some held kept batches later rose) e f same h = absurd cc
+alike_ends keeper one a b ask xs ys _ _ _ _ _ _ (journalled some held grew run later) (idle none) e f same h = absurd (some_none ys xs (sym same) none some)
+alike_ends keeper one a b ask xs ys _ _ _ _ _ _ (journalled some held grew run later) (journalled more second grown run since) e f same h = record {
   zone = ap (λ (z : Contents). zone_with z xs) h.zone ∙ ap (zone_with b.zone) same;
   allow_update = h.allow_update;
   row_count = ap (λ (n : ℕ). n + length xs) h.row_count ∙ ap (λ (l : List Record). b.row_count + length l) same;
@@ -73,8 +73,8 @@ alike_ends keeper one a b ask xs ys _ _ _ _ _ _ (journalled some held grew later
       let here : Grew keeper b.keeper second ask a.zone xs = subst (λ (l : List Record). Grew keeper b.keeper second ask a.zone l) (sym same) moved in
       agree_grown one (keeper.told held).rows (keeper.told second).rows (keeper.told a.keeper).rows (keeper.told b.keeper).rows ask.client (serial_after_batch a.zone.origin a.zone.records xs) ask.at xs h.told grew here;
 }
-alike_ends keeper one a b ask xs ys _ _ _ _ _ _ (journalled some held grew later) (failed more second kept since rose) e f same h = absurd cc
-alike_ends keeper one a b ask xs ys _ _ _ _ _ _ (failed some held kept later rose) second e f same h = absurd cc
+alike_ends keeper one a b ask xs ys _ _ _ _ _ _ (journalled some held grew run later) (failed more second kept batches since rose) e f same h = absurd cc
+alike_ends keeper one a b ask xs ys _ _ _ _ _ _ (failed some held kept batches later rose) second e f same h = absurd cc
 
 -- the same message
 

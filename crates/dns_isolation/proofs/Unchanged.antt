@@ -42,8 +42,8 @@ no_records zone access ask allow_update _ other (read h e let_in m at) = none_re
 ends_idle : {K : Type 0} (keeper : KeeperOf K) (before : SeenOf K) (ask : Ask) (batch : List Record) (fails : Bool) (receipt : Option Receipt) (ended : SeenOf K)
     → Ends keeper before ask batch fails receipt ended → batch ≡ [] → (ended ≡ before) × (receipt ≡ None)
 ends_idle keeper before ask batch _ _ _ (idle none) e = (refl, refl)
-ends_idle keeper before ask batch _ _ _ (journalled some held grew later) e = absurd (omega (arith, some, ap length e))
-ends_idle keeper before ask batch _ _ _ (failed some held kept later rose) e = absurd (omega (arith, some, ap length e))
+ends_idle keeper before ask batch _ _ _ (journalled some held grew run later) e = absurd (omega (arith, some, ap length e))
+ends_idle keeper before ask batch _ _ _ (failed some held kept batches later rose) e = absurd (omega (arith, some, ap length e))
 
 pub Settles-unchanged : {K : Type 0} (keeper : KeeperOf K) (access : Access) (before after : SeenOf K) (ask : Ask) (settled : Settled) → Settles keeper access before ask settled after
     → IsNoUpdate ask.bytes → IsUnchanged before after × (settled.receipt ≡ None)

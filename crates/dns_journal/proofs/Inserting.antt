@@ -12,21 +12,24 @@ use Rattle.dns_sqlite.specs.Statements.{HasTables}
 use Rattle.dns_sqlite.specs.Batch.{AddsBatch}
 use Rattle.dns_keeper.specs.declared.row.Row.{Row}
 use Rattle.dns_keeper.specs.declared.keeper.KeepFault.{KeepFault}
-use Rattle.dns_keeper.specs.Keeping.{IsStampFor, GrowsByBatch, HasCause}
-use Rattle.dns_keeper.specs.Crash.{IsGrownFrom}
+use Rattle.dns_keeper.specs.Keeping.{Kept, IsStampFor, GrowsByBatch, KeepsBatches, HasCause}
+use Rattle.dns_keeper.specs.Crash.{AreTold, IsGrownFrom}
+use Rattle.dns_keeper.proofs.KeptBatches.{keeps_batches_same}
+use Rattle.dns_sqlite.specs.Versions.{current_version}
 use Rattle.dns_keeper.specs.Calls.{Appends}
 use Rattle.dns_journal.specs.declared.error.PersistenceError.{PersistenceError}
 use Rattle.dns_journal.specs.declared.error.PersistenceError.TheVariants.{Sqlite, OutOfMemory}
 use Rattle.dns_journal.specs.Counting.{CountsAs}
 use Rattle.dns_journal.specs.Told.{View, told_rows, Stays, IsReady}
-use Rattle.dns_journal.specs.Crash.{MayLeave, Leaves, LeavesTrees}
+use Rattle.dns_journal.specs.Crash.{MayLeave, Leaves, LeavesTrees, LeavesItsOwn}
 use Rattle.dns_journal.specs.Records.{RefusesBatch}
 use Rattle.dns_journal.specs.Stored.{KeepsDatabase, LeavesBatch}
 use Rattle.dns_journal.specs.Keepers.{journal_keeper}
 use Rattle.dns_journal.specs.Inserts.{Puts, Inserts}
-use Rattle.dns_journal.proofs.Telling.{grows_told, keeps_told, leaves_batch, left_of, left_told}
+use Rattle.dns_journal.proofs.Telling.{grows_told, grows_run, keeps_told, keeps_run, leaves_batch, left_of, left_told}
 use Rattle.dns_journal.proofs.Iterating.{keeps_same, not_unready}
 use Rattle.dns_journal.proofs.Reading.{told_ascends}
+use Rattle.dns_journal.proofs.BatchReading.{tells_by_first}
 
 pub some_records : (records : List Record) → 0 < length (map record_bytes records) → 0 < length records
 some_records [] some = absurd (omega (arith, some))
@@ -47,6 +50,9 @@ not_sqlite before _ other = refl
 module _ {S : Type 0} (g : Ghosts S) (client serial moment : ℕ) where
   -- ---- nothing was asked of the connection
 
+  as_counted : (old new : View S) → Stays old new → new ≡ record old { faults = new.faults }
+  as_counted old new stays = rw (stays.conn, stays.version, stays.ready) refl
+
   -- refused, with at most a fault counted
   pub puts_refused : {E : Type 0} (records : List Record) (old new : View S) (e : E) → Stays old new → (records ≡ [] → old.is_ready ≡ true → new ≡ old) → Puts g old new client serial moment records (Err e)
   puts_refused records old new e stays empty =
@@ -54,12 +60,14 @@ module _ {S : Type 0} (g : Ghosts S) (client serial moment : ℕ) where
       let was = state g old.conn in
       record {
         ok = tt;
+        run = tt;
         err = subst (λ t. Keeps (told_rows g old) t) (sym told) (keeps_same (told_rows g old));
+        batches = subst (λ (j : View S). KeepsBatches ((journal_keeper g).told old) ((journal_keeper g).told j)) (sym (as_counted old new stays)) (keeps_batches_same ((journal_keeper g).told old));
         grown = λ _. tt;
         untouched = subst (λ h. KeepsDatabase was (state g h)) (sym stays.conn) (λ clean live. (live, refl));
         committed = λ _. tt;
         alone = λ _. tt;
-        left = subst (λ h. Leaves (state g h) (λ rows. MayLeave was rows ⊎ IsGrownFrom (told_rows g old) client serial moment records rows)) (sym stays.conn) (λ clean rows m. inl m);
+        left = subst (λ h. Leaves (state g h) (λ kept. MayLeave was kept ⊎ IsGrownFrom ((journal_keeper g).told old) client serial moment records kept)) (sym stays.conn) (λ clean kept m. inl m);
         crash = subst (λ h. LeavesBatch client serial moment records was (state g h)) (sym stays.conn) (λ clean db may. inl may);
         empty = empty;
         same = λ _. subst (λ h. LeavesTrees (state g h) was.may_leave) (sym stays.conn) (λ clean db may. may);
@@ -90,7 +98,7 @@ module _ {S : Type 0} (g : Ghosts S) (client serial moment : ℕ) where
   }
 
   -- a record that cannot be written, or no memory
-  pub inserts_unwritten : (records : List Record) (j : View S) (e : PersistenceError) → j.version ≡ pos 1 → j.is_ready ≡ true → e ≢ Sqlite → RefusesBatch records e → Inserts g j j client serial moment records (Err e)
+  pub inserts_unwritten : (records : List Record) (j : View S) (e : PersistenceError) → j.version ≡ current_version → j.is_ready ≡ true → e ≢ Sqlite → RefusesBatch records e → Inserts g j j client serial moment records (Err e)
   inserts_unwritten records j e current ready other named = record {
     put = puts_refused records j j e (stays_as j) (λ _ _. refl);
     short = tt;
@@ -101,11 +109,13 @@ module _ {S : Type 0} (g : Ghosts S) (client serial moment : ℕ) where
   }
 
   -- no records
-  pub inserts_none : (j : View S) → j.version ≡ pos 1 → j.is_ready ≡ true → Inserts g j j client serial moment [] (Ok tt)
+  pub inserts_none : (j : View S) → j.version ≡ current_version → j.is_ready ≡ true → Inserts g j j client serial moment [] (Ok tt)
   inserts_none j current ready = record {
     put = record {
       ok = grows_none (told_rows g j) client serial moment;
+      run = keeps_batches_same ((journal_keeper g).told j);
       err = tt;
+      batches = tt;
       grown = λ some. absurd (omega (arith, some));
       untouched = tt;
       committed = λ some. absurd (omega (arith, some));
@@ -145,13 +155,15 @@ module _ {S : Type 0} (g : Ghosts S) (client serial moment : ℕ) where
         let has : HasCleanDisk is → HasTables was.now = λ clean. ready.2 (omega (arith, done.falls, clean)) (done.opened clean) in
         let crash : LeavesBatch client serial moment records was is = leaves_batch was is done.falls client serial moment stamp records stamped done.survives.crash in
         record {
-          ok = grows_told was is done.falls client serial moment stamp records stamped (λ clean live. done.made clean (has clean));
+          ok = grows_told was is done.falls client serial moment stamp records some stamped (λ clean live. done.made clean (has clean));
+          run = grows_run was is done.falls client serial stamp records some (λ clean live. done.made clean (has clean));
           err = tt;
+          batches = tt;
           grown = λ _ clean. (stamp, stamped, done.made clean (has clean));
           untouched = tt;
           committed = λ _. done.crash;
-          alone = λ _ clean rows m. left_told is clean (done.made clean (has clean)).is_open (done.crash clean) rows m;
-          left = λ clean rows m. left_of was is done.falls client serial moment records ready.2 crash clean rows m;
+          alone = λ _ clean kept m. let it = left_told is clean (done.made clean (has clean)).is_open (done.crash clean) kept m in record { rows = it.0; batches = it.1 };
+          left = λ clean kept m. left_of was is done.falls client serial moment records some ready.2 crash clean kept m;
           crash = crash;
           empty = λ none _. none_left none;
           same = λ none. none_left none;
@@ -168,12 +180,14 @@ module _ {S : Type 0} (g : Ghosts S) (client serial moment : ℕ) where
         let crash : LeavesBatch client serial moment records was is = leaves_batch was is failed.falls client serial moment stamp records stamped failed.survives.crash in
         record {
           ok = tt;
+          run = tt;
           err = keeps_told was is failed.falls (λ clean live. let k = failed.kept clean live in (k.0, k.1));
+          batches = keeps_run was is failed.falls (λ clean live. let k = failed.kept clean live in (k.0, k.1));
           grown = λ _. tt;
           untouched = λ clean live. let k = failed.kept clean live in (k.0, k.1);
           committed = λ _. tt;
           alone = λ _. tt;
-          left = λ clean rows m. left_of was is failed.falls client serial moment records ready.2 crash clean rows m;
+          left = λ clean kept m. left_of was is failed.falls client serial moment records some ready.2 crash clean kept m;
           crash = crash;
           empty = λ none _. none_left none;
           same = λ none. none_left none;
@@ -209,7 +223,9 @@ module _ {S : Type 0} (g : Ghosts S) (client serial moment : ℕ) where
   pub puts_as_ok : {E F : Type 0} (records : List Record) (old new : View S) → Puts {E = E} g old new client serial moment records (Ok tt) → Puts {E = F} g old new client serial moment records (Ok tt)
   puts_as_ok records old new put = record {
     ok = put.ok;
+    run = put.run;
     err = tt;
+    batches = tt;
     grown = put.grown;
     untouched = tt;
     committed = put.committed;
@@ -227,7 +243,9 @@ module _ {S : Type 0} (g : Ghosts S) (client serial moment : ℕ) where
   pub puts_as_err : {E F : Type 0} (records : List Record) (old new : View S) (e : E) (f : F) → Puts g old new client serial moment records (Err e) → Puts g old new client serial moment records (Err f)
   puts_as_err records old new e f put = record {
     ok = tt;
+    run = tt;
     err = put.err;
+    batches = put.batches;
     grown = λ _. tt;
     untouched = put.untouched;
     committed = λ _. tt;
@@ -246,22 +264,25 @@ module _ {S : Type 0} (g : Ghosts S) (client serial moment : ℕ) where
       → Appends (journal_keeper g) old new client serial moment records r
   appends records old new r put cause = record {
     ok = put.ok;
+    run = put.run;
     err = put.err;
+    batches = put.batches;
     ascending = told_ascends g new;
+    by_first = tells_by_first g new;
     alone = alone r put.alone;
-    left = λ rows m. left records put.left put.same rows m.0 m.1;
+    left = λ kept m. left records put.left put.same kept m.0 m.1;
     cause = cause;
   }
     where
-      alone : (r : Result (Unit {0}) KeepFault) → (0 < length records → OnOk r (Leaves (state g new.conn) (λ rows. told_rows g new ≡ Some rows))) → 0 < length records → OnOk r ((rows : List Row) → HasCleanDisk (state g new.conn) × MayLeave (state g new.conn) rows → told_rows g new ≡ Some rows)
-      alone (Ok x) it = λ some rows m. it some m.0 rows m.1
+      alone : (r : Result (Unit {0}) KeepFault) → (0 < length records → OnOk r (LeavesItsOwn g new)) → 0 < length records → OnOk r ((kept : Kept) → HasCleanDisk (state g new.conn) × MayLeave (state g new.conn) kept → AreTold ((journal_keeper g).told new) kept)
+      alone (Ok x) it = λ some kept m. it some m.0 kept m.1
       alone (Err e) it = λ some. tt
 
-      left : (rs : List Record) → Leaves (state g new.conn) (λ rows. MayLeave (state g old.conn) rows ⊎ IsGrownFrom (told_rows g old) client serial moment rs rows) → (rs ≡ [] → LeavesTrees (state g new.conn) (state g old.conn).may_leave)
-          → (rows : List Row) → HasCleanDisk (state g new.conn) → MayLeave (state g new.conn) rows
-          → (HasCleanDisk (state g old.conn) × MayLeave (state g old.conn) rows) ⊎ ((0 < length rs) × IsGrownFrom (told_rows g old) client serial moment rs rows)
-      left [] it same rows clean m = inl (omega (arith, put.falls, clean), record { db = m.db; left = same refl clean m.db m.left; opens = m.opens })
-      left (q ∷ qs) it same rows clean m = elim (it clean rows m) [
+      left : (rs : List Record) → Leaves (state g new.conn) (λ kept. MayLeave (state g old.conn) kept ⊎ IsGrownFrom ((journal_keeper g).told old) client serial moment rs kept) → (rs ≡ [] → LeavesTrees (state g new.conn) (state g old.conn).may_leave)
+          → (kept : Kept) → HasCleanDisk (state g new.conn) → MayLeave (state g new.conn) kept
+          → (HasCleanDisk (state g old.conn) × MayLeave (state g old.conn) kept) ⊎ ((0 < length rs) × IsGrownFrom ((journal_keeper g).told old) client serial moment rs kept)
+      left [] it same kept clean m = inl (omega (arith, put.falls, clean), record { db = m.db; left = same refl clean m.db m.left; opens = m.opens })
+      left (q ∷ qs) it same kept clean m = elim (it clean kept m) [
         | inl before ↦ inl (omega (arith, put.falls, clean), before)
         | inr grown ↦ inr (omega arith, grown)
       ]

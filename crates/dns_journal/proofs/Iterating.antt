@@ -11,6 +11,9 @@ use Rattle.dns_wire.specs.declared.record.Record.{Record}
 use Rattle.dns_keeper.specs.declared.row.Row.{Row}
 use Rattle.dns_keeper.specs.Rows.{first_from, is_below_first, is_ascending}
 use Rattle.dns_keeper.specs.Keeping.{TellsAscending}
+use Rattle.dns_keeper.proofs.KeptBatches.{keeps_batches_same, keeps_batches_then}
+use Rattle.dns_sqlite.specs.Versions.{current_version}
+use Rattle.dns_journal.specs.Keepers.{journal_keeper}
 use Rattle.dns_io.specs.Told.{one_more}
 use Rattle.dns_journal.specs.declared.error.PersistenceError.{PersistenceError}
 use Rattle.dns_journal.specs.declared.error.PersistenceError.TheVariants.{Recovery, Sqlite, OutOfMemory}
@@ -51,7 +54,7 @@ after_first r (t ∷ rs) e =
     let next : le_z (r.id +ℤ pos 1) t.id ≡ true = grind (arith, ints) in
     rw next refl
 
-from_next : (id : ℤ) (rows : List Row) (row : Row) → is_ascending rows ≡ true → first_from id rows ≡ Some row → rows_from id rows ≡ row ∷ rows_from (row.id +ℤ pos 1) rows
+pub from_next : (id : ℤ) (rows : List Row) (row : Row) → is_ascending rows ≡ true → first_from id rows ≡ Some row → rows_from id rows ≡ row ∷ rows_from (row.id +ℤ pos 1) rows
 from_next id [] row up e = absurd (cc)
 from_next id (r ∷ rs) row up e =
     let next : is_below_first r.id rs ≡ true = grind arith in
@@ -69,7 +72,7 @@ from_next id (r ∷ rs) row up e =
           rw (below, past) (from_next id rs row tail rest)
     ]
 
-none_left : (id : ℤ) (rows : List Row) → first_from id rows ≡ None → rows_from id rows ≡ []
+pub none_left : (id : ℤ) (rows : List Row) → first_from id rows ≡ None → rows_from id rows ≡ []
 none_left id [] e = refl
 none_left id (r ∷ rs) e = elim (cases_Bool (le_z id r.id)) [
   | inl at ↦ absurd (let it : Some r ≡ None = rw at at e in cc)
@@ -105,14 +108,14 @@ read_end (Some was) (Some rows) from records kept none read = go (first_from fro
         let all : AreRecords was (records ++ []) = read [] (subst (λ rs. AreRecords rs []) (sym empty) tt) in
         subst (λ rs. AreRecords rs records) (sym kept) (subst (AreRecords was) (append-nil records) all)
 
-all_from : (stored : List Stored) (rows : List Row) → rows_of stored ≡ Some rows → rows_from (neg_ℤ (pos (2 ^ 63))) rows ≡ rows
+pub all_from : (stored : List Stored) (rows : List Row) → rows_of stored ≡ Some rows → rows_from (neg_ℤ (pos (2 ^ 63))) rows ≡ rows
 all_from [] rows e = let none : rows ≡ [] = cc in rw none refl
 all_from (s ∷ ss) rows e =
     let it = split s ss rows e in
     let within = and_parts (le_z (neg_ℤ (pos (2 ^ 63))) it.first.id) _ (row_shown s it.first it.reads).1 in
     rw (it.is, within.0) refl
 
-none_from : (stored : List Stored) (rows : List Row) → rows_of stored ≡ Some rows → rows_from (pos (2 ^ 63 - 1) +ℤ pos 1) rows ≡ []
+pub none_from : (stored : List Stored) (rows : List Row) → rows_of stored ≡ Some rows → rows_from (pos (2 ^ 63 - 1) +ℤ pos 1) rows ≡ []
 none_from [] rows e = let none : rows ≡ [] = cc in rw none refl
 none_from (s ∷ ss) rows e =
     let it = split s ss rows e in
@@ -231,6 +234,7 @@ pub record Read {S : Type 0} (g : Ghosts S) (first now : View S) (from : ℤ) (r
 pub was_read_none : {S : Type 0} (g : Ghosts S) (j : View S) → WasRead g j j
 was_read_none g j = record {
   kept = keeps_same (told_rows g j);
+  batches = keeps_batches_same ((journal_keeper g).told j);
   untouched = λ clean live. (live, refl);
   left = λ clean db may. may;
   falls = omega arith;
@@ -243,6 +247,7 @@ was_read_none g j = record {
 pub was_read_then : {S : Type 0} (g : Ghosts S) (first mid now : View S) → WasRead g first mid → WasRead g mid now → WasRead g first now
 was_read_then g first mid now was is = record {
   kept = keeps_then (told_rows g first) (told_rows g mid) (told_rows g now) was.kept is.kept;
+  batches = keeps_batches_then ((journal_keeper g).told first) ((journal_keeper g).told mid) ((journal_keeper g).told now) was.batches is.batches;
   untouched = keeps_database_then (state g first.conn) (state g mid.conn) (state g now.conn) is.falls was.untouched is.untouched;
   left = λ clean db may. let early : HasCleanDisk (state g mid.conn) = omega (arith, is.falls, clean) in was.left early db (is.left clean db may);
   falls = let a = was.falls in omega (arith, a, is.falls);
@@ -272,7 +277,7 @@ goes_on g first mid now from id records r was one = record {
 -- ---- how a loop ends
 
 -- a version that is the current one, and calls that go to the connection
-pub not_unready : {S : Type 0} {X : Type 0} (j : View S) → j.version ≡ pos 1 → j.is_ready ≡ true → IsUnready j → X
+pub not_unready : {S : Type 0} {X : Type 0} (j : View S) → j.version ≡ current_version → j.is_ready ≡ true → IsUnready j → X
 not_unready j current ready (inl other) = absurd (other current)
 not_unready j current ready (inr none) = absurd (let it : true ≡ false = sym ready ∙ none in cc)
 
@@ -283,13 +288,13 @@ all_unready g old new unready counted later = subst (λ j. SelectsAll g old j (E
   recovery = λ is. absurd (cc);
   shown = tt;
   spoiled = λ is. absurd (cc);
-  read = record { kept = keeps_same (told_rows g old); untouched = λ clean live. (live, refl); left = λ clean db may. may; falls = omega arith; mode = λ alone. alone; version = refl; ready = refl };
+  read = record { kept = keeps_same (told_rows g old); batches = keeps_batches_same ((journal_keeper g).told old); untouched = λ clean live. (live, refl); left = λ clean db may. may; falls = omega arith; mode = λ alone. alone; version = refl; ready = refl };
   named = tt;
   other = λ _. record { named = refl; counted = refl };
   cause = record { later = subst (λ j. old.faults ≤ j.faults) counted later; counts = omega arith };
 })
 
-module _ {S : Type 0} (g : Ghosts S) (first mid now : View S) (from : ℤ) (records : List Record) (was : Read g first mid from records) (current : first.version ≡ pos 1) (ready : first.is_ready ≡ true) where
+module _ {S : Type 0} (g : Ghosts S) (first mid now : View S) (from : ℤ) (records : List Record) (was : Read g first mid from records) (current : first.version ≡ current_version) (ready : first.is_ready ≡ true) where
   -- all were read
   all_read : (was_read : WasRead g first now) → now.faults ≡ first.faults → AreRecordsOf (told_rows g now) records → ShowsRecords (state g first.conn) (state g now.conn) records → SelectsAll g first now (Ok records)
   all_read was_read calm told shown = record {

@@ -1,11 +1,16 @@
 pub mod Opening
 pub mod Order
+pub mod BatchOrder
 pub mod Telling
 pub mod Pages
 pub mod Reading
+pub mod BatchReading
 pub mod RecordsRead
 pub mod Iterating
 pub mod SentJournal
 pub mod Selecting
 pub mod Asking
+pub mod BatchAsking
 pub mod Inserting
+pub mod Runs
+pub mod Raising

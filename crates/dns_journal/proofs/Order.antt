@@ -32,6 +32,21 @@ row_id (Int id ∷ Null ∷ Int client ∷ Int serial ∷ Text stamp ∷ Blob by
     id_or (Some r) = Int r.id
 row_id _ r e = absurd (cc)
 
+-- and it has 64 bits
+pub row_signed : (s : Stored) (r : Row) → row_of s ≡ Some r → is_signed r.id ≡ true
+row_signed (Int id ∷ Null ∷ Int client ∷ Int serial ∷ Text stamp ∷ Blob bytes ∷ []) r e = elim (cases_Bool (is_signed id)) [
+  | inl within ↦
+      let it : Some (record { id = id; client = client; serial = serial; stamp = stamp; bytes = bytes }) ≡ Some r = rw within at e in
+      let same : id ≡ r.id = ap (λ (o : Option Row). id_or id o) it in
+      rw (← same) within
+  | inr outside ↦ absurd (let it : None ≡ Some r = rw outside at e in cc)
+]
+  where
+    id_or : ℤ → Option Row → ℤ
+    id_or id None = id
+    id_or id (Some r) = r.id
+row_signed _ r e = absurd (cc)
+
 -- ---- a table and its rows
 
 module _ (s : Stored) (ss : List Stored) where

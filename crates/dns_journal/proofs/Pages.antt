@@ -24,7 +24,7 @@ passed count next table (f ∷ h ∷ shown) rest r s above has read =
     (it.0, h ∷ shown, it.1, read.1)
 
 -- The first row of a page is the row that is asked for.
-first_stored : (count : ℕ) (id : ℤ) (table shown : List Shown) (rest : List Row) (row : Row) → HasRows count id table shown → AreRead shown (row ∷ rest) → IsStoredFrom id table (Some row)
+pub first_stored : (count : ℕ) (id : ℤ) (table shown : List Shown) (rest : List Row) (row : Row) → HasRows count id table shown → AreRead shown (row ∷ rest) → IsStoredFrom id table (Some row)
 first_stored count id table [] rest row has read = absurd read
 first_stored count id table (f ∷ shown) rest row has read = (f ∷ [], first_has count id table shown f has, (f, [], refl, read.0))
 
@@ -34,12 +34,12 @@ none_stored count id table [] has read = ([], none_has count id table has, refl)
 none_stored count id table (f ∷ shown) has read = absurd read
 
 -- The first of the rows that were read is the row that is asked for; where none was read there is none.
-page_stored : (id : ℤ) (table : List Shown) (rows : List Row) (found : Option Row) → HasPage id table rows → IsFirstOf rows found → IsStoredFrom id table found
+pub page_stored : (id : ℤ) (table : List Shown) (rows : List Row) (found : Option Row) → HasPage id table rows → IsFirstOf rows found → IsStoredFrom id table found
 page_stored id table rows None page is = let it = subst (HasPage id table) is page in none_stored it.0 id table it.1 it.2 it.3
 page_stored id table rows (Some row) page is = let it = subst (HasPage id table) is.1 page in first_stored (suc it.0) id table it.1 is.0 row it.2 it.3
 
 -- The rows that were read make a page.
-opened_page : (id : ℤ) (table : List Shown) (rows : List Row) → HasPage id table rows → HoldsPage id table rows
+pub opened_page : (id : ℤ) (table : List Shown) (rows : List Row) → HasPage id table rows → HoldsPage id table rows
 opened_page id table [] page = tt
 opened_page id table (r ∷ rows) page = (suc page.0, page.1, page.2, page.3)
 
@@ -80,3 +80,26 @@ goes_on page id s (Some row) next holds is = λ clean.
 
 pub shows_row : (id : ℤ) (old new : State) (found : Option Row) → (HasCleanDisk new → new.now ≡ old.now) → IsStoredIn id new found → ShowsRow id old new found
 shows_row id old new found same stored = λ clean. (same clean, subst (λ (d : Database). IsStoredFrom id (d.trees 1) found) (same clean) (stored clean))
+
+-- ---- of any table
+
+-- the first row of a page that goes on from an id, of whatever table the page holds rows
+pub goes_on_in : (page : Page) (id : ℤ) (table : List Shown) (row : Row) → page.next ≡ id → Holds page table → IsFirstOf (rows_left page) (Some row) → IsStoredFrom id table (Some row)
+goes_on_in page id table row next holds is =
+    let it : HoldsPage id table (row ∷ is.0) = subst (HoldsPage id table) is.1 (subst (λ n. HoldsPage n table (rows_left page)) next holds) in
+    first_stored it.0 id table it.1 is.0 row it.2 it.3
+
+-- what was read is the page
+pub opens_in : (page : Page) (id : ℤ) (table : List Shown) (rows : List Row) → rows_left page ≡ rows → page.next ≡ id → HasPage id table rows → Holds page table
+opens_in page id table rows left next has =
+    let it : HoldsPage id table rows = opened_page id table rows has in
+    subst (λ n. HoldsPage n table (rows_left page)) (sym next) (subst (HoldsPage id table) (sym left) it)
+
+pub first_in : (page : Page) (id : ℤ) (table : List Shown) (rows : List Row) (found : Option Row) → rows_left page ≡ rows → HasPage id table rows → IsFirstOf (rows_left page) found → IsStoredFrom id table found
+first_in page id table rows found left has is = page_stored id table rows found has (subst (λ xs. IsFirstOf xs found) left is)
+
+-- the row that is taken of a page, and what the page holds then
+pub takes_in : (page after : Page) (id : ℤ) (found : Option Row) → page.next ≡ id → IsFirstOf (rows_left page) found → ((table : List Shown) → Holds page table → Holds after table)
+    → IfSome found (λ row. (table : List Shown) → Holds page table → IsStoredFrom id table (Some row) × Holds after table)
+takes_in page after id None next is held = tt
+takes_in page after id (Some row) next is held = λ table holds. (goes_on_in page id table row next holds is, held table holds)

@@ -11,15 +11,17 @@ use Rattle.sqlite_trees.proofs.Doubt.{no_doubt}
 use Rattle.dns_sqlite.specs.Tables.{seen, not_below, HasRow}
 use Rattle.dns_sqlite.proofs.Finds.{first_is, not_below_is}
 use Rattle.dns_keeper.specs.declared.row.Row.{Row}
+use Rattle.dns_keeper.specs.declared.batch_row.BatchRow.{BatchRow}
 use Rattle.dns_keeper.specs.Rows.{first_of, first_from, is_ascending}
 use Rattle.dns_keeper.specs.Keeping.{TellsAscending, IsRowFrom, IsFirstRow}
 use Rattle.dns_sqlite.specs.Reads.{ReadsAs}
 use Rattle.dns_journal.specs.Reads.{FirstReadsAs}
 use Rattle.dns_journal.specs.Stored.{IsStoredFrom}
 use Rattle.dns_journal.specs.Pages.{IsStoredIn}
-use Rattle.dns_journal.specs.Told.{View, is_signed, row_of, rows_of, if_ascending, told, rows_in, told_rows}
+use Rattle.dns_journal.specs.Told.{View, is_signed, row_of, rows_of, if_ascending, told, batches_told, where_batches, rows_told, rows_in, told_rows}
 use Rattle.dns_sqlite.proofs.Pages.{ge_is}
 use Rattle.dns_journal.proofs.Order.{row_id, split, told_is}
+use Rattle.dns_journal.proofs.Telling.{both_told}
 
 -- a row as the query shows it
 abbrev pub shown_row : Row → Stored
@@ -83,17 +85,21 @@ read_is (Some l) found (Some m) f h =
     let row : h.0 ≡ shown_row l = cc in
     ap (λ x. Some x) (same_row l m (subst (λ r. ReadsAs r m) row h.3))
 
+-- the row of a table that is asked for is the first of those that are told
+pub stored_told : (id : ℤ) (table : List Stored) (rows : List Row) (r : Option Row) → told table ≡ Some rows → IsStoredFrom id table r → r ≡ first_from id rows
+stored_told id table rows r e it = read_is (first_from id rows) it.0 r (found_told id table it.0 rows e it.1) it.2
+
 row_from_is : (id : ℤ) (s : State) (r : Option Row) → IsStoredIn id s r → IsRowFrom (rows_in s) id r
 row_from_is id s r stored = elim (cases_Bool (s.is_clean && s.is_open)) [
   | inl shows ↦
       let both = and_parts s.is_clean s.is_open shows in
-      rw shows (go (stored (no_doubt s.is_clean both.0)) (told (s.now.trees 1)) refl)
+      rw shows (go (stored (no_doubt s.is_clean both.0)) (rows_told s.now) refl)
   | inr hidden ↦ rw hidden tt
 ]
   where
-    go : IsStoredFrom id (s.now.trees 1) r → (o : Option (List Row)) → told (s.now.trees 1) ≡ o → IsRowFrom o id r
+    go : IsStoredFrom id (s.now.trees 1) r → (o : Option (List Row)) → rows_told s.now ≡ o → IsRowFrom o id r
     go it None e = tt
-    go it (Some rows) e = read_is (first_from id rows) it.0 r (found_told id (s.now.trees 1) it.0 rows e it.1) it.2
+    go it (Some rows) e = stored_told id (s.now.trees 1) rows r (both_told s.now rows e).rows_are it
 
 -- what is stored is what a journal tells
 pub row_told : {S : Type 0} (g : Ghosts S) (j : View S) (id : ℤ) (r : Option Row) → IsStoredIn id (state g j.conn) r → IsRowFrom (told_rows g j) id r
@@ -108,12 +114,16 @@ ascends : (o : Option (List Row)) → TellsAscending (if_ascending o)
 ascends None = tt
 ascends (Some rows) = elim (cases_Bool (is_ascending rows)) [ inl up ↦ rw up up | inr down ↦ rw down tt ]
 
+ascends_where : (b : Option (List BatchRow)) (o : Option (List Row)) → TellsAscending (where_batches b (if_ascending o))
+ascends_where None o = tt
+ascends_where (Some batches) o = ascends o
+
 pub told_ascends : {S : Type 0} (g : Ghosts S) (j : View S) → TellsAscending (told_rows g j)
 told_ascends g j = elim (cases_Bool j.is_ready) [
   | inl current ↦
       let s = state g j.conn in
       elim (cases_Bool (s.is_clean && s.is_open)) [
-        | inl shows ↦ rw (current, shows) (ascends (rows_of (s.now.trees 1)))
+        | inl shows ↦ rw (current, shows) (ascends_where (batches_told (s.now.trees 2)) (rows_of (s.now.trees 1)))
         | inr hidden ↦ rw (current, hidden) tt
       ]
   | inr other ↦ rw other tt
@@ -137,7 +147,7 @@ first_row_is s r is = first_told (rows_in s) r shown_rows is
   where
     shown_rows : (rows : List Row) → rows_in s ≡ Some rows → first_from (neg_ℤ (pos (2 ^ 63))) rows ≡ first_of rows
     shown_rows rows e = elim (cases_Bool (s.is_clean && s.is_open)) [
-      | inl shows ↦ first_signed (s.now.trees 1) rows (told_is (s.now.trees 1) rows (rw shows at e)).reads
+      | inl shows ↦ first_signed (s.now.trees 1) rows (told_is (s.now.trees 1) rows (both_told s.now rows (rw shows at e)).rows_are).reads
       | inr hidden ↦ absurd (let it : None ≡ Some rows = rw hidden at e in cc)
     ]
 

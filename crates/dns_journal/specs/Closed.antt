@@ -1,5 +1,5 @@
 -- What stands for a journal that was not opened.
-use Rattle.std.specs.Prelude.{None}
+use Rattle.std.specs.Prelude.{None, []}
 use Rattle.dns_keeper.specs.declared.keeper.KeepFault.{KeepFault}
 use Rattle.dns_keeper.specs.declared.keeper.KeepFault.TheVariants as keep
 use Rattle.dns_keeper.specs.Keeping.{KeeperOf}
@@ -14,4 +14,4 @@ refusal_after _ = keep.Failed
 
 -- what is known of it: it tells no rows, and not what a crash may leave
 abbrev pub closed_keeper : KeeperOf ClosedJournal
-closed_keeper = record { told = λ k. record { rows = None; faults = k.faults }; may_leave = λ _ rows. ⊥ }
+closed_keeper = record { told = λ k. record { rows = None; batches = []; faults = k.faults }; may_leave = λ _ kept. ⊥ }

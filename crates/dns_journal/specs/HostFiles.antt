@@ -1,6 +1,5 @@
--- What a journal in a file of the host tells of its rows.
+-- What a journal in a file of the host tells of its rows and batches.
 use denote.RattleType.{RattleType}
-use Rattle.std.specs.Prelude.{List}
 use Rattle.sqlite_disk.specs.contracts.modelled.Modelled as Modelled
 use Rattle.sqlite_disk.specs.contracts.modelled.ModelledDisk.TheImpl as ModelledDisk
 use Rattle.sqlite_disk.specs.contracts.start.Unknown as Unknown
@@ -11,8 +10,7 @@ use Rattle.sqlite.below.sqlite_std_file.specs.contracts.host.HostCalls.TheImpl a
 use Rattle.sqlite.below.sqlite_store.specs.contracts.store.FileStoreStore.TheImpl as FileStoreStore
 use Rattle.sqlite.specs.contracts.FileStore as FileStore
 use Rattle.sqlite.specs.Store as Store
-use Rattle.dns_keeper.specs.declared.row.Row.{Row}
-use Rattle.dns_keeper.specs.Keeping.{KeeperTold, KeeperOf}
+use Rattle.dns_keeper.specs.Keeping.{KeeperTold, Kept, KeeperOf}
 use Rattle.dns_journal.specs.declared.file_journal.FileJournal.{FileJournal}
 use Rattle.dns_journal.specs.Told.{View}
 use Rattle.dns_journal.specs.Keepers.{journal_keeper}
@@ -31,12 +29,12 @@ stores = FileStore.the_row files disk
 abbrev store : Store.Ghosts stores.Denot
 store = FileStoreStore.ghosts files disk FileStoreStore.no_dict
 
--- what is known of a journal over it: it tells the rows of its connection, and which rows a crash may leave of them, while the files give
+-- what is known of a journal over it: it tells the rows and batches of its connection, and which of both a crash may leave, while the files give
 -- what was written to them
 unfoldable pub host_told : View stores.Denot → KeeperTold
 host_told = (journal_keeper store).told
 
-unfoldable pub host_may_leave : View stores.Denot → List Row → Type 0
+unfoldable pub host_may_leave : View stores.Denot → Kept → Type 0
 host_may_leave = (journal_keeper store).may_leave
 
 -- of the journal in a file

@@ -6,28 +6,32 @@ use Rattle.sqlite.specs.Held.{state}
 use Rattle.dns_io.specs.Told.{Keeps}
 use Rattle.dns_wire.specs.declared.record.Record.{Record}
 use Rattle.dns_wire.specs.WireFormat.{AreShort}
-use Rattle.dns_keeper.specs.Keeping.{GrowsByBatch}
+use Rattle.dns_keeper.specs.Keeping.{GrowsByBatch, GrowsByRun, KeepsBatches}
 use Rattle.dns_keeper.specs.Crash.{IsGrownFrom}
 use Rattle.dns_journal.specs.declared.error.PersistenceError.{PersistenceError}
 use Rattle.dns_journal.specs.declared.error.PersistenceError.TheVariants.{Sqlite}
 use Rattle.dns_journal.specs.Told.{View, told_rows, IsUnready, Refuses}
-use Rattle.dns_journal.specs.Crash.{MayLeave, Leaves, LeavesTrees, LeavesItsRows}
+use Rattle.dns_journal.specs.Keepers.{journal_keeper}
+use Rattle.dns_journal.specs.Crash.{MayLeave, Leaves, LeavesTrees, LeavesItsOwn}
 use Rattle.dns_journal.specs.Counting.{HasCause}
 use Rattle.dns_journal.specs.Records.{RefusesBatch}
 use Rattle.dns_journal.specs.Stored.{KeepsDatabase, PutsBatch, LeavesBatch, LeavesShown}
 
--- a row for each of these records comes to a journal, in order, of one client, one serial and one moment: all of them, or none
+-- a row for each of these records comes to a journal, in order, of one client, one serial and one moment, and where there are any one
+-- batch: all of them, or none
 pub record Puts {S E : Type 0} (g : Ghosts S) (old new : View S) (client serial moment : ℕ) (records : List Record) (result : Result (Unit {0}) E) : Type 0 where
-  -- to the rows that the journal tells
+  -- to the rows and the batches that the journal tells
   pub ok : OnOk result (GrowsByBatch (told_rows g old) (told_rows g new) client serial moment records)
+  pub run : OnOk result (GrowsByRun ((journal_keeper g).told old) ((journal_keeper g).told new) records)
   pub err : OnErr result (Keeps (told_rows g old) (told_rows g new))
+  pub batches : OnErr result (KeepsBatches ((journal_keeper g).told old) ((journal_keeper g).told new))
   -- to its database, whether or not each of its rows reads
   pub grown : 0 < length records → OnOk result (PutsBatch client serial moment records (state g old.conn) (state g new.conn))
   pub untouched : OnErr result (KeepsDatabase (state g old.conn) (state g new.conn))
   pub committed : 0 < length records → OnOk result (LeavesShown (state g new.conn))
-  -- a crash leaves the rows with the whole batch; after a refusal these, or what it might leave before
-  pub alone : 0 < length records → OnOk result (LeavesItsRows g new)
-  pub left : Leaves (state g new.conn) (λ rows. MayLeave (state g old.conn) rows ⊎ IsGrownFrom (told_rows g old) client serial moment records rows)
+  -- a crash leaves them with the whole batch; after a refusal these, or what it might leave before
+  pub alone : 0 < length records → OnOk result (LeavesItsOwn g new)
+  pub left : Leaves (state g new.conn) (λ kept. MayLeave (state g old.conn) kept ⊎ IsGrownFrom ((journal_keeper g).told old) client serial moment records kept)
   pub crash : LeavesBatch client serial moment records (state g old.conn) (state g new.conn)
   -- no records are no call of the connection
   pub empty : records ≡ [] → old.is_ready ≡ true → new ≡ old

@@ -1,6 +1,7 @@
 pub mod Told
-pub mod Crash
+pub mod Left
 pub mod Keepers
+pub mod Crash
 pub mod Counting
 pub mod Reads
 pub mod Records
@@ -11,3 +12,4 @@ pub mod Inserts
 pub mod Selects
 pub mod HostFiles
 pub mod Closed
+pub mod Migrating

@@ -10,14 +10,17 @@ use Rattle.dns_journal.specs.declared.error.PersistenceError.{PersistenceError}
 use Rattle.dns_journal.specs.declared.error.PersistenceError.TheVariants.{Recovery, Sqlite}
 use Rattle.dns_journal.specs.declared.error.RecoveryKind.TheVariants.{NoRecord}
 use Rattle.dns_journal.specs.Told.{View, told_rows, IsUnready, Refuses}
+use Rattle.dns_keeper.specs.Keeping.{KeepsBatches}
+use Rattle.dns_journal.specs.Keepers.{journal_keeper}
 use Rattle.dns_journal.specs.Crash.{LeavesTrees}
 use Rattle.dns_journal.specs.Counting.{HasCause}
 use Rattle.dns_journal.specs.Records.{IsRecordFrom, IsNoRecordFrom, IsRecordFault, AreRecordsOf, TellsNoRecord}
 use Rattle.dns_journal.specs.Stored.{KeepsDatabase, ShowsRecord, ShowsNoRecord, ShowsRecords, HasStoredNoRecord}
 
--- a journal was only read: its rows and its database are as they were, and a crash leaves what it left before
+-- a journal was only read: its rows, its batches and its database are as they were, and a crash leaves what it left before
 pub record WasRead {S : Type 0} (g : Ghosts S) (old new : View S) : Type 0 where
   pub kept : Keeps (told_rows g old) (told_rows g new)
+  pub batches : KeepsBatches ((journal_keeper g).told old) ((journal_keeper g).told new)
   pub untouched : KeepsDatabase (state g old.conn) (state g new.conn)
   pub left : LeavesTrees (state g new.conn) (state g old.conn).may_leave
   pub falls : doubt (state g old.conn).is_clean ≤ doubt (state g new.conn).is_clean

@@ -17,11 +17,11 @@ use Rattle.dns_journal.specs.Records.{IsOneRecord, IsRecordOf, IsNoRecord}
 abbrev pub HasStamp : ℕ → List Record → (List ℕ → Type 0) → Type 0
 HasStamp moment records P = (stamp : List ℕ) × IsStampFor moment records stamp × P stamp
 
--- where the disk is clean, a row for each record came to the table of rows, and they are committed
+-- where the disk is clean, a row for each record came to the table of rows, and their batch to that of batches, and they are committed
 abbrev pub PutsBatch : ℕ → ℕ → ℕ → List Record → State → State → Type 0
 PutsBatch client serial moment records old new = HasCleanDisk new → HasStamp moment records (λ stamp. Grows client serial stamp (map record_bytes records) old new)
 
--- a crash may leave what it might leave before, or a row for each record beside the rows that there were
+-- a crash may leave what it might leave before, or a row for each record beside the rows that there were, and their batch
 abbrev pub LeavesBatch : ℕ → ℕ → ℕ → List Record → State → State → Type 0
 LeavesBatch client serial moment records old new = LeavesTrees new (λ db. old.may_leave db ⊎ HasStamp moment records (λ stamp. MayGrow client serial stamp (map record_bytes records) old db))
 

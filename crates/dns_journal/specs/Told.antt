@@ -1,4 +1,4 @@
--- What a journal tells of its rows.
+-- What a journal tells of its rows and batches.
 use Rattle.std.specs.Prelude.{◌≡◌, ◌≢◌, ◌⊎◌, ◌-◌, ◌^◌, ◌&&◌, ℕ, ℤ, pos, neg_ℤ, Bool, true, false, if◌then◌else◌, IsTrue, List, [], ◌∷◌, Option, Some, None, Result, Err, refl}
 use Rattle.std.specs.Int.Signed.{le_z}
 use Rattle.std.specs.Coded.{Coded, code_by, coded×, coded_ℕ, coded_ℤ, coded_bool}
@@ -8,10 +8,14 @@ use Rattle.sqlite.specs.Store.{Ghosts}
 use Rattle.sqlite.specs.State.{State, HasCleanDisk}
 use Rattle.sqlite.specs.Held.{Held, held_code, state}
 use Rattle.dns_io.specs.Told.{one_more}
-use Rattle.dns_sqlite.specs.Statements.{HasTables}
-use Rattle.dns_sqlite.specs.Versions.{FitsTables}
+use Rattle.dns_sqlite.specs.Tables.{row_schema}
+use Rattle.dns_sqlite.specs.Statements.{HasSchema, HasTables}
+use Rattle.sqlite.specs.Effect.{Database}
+use Rattle.dns_sqlite.specs.Versions.{current_version, FitsTables}
 use Rattle.dns_keeper.specs.declared.row.Row.{Row}
+use Rattle.dns_keeper.specs.declared.batch_row.BatchRow.{BatchRow}
 use Rattle.dns_keeper.specs.Rows.{is_ascending}
+use Rattle.dns_keeper.specs.Batches.{is_by_first}
 
 -- what contracts see of a journal: its connection, the version of its schema, whether its calls go to the connection, and its count of
 -- faults
@@ -36,10 +40,10 @@ row_of (Int id ∷ Null ∷ Int client ∷ Int serial ∷ Text stamp ∷ Blob by
     if is_signed id then Some (record { id = id; client = client; serial = serial; stamp = stamp; bytes = bytes }) else None
 row_of _ = None
 
-abbrev pub joined : Option Row → Option (List Row) → Option (List Row)
-joined None rows = None
-joined (Some row) None = None
-joined (Some row) (Some rows) = Some (row ∷ rows)
+abbrev pub joined : {X : Type 0} → Option X → Option (List X) → Option (List X)
+joined None rest = None
+joined (Some first) None = None
+joined (Some first) (Some rest) = Some (first ∷ rest)
 
 -- the rows of a table, where each of them reads
 abbrev pub rows_of : List Stored → Option (List Row)
@@ -54,18 +58,54 @@ if_ascending (Some rows) = if is_ascending rows then Some rows else None
 abbrev pub told : List Stored → Option (List Row)
 told stored = if_ascending (rows_of stored)
 
+-- a stored batch as a batch, where its columns read as numbers
+abbrev pub batch_of : Stored → Option BatchRow
+batch_of (Int first ∷ Null ∷ Int count ∷ []) = if is_signed first then Some (record { first = first; count = count }) else None
+batch_of _ = None
+
+-- the batches of a table, where each of them reads
+abbrev pub batches_of : List Stored → Option (List BatchRow)
+batches_of [] = Some []
+batches_of (s ∷ stored) = joined (batch_of s) (batches_of stored)
+
+abbrev pub if_by_first : Option (List BatchRow) → Option (List BatchRow)
+if_by_first None = None
+if_by_first (Some batches) = if is_by_first batches then Some batches else None
+
+-- the batches of a table, where each of them reads and their firsts ascend
+abbrev pub batches_told : List Stored → Option (List BatchRow)
+batches_told stored = if_by_first (batches_of stored)
+
+-- rows, where there are batches too
+abbrev pub where_batches : Option (List BatchRow) → Option (List Row) → Option (List Row)
+where_batches None rows = None
+where_batches (Some batches) rows = rows
+
+-- the rows of a database, where its rows and its batches read, and each stand in their order
+abbrev pub rows_told : Database → Option (List Row)
+rows_told d = where_batches (batches_told (d.trees 2)) (told (d.trees 1))
+
+-- batches, where there are any
+abbrev pub or_none : Option (List BatchRow) → List BatchRow
+or_none None = []
+or_none (Some batches) = batches
+
 -- the rows of a connection, while its disk is clean and it is open
 abbrev pub rows_in : State → Option (List Row)
-rows_in s = if (s.is_clean && s.is_open) then told (s.now.trees 1) else None
+rows_in s = if (s.is_clean && s.is_open) then rows_told s.now else None
 
 -- the rows that a journal tells: those of its connection, where its calls go there
 abbrev pub told_rows : {S : Type 0} → Ghosts S → View S → Option (List Row)
 told_rows g j = if j.is_ready then rows_in (state g j.conn) else None
 
+-- its batches, where it tells its rows
+abbrev pub told_batches : {S : Type 0} → Ghosts S → View S → List BatchRow
+told_batches g j = or_none (batches_told ((state g j.conn).now.trees 2))
+
 -- a connection of this version takes the calls of a journal: it has the tables of one and no others, at the current version, and is in no
 -- transaction
 pub record TakesCalls (version : ℤ) (s : State) : Type 0 where
-  pub current : version ≡ pos 1
+  pub current : version ≡ current_version
   pub alone : s.in_transaction ≡ false
   pub tables : HasTables s.now
 
@@ -74,7 +114,7 @@ pub record TakesCalls (version : ℤ) (s : State) : Type 0 where
 -- where its calls go there, it takes them
 abbrev pub IsReady : Bool → ℤ → State → Type 0
 IsReady false version s = Unit {0}
-IsReady true version s = (version ≡ pos 1) × (s.in_transaction ≡ false) × (HasCleanDisk s → IsTrue s.is_open → HasTables s.now)
+IsReady true version s = (version ≡ current_version) × (s.in_transaction ≡ false) × (HasCleanDisk s → IsTrue s.is_open → HasTables s.now)
 
 -- the version is that of its tables, where they are those of a journal
 abbrev pub FitsConnection : ℤ → State → Type 0
@@ -84,7 +124,7 @@ FitsConnection version s = HasCleanDisk s → IsTrue s.is_open → FitsTables ve
 
 -- the version is not the current one, or the tables are not those of a journal, or the connection is in a transaction
 abbrev pub IsUnready : {S : Type 0} → View S → Type 0
-IsUnready j = (j.version ≢ pos 1) ⊎ (j.is_ready ≡ false)
+IsUnready j = (j.version ≢ current_version) ⊎ (j.is_ready ≡ false)
 
 -- all but its count of faults stays as it is
 pub record Stays {S : Type 0} (old new : View S) : Type 0 where
@@ -97,7 +137,8 @@ pub record Refuses {S T E : Type 0} (old new : View S) (refusal : E) (result : R
   pub named : result ≡ Err refusal
   pub counted : new ≡ record old { faults = one_more old.faults }
 
--- no rows but these are told
-abbrev pub TellsOnly : List Row → Option (List Row) → Type 0
-TellsOnly rows None = Unit {0}
-TellsOnly rows (Some told) = told ≡ rows
+-- the rows that there are below the current version: those of the table of rows, where there is one and each of its rows reads, by
+-- ascending id; and else none
+pub record AreRowsBelow (s : State) (rows : List Row) : Type 0 where
+  pub there : HasSchema row_schema s.now → told (s.now.trees 1) ≡ Some rows
+  pub none : ¬ HasSchema row_schema s.now → rows ≡ []

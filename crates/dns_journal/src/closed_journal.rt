@@ -2,11 +2,11 @@
 
 ghost use Rattle.std.specs.Prelude.{◌≡◌, IsErrOf};
 ghost use Rattle.dns_keeper.specs.Keeping.{HasCause};
-ghost use Rattle.dns_keeper.specs.Calls.{Appends, ReadsRow};
+ghost use Rattle.dns_keeper.specs.Calls.{Appends, ReadsRow, ReadsBatch};
 ghost use Rattle.dns_journal.specs.Closed.{refusal_after, closed_keeper};
 
 use crate::error::PersistenceError;
-use dns_keeper::{KeepFault, Keeper, Row};
+use dns_keeper::{BatchRow, KeepFault, Keeper, Row};
 use dns_wire::Records;
 
 /// A keeper without a journal. It tells no rows, and each of its calls is refused: with a counted fault or, where the opening
@@ -66,6 +66,14 @@ impl Keeper for ClosedJournal {
         ensures refused { IsErrOf result self.old.refusal }
         ensures kept { self.new.refusal ≡ self.old.refusal }
         ensures read { ReadsRow closed_keeper self.old self.new id result }
+    {
+        self.refuse()
+    }
+
+    fn batch_from(&mut self, first: i64) -> Result<Option<BatchRow>, KeepFault>
+        ensures refused { IsErrOf result self.old.refusal }
+        ensures kept { self.new.refusal ≡ self.old.refusal }
+        ensures read { ReadsBatch closed_keeper self.old self.new first result }
     {
         self.refuse()
     }

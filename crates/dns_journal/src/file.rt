@@ -1,6 +1,7 @@
 //! A journal in a file.
 
-ghost use Rattle.std.specs.Prelude.{◌≡◌, pos, true, IfOk, IfErr};
+ghost use Rattle.std.specs.Prelude.{◌≡◌, true, IfOk, IfErr};
+ghost use Rattle.dns_sqlite.specs.Versions.{current_version};
 ghost use Rattle.dns_journal.specs.Opening.{IsOpenFault};
 
 use crate::error::{PersistenceError, RecoveryKind};
@@ -24,9 +25,9 @@ fn opened(rt: &HostRuntime, path: &str) -> Result<Journal<HostStore>, Persistenc
 
 impl Journal<HostStore> {
     /// Opens the file at a path, or makes it, and goes to the current version. `Recovery` says that what the file holds
-    /// is no journal, or not that alone, `Sqlite` that SQLite refused. Of the rows nothing is known: no clause ties a file to its path.
+    /// is no journal, or not that alone, `Sqlite` that SQLite refused, or that a row of an earlier version did not read. Of the rows nothing is known: no clause ties a file to its path.
     pub fn from_file(rt: &HostRuntime, path: &str) -> Result<Journal<HostStore>, PersistenceError>
-        ensures version { IfOk result (λ j. j.version ≡ pos 1) }
+        ensures version { IfOk result (λ j. j.version ≡ current_version) }
         ensures ready { IfOk result (λ j. j.is_ready ≡ true) }
         ensures faults { IfOk result (λ j. j.faults ≡ 0) }
         ensures named { IfErr result IsOpenFault }

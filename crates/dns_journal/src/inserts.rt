@@ -7,7 +7,7 @@ ghost use Rattle.dns_sqlite.specs.Reads.{HasPage};
 ghost use Rattle.dns_io.specs.Told.{one_more};
 ghost use Rattle.dns_wire.specs.WireFormat.{record_bytes, AreShort};
 ghost use Rattle.dns_keeper.specs.declared.keeper.KeepFault.TheVariants.{Failed, OutOfMemory as NoRoom};
-ghost use Rattle.dns_keeper.specs.Calls.{Appends, ReadsRow};
+ghost use Rattle.dns_keeper.specs.Calls.{Appends, ReadsRow, ReadsBatch};
 ghost use Rattle.dns_journal.specs.Keepers.{journal_keeper};
 ghost use Rattle.dns_journal.specs.Told.{Stays, IsUnready, Refuses};
 ghost use Rattle.dns_journal.specs.Inserts.{Puts, Inserts};
@@ -20,8 +20,8 @@ use crate::error::PersistenceError;
 use crate::journal::Journal;
 use crate::page::Page;
 use dns_io::Octets;
-use dns_keeper::{KeepFault, Keeper, Row};
-use dns_sqlite::{insert_batch, select_rows_from};
+use dns_keeper::{BatchRow, KeepFault, Keeper, Row};
+use dns_sqlite::{insert_batch, select_batch_from, select_rows_from};
 use dns_wire::{ProtoError, Record, Records};
 use sqlite::{Alter, Error};
 use std::alloc::Global;
@@ -40,11 +40,11 @@ fn encoded(alloc: Global, records: &[Record]) -> Result<Vec<Octets>, ProtoError>
 }
 
 impl<S: Alter> Journal<S> {
-    /// Adds one row a record, in order, in one transaction: all or none. Their ids follow the greatest id there is, 0
-    /// where there is no row; all bear this client, this serial and the stamp of this moment, which is in milliseconds
-    /// since 1970. `Proto` says that a record cannot be written; `Sqlite` that the journal's calls do not go to the
-    /// connection, or that this refused. After a refusal the rows are as before; a crash leaves them so, or with the whole
-    /// batch.
+    /// Adds one row a record, in order, and where there are records one batch, in one transaction: all or none. The ids of the rows follow
+    /// the greatest id there is, 0 where there is no row; all bear this client, this serial and the stamp of this moment, which is in
+    /// milliseconds since 1970. The batch begins at the first new id and has as many rows as there are records. `Proto` says that a
+    /// record cannot be written; `Sqlite` that the journal's calls do not go to the connection, or that this refused. After a refusal
+    /// rows and batches are as before; a crash leaves them so, or with the whole batch.
     pub fn insert_records(
         &mut self,
         client: u32,
@@ -58,7 +58,7 @@ impl<S: Alter> Journal<S> {
         self.insert_slice(client, soa_serial, moment, records.as_slice())
     }
 
-    /// Adds one row, of client 0 and with the stamp of this moment, as a batch of one record.
+    /// Adds one row, of client 0 and with the stamp of this moment, and its batch, as `insert_records` of one record.
     pub fn insert_record(
         &mut self,
         soa_serial: u32,
@@ -71,7 +71,7 @@ impl<S: Alter> Journal<S> {
         self.insert_slice(0, soa_serial, moment, slice::from_ref(one))
     }
 
-    /// Adds one row a record, in one transaction.
+    /// Adds one row a record and their batch, in one transaction.
     fn insert_slice(
         &mut self,
         client: u32,
@@ -142,6 +142,26 @@ impl<S: Alter> Keeper for Journal<S> {
         match self.from_page(id) {
             Some(row) => Ok(Some(row)),
             None => self.read_page(id),
+        }
+    }
+
+    fn batch_from(&mut self, first: i64) -> Result<Option<BatchRow>, KeepFault>
+        ensures read { ReadsBatch (journal_keeper S.Store) self.old self.new first result }
+        ensures stays { WasRead S.Store self.old self.new }
+        ensures other { IsUnready self.old → Refuses self.old self.new Failed result }
+    {
+        if !self.ready {
+            self.count();
+            return Err(KeepFault::Failed);
+        }
+        match select_batch_from(&mut self.conn, first) {
+            Ok(found) => Ok(found),
+            Err(error) => {
+                // Of a connection that the error closed nothing is known.
+                let alloc = self.alloc;
+                self.page = Page::empty(alloc);
+                Err(self.keep_fault(error))
+            }
         }
     }
 

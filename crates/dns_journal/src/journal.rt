@@ -1,6 +1,6 @@
 //! A journal over one connection: its version, and the schema.
 
-ghost use Rattle.std.specs.Prelude.{◌≡◌, ◌≢◌, ◌≤◌, ◌⊎◌, ◌↔◌, pos, [], Ok, true, false, IsTrue};
+ghost use Rattle.std.specs.Prelude.{◌≡◌, ◌≢◌, ◌≤◌, ◌⊎◌, ◌↔◌, Ok, true, false, IsTrue};
 ghost use Rattle.std.specs.Prelude.{IfOk, IfErr, IfSome, OnOk, OnErr};
 ghost use Rattle.sqlite_trees.specs.View.{doubt};
 ghost use Rattle.sqlite.specs.Held.{state};
@@ -8,27 +8,25 @@ ghost use Rattle.sqlite.specs.State.{HasCleanDisk};
 ghost use Rattle.dns_io.specs.Told.{one_more};
 ghost use Rattle.dns_sqlite.specs.Shapes.{IsStart};
 ghost use Rattle.dns_sqlite.specs.Reads.{WasAsked, StaysAs, StaysOrIsUndone};
-ghost use Rattle.dns_sqlite.specs.Versions.{IsAtVersion, FitsTables, KeepsDatabase};
-ghost use Rattle.dns_journal.specs.Told.{told_rows, TellsOnly, TakesCalls, Stays};
-ghost use Rattle.dns_journal.specs.Crash.{LeftAs, LeavesTrees, LeavesNew, IsNewIn};
+ghost use Rattle.dns_sqlite.specs.Versions.{current_version, IsAtVersion, FitsTables, KeepsDatabase};
+ghost use Rattle.dns_journal.specs.Told.{TakesCalls, Stays};
+ghost use Rattle.dns_journal.specs.Crash.{LeftRaised, LeavesTrees, LeavesRaised, IsRaisedIn, TellsRaised};
 ghost use Rattle.dns_journal.specs.Counting.{CountsAs, HasCause};
 ghost use Rattle.dns_journal.specs.Opening.{HasNoVersion, HasNoVersionOf, refusal_of, version_refusal, is_memory};
 ghost use Rattle.dns_journal.specs.declared.error.PersistenceError.TheVariants.{Sqlite, OutOfMemory as NoMemory};
 
 use crate::error::{PersistenceError, RecoveryKind};
+use crate::migrating::raise;
 use crate::page::Page;
-use dns_sqlite::{VersionFault, has_tables, start_of};
+use dns_sqlite::{CURRENT_VERSION, Start, VersionFault, has_tables, start_of};
 use sqlite::{Alter, Connection, Error, ErrorCode};
 use std::alloc::Global;
 use std::marker::Model;
 
-/// The version of a schema with both tables.
-pub const CURRENT_VERSION: i64 = 1;
-
-/// A journal over one connection. Its rows stand in the table `records`, the version in the one row of `tdns_schema`.
-/// Its calls go to the connection at the current version, where it has these two tables and no others, and is in no transaction; else each
-/// of them counts a fault. It tells its rows then, while the disk returns what was written to it and each row reads, as long as no other
-/// program writes to it.
+/// A journal over one connection. Its rows stand in the table `records`, its batches in `batches`, the version in the one row of
+/// `tdns_schema`. Its calls go to the connection at the current version, where it has these three tables and no others, and is in no
+/// transaction; else each of them counts a fault. It tells its rows and batches then, while the disk returns what was written to it and
+/// each row and each batch reads, as long as no other program writes to it.
 #[derive(Drop)]
 pub struct Journal<S: Alter> {
     pub(crate) alloc: Global,
@@ -57,7 +55,7 @@ impl<S: Alter> Model for Journal<S> {
 
 /// Whether this is the current version.
 pub(crate) fn is_current(version: i64) -> bool
-    ensures { IsTrue result ↔ (version ≡ pos 1) }
+    ensures { IsTrue result ↔ (version ≡ current_version) }
 {
     version == CURRENT_VERSION
 }
@@ -104,7 +102,7 @@ fn version_refusal(fault: VersionFault) -> PersistenceError
 }
 
 /// The version of the schema that a connection shows: -1 where there is no table `tdns_schema`, whatever else there is, and else the
-/// number in its one row, 0 or 1. `Recovery` says that it has not one row or another number; `Sqlite` that the connection refused to
+/// number in its one row, from 0 to the current version. `Recovery` says that it has not one row or another number; `Sqlite` that the connection refused to
 /// answer.
 pub fn select_schema_version<S: Alter>(conn: &mut Connection<S>) -> Result<i64, PersistenceError>
     ensures version { HasCleanDisk (state S.Store conn.new) → IfOk result (λ n. IsAtVersion n (state S.Store conn.old).now) }
@@ -163,7 +161,7 @@ impl<S: Alter> Journal<S> {
         conn
     }
 
-    /// The version of the schema: -1, 0 or 1. Takes no memory.
+    /// The version of the schema, from -1 to the current one. Takes no memory.
     pub fn schema_version(&self) -> i64
         ensures { result ≡ self.now.version }
     {
@@ -195,8 +193,8 @@ impl<S: Alter> Journal<S> {
     }
 
     /// From what the tables can be made; none where the connection has other tables, or is in a transaction.
-    fn start(&self) -> Option<bool>
-        ensures start { IfSome result (λ is_empty. IsStart is_empty self.now.version (state S.Store self.now.conn).now.schema) }
+    fn start(&self) -> Option<Start>
+        ensures start { IfSome result (λ start. IsStart start self.now.version (state S.Store self.now.conn).now.schema) }
         ensures alone { IfSome result (λ _. (state S.Store self.now.conn).in_transaction ≡ false) }
     {
         if !self.conn.is_autocommit() {
@@ -211,19 +209,20 @@ impl<S: Alter> Journal<S> {
     }
 
     /// Makes the tables that are missing and raises the version to the current one, all in one transaction; a journal
-    /// at that version is left alone. `Sqlite` says that there are other tables, or that the connection is in a transaction or refused. A
-    /// refusal changes neither the version nor a table. A crash leaves what it might leave before the call, or the current version with no
-    /// row.
+    /// at that version is left alone. The rows that there are stay; where they have no batches yet, these are their runs. `Sqlite` says that
+    /// there are other tables, that the connection is in a transaction or refused, or that a row did not read. A refusal changes neither
+    /// the version nor a table. A crash leaves what it might leave before the call, or the current version with the rows as they were.
     pub fn schema_up(&mut self) -> Result<i64, PersistenceError>
-        ensures ok { IfOk result (λ n. (n ≡ pos 1) × (self.new.version ≡ pos 1)) }
-        ensures current { self.old.version ≡ pos 1 → (result ≡ Ok (pos 1)) × (self.new ≡ self.old) }
-        ensures ready { self.old.version ≢ pos 1 → OnOk result (self.new.is_ready ≡ true) }
-        ensures made { self.old.version ≢ pos 1 → OnOk result (TellsOnly [] (told_rows S.Store self.new)) }
-        ensures stored { self.old.version ≢ pos 1 → OnOk result (IsNewIn S.Store self.new) }
+        ensures ok { IfOk result (λ n. (n ≡ current_version) × (self.new.version ≡ current_version)) }
+        ensures current { self.old.version ≡ current_version → (result ≡ Ok current_version) × (self.new ≡ self.old) }
+        ensures ready { self.old.version ≢ current_version → OnOk result (self.new.is_ready ≡ true) }
+        ensures made { self.old.version ≢ current_version → OnOk result (TellsRaised S.Store self.old self.new) }
+        ensures stored { self.old.version ≢ current_version → OnOk result (IsRaisedIn S.Store self.old self.new) }
         ensures err { OnErr result ((self.new.version ≡ self.old.version) × (self.new.is_ready ≡ self.old.is_ready)) }
         ensures kept { OnErr result (KeepsDatabase (state S.Store self.old.conn) (state S.Store self.new.conn)) }
-        ensures alone { self.old.version ≢ pos 1 → OnOk result (LeavesTrees (state S.Store self.new.conn) (LeftAs [])) }
-        ensures left { LeavesNew S.Store self.old self.new }
+        ensures alone { self.old.version ≢ current_version
+            → OnOk result (LeavesTrees (state S.Store self.new.conn) (LeftRaised (state S.Store self.old.conn))) }
+        ensures left { LeavesRaised S.Store self.old self.new }
         ensures falls { doubt (state S.Store self.old.conn).is_clean ≤ doubt (state S.Store self.new.conn).is_clean }
         ensures mode { (state S.Store self.old.conn).in_transaction ≡ false → (state S.Store self.new.conn).in_transaction ≡ false }
         ensures cause { HasCause self.old.faults self.new.faults result }
@@ -232,12 +231,12 @@ impl<S: Alter> Journal<S> {
         if is_current(self.version) {
             return Ok(CURRENT_VERSION);
         }
-        let Some(is_empty) = self.start() else {
+        let Some(start) = self.start() else {
             self.count();
             return Err(PersistenceError::Sqlite);
         };
         self.page = Page::empty(self.alloc);
-        match dns_sqlite::schema_up(&mut self.conn, is_empty) {
+        match raise(self.alloc, &mut self.conn, start) {
             Ok(()) => {
                 self.version = CURRENT_VERSION;
                 self.ready = true;

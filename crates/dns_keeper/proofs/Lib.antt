@@ -1,1 +1,12 @@
 pub mod Ascending
+pub mod Putting
+pub mod Ascends
+pub mod Adding
+pub mod Runs
+pub mod RunsAscend
+pub mod RunsGrow
+pub mod Covering
+pub mod KeptBatches
+pub mod CoversGrow
+pub mod Fronts
+pub mod CoverageSteps

@@ -1,28 +1,36 @@
 //! A keeper in memory.
 
-ghost use Rattle.std.specs.Prelude.{◌≡◌, ◌<◌, ◌-◌, ◌+ℤ◌, ◌⊎◌, ◌++◌, ◌^◌, pos, neg_ℤ, [], Some, true, IfOk, IfSome, IfNone, IsErrOf, FitsSigned};
+ghost use Rattle.std.specs.Prelude.{◌≡◌, ◌<◌, ◌-◌, ◌+ℤ◌, ◌⊎◌, ◌++◌, ◌^◌, pos, neg_ℤ, [], Some, true};
+ghost use Rattle.std.specs.Prelude.{IfOk, IfSome, IfNone, IsOk, OnOk, OnErr, IsErrOf, IsSomeAnd, FitsSigned};
 ghost use Rattle.std.specs.Option.{option_copied};
 ghost use Rattle.std.specs.Int.{w64};
 ghost use Rattle.dns_wire.specs.WireFormat.{AreShort};
 ghost use Rattle.dns_keeper.specs.declared.keeper.KeepFault.TheVariants.{Failed};
 ghost use Rattle.dns_stamp.specs.Stamp.{IsStampOf};
 ghost use Rattle.dns_keeper.specs.Rows.{appended, last_id, first_of, first_from, AreAscending};
+ghost use Rattle.dns_keeper.specs.Batches.{AreByFirst, begins_at, runs_of};
 ghost use Rattle.dns_keeper.specs.Keeping.{HasBatch};
-ghost use Rattle.dns_keeper.specs.Calls.{Appends, ReadsRow};
-ghost use Rattle.dns_keeper.specs.Memory.{memory_keeper, raised, called, is_next_failing, faults_after, LacksIds};
+ghost use Rattle.dns_keeper.specs.Crash.{HasWhole};
+ghost use Rattle.dns_keeper.specs.Calls.{Appends, ReadsRow, ReadsBatch};
+ghost use Rattle.dns_keeper.specs.Memory.{memory_keeper, raised, called, is_next_failing, faults_after};
+ghost use Rattle.dns_keeper.specs.Memory.{LacksIds, HasNoPlace, batch_of, with_batch};
 
+use crate::batch_row::BatchRow;
+use crate::batching::{batch_from, put_batch};
 use crate::keeper::{KeepFault, Keeper};
 use crate::row::Row;
+use crate::row_runs::runs_in;
 use dns_io::{Octets, OutOfMemory};
 use dns_wire::Records;
 use std::alloc::Global;
 use std::marker::Model;
 
-/// A keeper in memory, which tells its rows always, and not what a crash may leave. Chosen calls of it can be made to fail.
+/// A keeper in memory, which tells its rows and batches always, and not what a crash may leave. Chosen calls of it can be made to fail.
 #[derive(Drop)]
 pub struct MemoryKeeper {
     alloc: Global,
     rows: Vec<Row>,
+    batches: Vec<BatchRow>,
     faults: u64,
     appends: Calls,
     reads: Calls,
@@ -31,23 +39,25 @@ pub struct MemoryKeeper {
 impl Model for MemoryKeeper {
     ghost use Rattle.dns_keeper.specs.Memory.{Held};
     ghost use Rattle.dns_keeper.specs.Rows.{AreAscending};
+    ghost use Rattle.dns_keeper.specs.Batches.{AreByFirst};
 
     ghost Value = { Held };
 
     ghost view = { λ k. record {
       rows = k.rows.items;
+      batches = k.batches.items;
       faults = k.faults;
       appends = k.appends;
       reads = k.reads;
     } };
 
-    ghost invariant = { λ k. AreAscending k.rows.items };
+    ghost invariant = { λ k. AreAscending k.rows.items × AreByFirst k.batches.items };
 }
 
 impl MemoryKeeper {
     /// A keeper without rows. No call of it is made to fail.
     pub fn new(alloc: Global) -> MemoryKeeper
-        ensures told { ⟦<MemoryKeeper as Keeper>⟧.keeper.told result ≡ record { rows = Some []; faults = 0 } }
+        ensures told { ⟦<MemoryKeeper as Keeper>⟧.keeper.told result ≡ record { rows = Some []; batches = []; faults = 0 } }
         ensures appends { result.appends ≡ record { made = 0; failing = [] } }
         ensures reads { result.reads ≡ record { made = 0; failing = [] } }
     {
@@ -55,31 +65,47 @@ impl MemoryKeeper {
     }
 
     /// A keeper without rows whose append calls and `row_from` calls with these numbers fail, each kind counted from
-    /// 1. Its count of faults rises at these calls and at a lack of free ids alone.
+    /// 1. Its count of faults rises at these calls alone, at a lack of free ids, and where a batch begins at the first new id already.
     pub fn failing(alloc: Global, appends: Vec<u64>, reads: Vec<u64>) -> MemoryKeeper
-        ensures told { ⟦<MemoryKeeper as Keeper>⟧.keeper.told result ≡ record { rows = Some []; faults = 0 } }
+        ensures told { ⟦<MemoryKeeper as Keeper>⟧.keeper.told result ≡ record { rows = Some []; batches = []; faults = 0 } }
         ensures appends { result.appends ≡ record { made = 0; failing = appends.items } }
         ensures reads { result.reads ≡ record { made = 0; failing = reads.items } }
     {
         MemoryKeeper {
             alloc,
             rows: Vec::new(alloc),
+            batches: Vec::new(alloc),
             faults: 0,
             appends: Calls::failing(appends),
             reads: Calls::failing(reads),
         }
     }
 
-    /// A keeper with these rows, whose ids ascend. No call of it is made to fail.
-    pub fn from_rows(alloc: Global, rows: Vec<Row>) -> MemoryKeeper
+    /// A keeper with these rows, whose ids ascend, and with the runs of them as its batches. No call of it is made to fail.
+    pub fn from_rows(alloc: Global, rows: Vec<Row>) -> Result<MemoryKeeper, OutOfMemory>
         requires { AreAscending rows.items }
-        ensures told { ⟦<MemoryKeeper as Keeper>⟧.keeper.told result ≡ record { rows = Some rows.items; faults = 0 } }
+        ensures told { IfOk result (λ k. ⟦<MemoryKeeper as Keeper>⟧.keeper.told k
+            ≡ record { rows = Some rows.items; batches = runs_of rows.items; faults = 0 }) }
+        ensures appends { IfOk result (λ k. k.appends ≡ record { made = 0; failing = [] }) }
+        ensures reads { IfOk result (λ k. k.reads ≡ record { made = 0; failing = [] }) }
+    {
+        let batches = runs_in(alloc, rows.as_slice())?;
+        Ok(MemoryKeeper::from_parts(alloc, rows, batches))
+    }
+
+    /// A keeper with these rows, whose ids ascend, and these batches, whose first ids do. No call of it is made to fail.
+    pub fn from_parts(alloc: Global, rows: Vec<Row>, batches: Vec<BatchRow>) -> MemoryKeeper
+        requires rows { AreAscending rows.items }
+        requires batches { AreByFirst batches.items }
+        ensures told { ⟦<MemoryKeeper as Keeper>⟧.keeper.told result
+            ≡ record { rows = Some rows.items; batches = batches.items; faults = 0 } }
         ensures appends { result.appends ≡ record { made = 0; failing = [] } }
         ensures reads { result.reads ≡ record { made = 0; failing = [] } }
     {
         MemoryKeeper {
             alloc,
             rows,
+            batches,
             faults: 0,
             appends: Calls::failing(Vec::new(alloc)),
             reads: Calls::failing(Vec::new(alloc)),
@@ -113,13 +139,14 @@ impl Keeper for MemoryKeeper {
         ensures appends { self.new.appends ≡ called self.old.appends }
         ensures reads { self.new.reads ≡ self.old.reads }
         ensures listed { is_next_failing self.old.appends ≡ true → IsErrOf result Failed }
-        ensures failed { IsErrOf result Failed → (is_next_failing self.old.appends ≡ true) ⊎ LacksIds self.old.rows records.now }
+        ensures failed { IsErrOf result Failed → (is_next_failing self.old.appends ≡ true) ⊎ HasNoPlace self.old.rows self.old.batches records.now }
     {
         if self.appends.next_fails() {
             return Err(self.fail());
         }
-        match stamped_rows(self.alloc, &self.rows, client, serial, moment, records) {
-            Ok(mut batch) => Ok(self.rows.append(&mut batch)?),
+        let (alloc, rows, batches) = (self.alloc, &mut self.rows, &mut self.batches);
+        match add_records(alloc, rows, batches, client, serial, moment, records) {
+            Ok(()) => Ok(()),
             Err(KeepFault::Failed) => Err(self.fail()),
             Err(KeepFault::OutOfMemory) => Err(KeepFault::OutOfMemory),
         }
@@ -138,6 +165,14 @@ impl Keeper for MemoryKeeper {
             None => Ok(None),
             Some(row) => Ok(Some(copied(self.alloc, row)?)),
         }
+    }
+
+    fn batch_from(&mut self, first: i64) -> Result<Option<BatchRow>, KeepFault>
+        ensures read { ReadsBatch memory_keeper self.old self.new first result }
+        ensures keeper { self.new ≡ self.old }
+        ensures done { IsOk result }
+    {
+        Ok(batch_from(self.batches.as_slice(), first))
     }
 
     fn fault_count(&self) -> u64 {
@@ -256,6 +291,66 @@ fn new_rows(
         last = id;
     }
     Ok(batch)
+}
+
+/// The batch that rows make, if there are any.
+fn batch_of(rows: &[Row]) -> Option<BatchRow>
+    ensures { result ≡ batch_of rows.now }
+{
+    match rows.first() {
+        None => None,
+        Some(row) => Some(BatchRow {
+            first: row.id,
+            count: rows.len() as i64,
+        }),
+    }
+}
+
+/// Adds rows at the end and, where there are any, their batch in its place; a fault where another begins there. After a refusal all are
+/// as before.
+fn add_rows(
+    rows: &mut Vec<Row>,
+    batches: &mut Vec<BatchRow>,
+    mut more: Vec<Row>,
+) -> Result<(), KeepFault>
+    requires { AreByFirst batches.old.items }
+    ensures rows { OnOk result (rows.new.items ≡ rows.old.items ++ more.items) }
+    ensures batches { OnOk result (batches.new.items ≡ with_batch (batch_of more.items) batches.old.items) }
+    ensures err { OnErr result ((rows.new.items ≡ rows.old.items) × (batches.new.items ≡ batches.old.items)) }
+    ensures failed { IsErrOf result Failed → IsSomeAnd (batch_of more.items) (λ b. begins_at b.first batches.old.items ≡ true) }
+    ensures by_first { AreByFirst batches.new.items }
+{
+    let Some(batch) = batch_of(more.as_slice()) else {
+        return Ok(());
+    };
+    rows.reserve(more.len())?;
+    put_batch(batches, &batch)?;
+    rows.append(&mut more).unwrap();
+    Ok(())
+}
+
+/// Adds a row for each record, with the ids that follow, and where there are any their batch; a fault where they have no place. After a
+/// refusal all are as before.
+fn add_records(
+    alloc: Global,
+    rows: &mut Vec<Row>,
+    batches: &mut Vec<BatchRow>,
+    client: u32,
+    serial: u32,
+    moment: u64,
+    records: &Records,
+) -> Result<(), KeepFault>
+    requires moment { moment < 2 ^ 47 }
+    requires short { AreShort records.now }
+    requires by_first { AreByFirst batches.old.items }
+    ensures ok { OnOk result (HasWhole rows.old.items batches.old.items client serial moment records.now
+        (record { rows = rows.new.items; batches = batches.new.items })) }
+    ensures err { OnErr result ((rows.new.items ≡ rows.old.items) × (batches.new.items ≡ batches.old.items)) }
+    ensures failed { IsErrOf result Failed → HasNoPlace rows.old.items batches.old.items records.now }
+    ensures by_first { AreByFirst batches.new.items }
+{
+    let more = stamped_rows(alloc, rows.as_slice(), client, serial, moment, records)?;
+    add_rows(rows, batches, more)
 }
 
 /// The first row whose id is not below this one.

@@ -21,8 +21,8 @@ module _ {K : Type 0} (keeper : KeeperOf K) where
   Ends-rose : (before : SeenOf K) (ask : Ask) (batch : List Record) (flag : Bool) (receipt : Option Receipt) (after : SeenOf K) → Ends keeper before ask batch flag receipt after
       → RoseBy (if flag then 1 else 0) (keeper.told before.keeper).faults (keeper.told after.keeper).faults
   Ends-rose before ask batch flag receipt after (idle none) = omega arith
-  Ends-rose before ask batch flag receipt after (journalled some held grown later) = omega (arith, later)
-  Ends-rose before ask batch flag receipt after (failed some held kept later rose) = omega (arith, rose)
+  Ends-rose before ask batch flag receipt after (journalled some held grown run later) = omega (arith, later)
+  Ends-rose before ask batch flag receipt after (failed some held kept batches later rose) = omega (arith, rose)
 
   Settles-rose : (access : Access) (before : SeenOf K) (ask : Ask) (settled : Settled) (after : SeenOf K) → (s : Settles keeper access before ask settled after)
       → RoseBy (if s.failed then 1 else 0) (keeper.told before.keeper).faults (keeper.told after.keeper).faults
@@ -40,8 +40,8 @@ module _ {K : Type 0} (keeper : KeeperOf K) where
   Ends-calm : (before : SeenOf K) (ask : Ask) (batch : List Record) (flag : Bool) (receipt : Option Receipt) (after : SeenOf K) → Ends keeper before ask batch flag receipt after → ◌≡◌ {A = ℕ} (if flag then 1 else 0) 0
       → (keeper.told after.keeper).faults ≡ (keeper.told before.keeper).faults
   Ends-calm before ask batch flag receipt after (idle none) e = refl
-  Ends-calm before ask batch flag receipt after (journalled some held grown later) e = later
-  Ends-calm before ask batch flag receipt after (failed some held kept later rose) e = absurd (omega (arith, e))
+  Ends-calm before ask batch flag receipt after (journalled some held grown run later) e = later
+  Ends-calm before ask batch flag receipt after (failed some held kept batches later rose) e = absurd (omega (arith, e))
 
   Settles-calm : (access : Access) (before : SeenOf K) (ask : Ask) (settled : Settled) (after : SeenOf K) → (s : Settles keeper access before ask settled after) → ◌≡◌ {A = ℕ} (if s.failed then 1 else 0) 0
       → (keeper.told after.keeper).faults ≡ (keeper.told before.keeper).faults

@@ -13,7 +13,7 @@ mod sessions;
 mod valid;
 
 pub use dns_book::{
-    AccessControl, Ask, BeginFault, Book, IpNet, OpenFault, OpenKind, Receipt, ReplyBytes, Settled,
+    AccessControl, Ask, Book, IpNet, OpenFault, OpenKind, Receipt, ReplyBytes, Settled,
     SettledInto, UnsafeSource, sanitize_src_address,
 };
 pub use event::{Event, Out, Receiver};

@@ -1,5 +1,5 @@
 -- What an insert does.
-use Rattle.std.proofs.Common.{◌≡◌, ◌≢◌, ◌⊎◌, inl, inr, ◌&&◌, not, ℕ, ℤ, pos, List, [], ◌∷◌, Bool, true, false, cond, None, Ok, Err, Result, OnOk, refl, sym, ap, subst, ◌∙◌}
+use Rattle.std.proofs.Common.{◌≡◌, ◌≢◌, ◌⊎◌, inl, inr, ◌&&◌, not, ℕ, ℤ, pos, List, [], ◌∷◌, Bool, true, false, cond, None, Some, unwrap_or, Ok, Err, Result, OnOk, refl, sym, ap, subst, ◌∙◌}
 use Rattle.sqlite.specs.declared.types.Value.{Value}
 use Rattle.sqlite.specs.declared.types.Value.TheVariants.{Null, Int, Text, Blob}
 use Rattle.sqlite.specs.Order.{Row}
@@ -7,18 +7,18 @@ use Rattle.sqlite.specs.Ops.{unary}
 use Rattle.sqlite.specs.Kind.TheVariants.{Integer}
 use Rattle.sqlite.specs.Source.TheVariants.{Values}
 use Rattle.sqlite.specs.Command.TheVariants.{Insert}
-use Rattle.sqlite.specs.Edit.{edit_of, edited, is_taken, are_fresh, left_by}
+use Rattle.sqlite.specs.Edit.{edit_of, edited, is_taken, are_fresh, left_by, next_rowid}
 use Rattle.sqlite.specs.Cast.{cast}
 use Rattle.sqlite.specs.Rowids.TheVariants.{Chosen}
 use Rattle.sqlite.specs.Does.{Tally, Does}
-use Rattle.sqlite.specs.Rows.{Written}
+use Rattle.sqlite.specs.Rows.{Written, last_id}
 use Rattle.sqlite.specs.Tree.{Trees, put_row}
 use Rattle.sqlite.specs.declared.error.Error.{Error}
 use Rattle.sqlite.specs.Listing.{understood}
 use Rattle.sqlite.specs.Effect.{Database}
 use Rattle.sqlite.specs.State.{State, mode_of, ExecutesInside}
 use Rattle.sqlite.proofs.Callers.{statement_of, runs_as, one_step}
-use Rattle.dns_sqlite.specs.Tables.{records, journal_schema}
+use Rattle.dns_sqlite.specs.Tables.{records, batch_schema}
 use Rattle.dns_sqlite.specs.Batch.{next_row, PutsOne}
 use Rattle.dns_sqlite.proofs.Texts.{insert_text, terms, insert_is, insert_plain}
 
@@ -54,16 +54,17 @@ module _ (client serial : ℕ) (stamp bytes : List ℕ) where
   abbrev params : Row
   params = given_row client serial stamp bytes
 
-  pub record Adds (was after : Database) : Type 0 where
-    pub schema : after.schema ≡ journal_schema
+  pub record Adds (was : Database) (tally : Tally) (after : Database) : Type 0 where
+    pub schema : after.schema ≡ batch_schema
     pub rows : after.trees 1 ≡ put_row (next_row client serial stamp (was.trees 1) bytes) (was.trees 1)
     pub free : is_taken (was.trees 1) (next_row client serial stamp (was.trees 1) bytes) ≡ false
     pub others : (t : ℕ) → t ≢ 1 → after.trees t ≡ was.trees t
+    pub last : tally.last ≡ Some (next_rowid (was.trees 1))
 
   -- what the command makes of the database
-  does_adds : (old : State) (text : List ℕ) (tally : Tally) (after : Database) → old.now.schema ≡ journal_schema
+  does_adds : (old : State) (text : List ℕ) (tally : Tally) (after : Database) → old.now.schema ≡ batch_schema
       → Does old.step_limit (mode_of old) params old.now text None (Insert 1 (Values terms 6)) (Ok (tally, after))
-      → Adds old.now after
+      → Adds old.now tally after
   does_adds old text tally after has h =
       let was = old.now in
       let db = was.trees in
@@ -74,7 +75,7 @@ module _ (client serial : ℕ) (stamp bytes : List ℕ) where
       let written = went (went given.2).2 in
       let counted = went written.2 in
       let trees : done.0.trees ≡ written.0 = ap (λ (it : Written). it.trees) (same_value counted.2) ∙ same_value counted.1 in
-      let step = one_step journal_schema _ db written.0 (edit_of db records [] Chosen 0 given.0) refl written.1 in
+      let step = one_step batch_schema _ db written.0 (edit_of db records [] Chosen 0 given.0) refl written.1 in
       let edit : edited db (edit_of db records [] Chosen 0 given.0) ≡ put_row (next_row client serial stamp (db 1) bytes) (db 1) =
       ap (λ all. edited db (edit_of db records [] Chosen 0 all)) given.1.1 ∙ rw (cast_null, cast_int (pos client), cast_int (pos serial)) in
       let news : are_fresh (left_by db (edit_of db records [] Chosen 0 given.0)) (edit_of db records [] Chosen 0 given.0).news ≡ are_fresh (db 1) (next_row client serial stamp (db 1) bytes ∷ []) =
@@ -84,16 +85,17 @@ module _ (client serial : ℕ) (stamp bytes : List ℕ) where
         rows = ap (λ (d : Database). d.trees 1) now ∙ ap (λ (t : Trees). t 1) trees ∙ step.rows ∙ edit;
         free = not_and _ (sym news ∙ step.fresh);
         others = λ t other. ap (λ (d : Database). d.trees t) now ∙ ap (λ (s : Trees). s t) trees ∙ step.others t other tt;
+        last = ap (λ (p : Tally × Database). p.0.last) (same_value (went (went done.2).2).2) ∙ ap (λ (it : Written). it.last) (same_value counted.2) ∙ ap (λ all. last_id (edit_of db records [] Chosen 0 all).news) given.1.1 ∙ rw (cast_null) refl;
       }
 
-  pub puts : (old new : State) (count : ℕ) → old.now.schema ≡ journal_schema → ExecutesInside 0 insert_text params old new (Ok count) → PutsOne client serial stamp bytes old new
+  pub puts : (old new : State) (count : ℕ) → old.now.schema ≡ batch_schema → ExecutesInside 0 insert_text params old new (Ok count) → PutsOne client serial stamp bytes old new
   puts old new count has h =
       let command = Insert 1 (Values terms 6) in
-      let w = runs_as insert_text params old new journal_schema has command insert_is insert_plain count h.0 in
-      let it = does_adds old (statement_of insert_text (understood journal_schema insert_text)) w.tally new.now has w.changed in
-      record { schema = it.schema; rows = it.rows; free = it.free; others = it.others; sound = w.sound; mode = h.1.mode }
+      let w = runs_as insert_text params old new batch_schema has command insert_is insert_plain count h.0 in
+      let it = does_adds old (statement_of insert_text (understood batch_schema insert_text)) w.tally new.now has w.changed in
+      record { schema = it.schema; rows = it.rows; free = it.free; others = it.others; sound = w.sound; mode = h.1.mode; last = w.last_rowid ∙ ap (λ o. unwrap_or o old.last_rowid) it.last }
 
-pub put_if_ok : (client serial : ℕ) (stamp bytes : List ℕ) (old new : State) (r : Result ℕ Error) → old.now.schema ≡ journal_schema → ExecutesInside 0 insert_text (given_row client serial stamp bytes) old new r
+pub put_if_ok : (client serial : ℕ) (stamp bytes : List ℕ) (old new : State) (r : Result ℕ Error) → old.now.schema ≡ batch_schema → ExecutesInside 0 insert_text (given_row client serial stamp bytes) old new r
     → OnOk r (PutsOne client serial stamp bytes old new)
 put_if_ok client serial stamp bytes old new (Err e) has h = tt
 put_if_ok client serial stamp bytes old new (Ok count) has h = puts client serial stamp bytes old new count has h

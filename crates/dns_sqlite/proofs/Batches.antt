@@ -1,19 +1,24 @@
 -- The steps of a batch.
-use Rattle.std.proofs.Common.{◌≡◌, ◌++◌, ℕ, List, [], ◌∷◌, true, false, Ok, Err, Result, OnOk, OnErr, IsTrue, refl, sym, subst, ◌∙◌, arith, inl, inr}
+use Rattle.std.proofs.lemmas.List.{take_all}
+use Rattle.std.proofs.Common.{◌≡◌, ◌<◌, ◌-◌, length, get_or, take, drop, ◌++◌, ℕ, List, [], ◌∷◌, true, false, Ok, Err, Result, OnOk, OnErr, IsTrue, refl, sym, subst, ◌∙◌, arith, inl, inr}
 use Rattle.sqlite.specs.declared.error.Error.{Error}
 use Rattle.sqlite.specs.Steps.{FailsToCommit}
 use Rattle.sqlite.specs.Order.{Row}
 use Rattle.sqlite.specs.State.{State, Survives, KeepsCommit, IsRolledBack, ExecutesInside}
 use Rattle.sqlite.proofs.InsideLemmas.{keeps_then}
-use Rattle.dns_sqlite.specs.Tables.{journal_schema}
-use Rattle.dns_sqlite.specs.Batch.{ArePut, PutsOne, PutsAll}
+use Rattle.sqlite.specs.Edit.{is_taken}
+use Rattle.sqlite.specs.Tree.{put_row}
+use Rattle.dns_sqlite.specs.Tables.{stored_batch}
+use Rattle.dns_sqlite.specs.Statements.{HasTables}
+use Rattle.dns_sqlite.specs.Migration.{PutsBatch}
+use Rattle.dns_sqlite.specs.Batch.{next_batch, ArePut, PutsOne, PutsAll, PutsWhole}
 use Rattle.dns_sqlite.proofs.Rows.{put_more}
 
 pub survives_none : (s : State) → Survives s s (λ _. ⊥)
 survives_none s = record { clean = omega arith; shield = λ h. h; counts = omega arith; limit = refl; closes = λ _ h. inl h; crash = λ _ db h. inl h }
 
 module _ (client serial : ℕ) (stamp : List ℕ) where
-  pub puts_none : (s : State) → IsTrue s.in_transaction → s.now.schema ≡ journal_schema → PutsAll client serial stamp [] s s
+  pub puts_none : (s : State) → IsTrue s.in_transaction → HasTables s.now → PutsAll client serial stamp [] s s
   puts_none s inside has = record {
     grown = record { schema = has; rows = refl; others = λ t _. refl; sound = λ h. h };
     commit = record { was_open = λ h. h; committed = λ _. refl };
@@ -30,6 +35,35 @@ module _ (client serial : ℕ) (stamp : List ℕ) where
       sound = λ _. one.sound;
     };
     commit = keeps_then old mid new done.commit kept;
+    mode = one.mode;
+  }
+
+  -- a first row, and those behind it
+  pub puts_first : (bytes : List ℕ) (more : List (List ℕ)) (old mid new : State) → PutsOne client serial stamp bytes old mid → KeepsCommit old mid → PutsAll client serial stamp more mid new → PutsAll client serial stamp (bytes ∷ more) old new
+  puts_first bytes more old mid new one kept rest = record {
+    grown = record {
+      schema = rest.grown.schema;
+      rows = (one.free, subst (λ rows. ArePut client serial stamp more rows (new.now.trees 1)) one.rows rest.grown.rows);
+      others = λ t other. rest.grown.others t other ∙ one.others t other;
+      sound = λ _. rest.grown.sound one.sound;
+    };
+    commit = keeps_then old mid new kept rest.commit;
+    mode = rest.mode;
+  }
+
+  -- rows, and their batch
+  pub puts_whole : (records : List (List ℕ)) (old mid new : State) → PutsAll client serial stamp records old mid → PutsBatch (next_batch (old.now.trees 1) records) mid new → PutsWhole client serial stamp records old new
+  puts_whole records old mid new rows one = record {
+    grown = record {
+      schema = one.schema;
+      rows = subst (ArePut client serial stamp records (old.now.trees 1)) (sym (one.others 1 (λ e. omega (arith, e)))) rows.grown.rows;
+      batch = (
+        subst (λ was. is_taken was (stored_batch (next_batch (old.now.trees 1) records)) ≡ false) (rows.grown.others 2 (λ e. omega (arith, e))) one.free,
+        subst (λ was. new.now.trees 2 ≡ put_row (stored_batch (next_batch (old.now.trees 1) records)) was) (rows.grown.others 2 (λ e. omega (arith, e))) one.put,
+      );
+      others = λ t rest other. one.others t other ∙ rows.grown.others t rest;
+      sound = one.sound;
+    };
     mode = one.mode;
   }
 
@@ -57,3 +91,8 @@ stays_inside sql params old new (Err e) h = tt
 pub stays_open : (sql : List ℕ) (params : Row) (old new : State) (r : Result ℕ Error) → ExecutesInside 0 sql params old new r → OnOk r (IsTrue new.is_open)
 stays_open sql params old new (Ok count) h = h.1.is_open
 stays_open sql params old new (Err e) h = tt
+
+-- a list with an element is its first and what stands behind it, as a slice pattern takes it apart
+pub taken_apart : {X : Type 0} (xs : List X) (x : X) → 0 < length xs → x ≡ get_or xs 0 x → x ∷ take (length xs - 1) (drop 1 xs) ≡ xs
+taken_apart [] x some e = absurd (omega (arith, some))
+taken_apart (y ∷ ys) x some e = let n : length (y ∷ ys) - 1 ≡ length ys = omega arith in let all : take (length ys) ys ≡ ys = take_all (length ys) ys (omega arith) in rw (e, n, all) refl

@@ -1,5 +1,5 @@
 -- What the query shows.
-use Rattle.std.proofs.Common.{◌≡◌, ◌++◌, inl, inr, ℕ, ℤ, List, [], ◌∷◌, map, filter, flat_map, take, Bool, true, false, if◌then◌else◌, Option, Some, None, refl, sym, ap, subst, ◌∙◌}
+use Rattle.std.proofs.Common.{codes, ◌≡◌, ◌++◌, inl, inr, ℕ, ℤ, List, [], ◌∷◌, map, filter, flat_map, take, Bool, true, false, if◌then◌else◌, Option, Some, None, refl, sym, ap, subst, ◌∙◌}
 use Rattle.std.proofs.lemmas.Bool.{cases_Bool}
 use Rattle.std.specs.List.{list_all}
 use Rattle.std.specs.List.Sorted.{IsPermutation, IsSorted}
@@ -9,12 +9,14 @@ use Rattle.sqlite.specs.Term.{Env, holds}
 use Rattle.sqlite.specs.Query.{IsAnswer, output, Output}
 use Rattle.sqlite.specs.Program.{overlay}
 use Rattle.sqlite.specs.State.{State, Shown, ShowsRows, Begins, IsUnchanged}
-use Rattle.sqlite.specs.Listing.{understood}
+use Rattle.sqlite.specs.Listing.{understood, reads_listing}
+use Rattle.sqlite.specs.Schema.{Schema}
+use Rattle.sqlite.specs.Command.TheVariants.{Select}
 use Rattle.sqlite.specs.Clock.{timed}
 use Rattle.sqlite_schema.specs.declared.command.Returning.{Returning}
 use Rattle.sqlite.proofs.Callers.{IsPlain, EndsIn, command_of, reads_as, begins_shown}
 use Rattle.sqlite.proofs.StateLemmas.{unchanged}
-use Rattle.dns_sqlite.specs.Tables.{journal_schema, seen, not_below, by_key, HasRow, HasRows}
+use Rattle.dns_sqlite.specs.Tables.{row_schema, batch_schema, seen, not_below, by_key, HasRow, HasRows}
 use Rattle.std.proofs.Common.{length, get_or, ◌<◌, zero, suc, arith, Less, Equal, Greater, Ordering}
 use Rattle.std.specs.List.{AllByRecursion, Contains}
 use Rattle.std.specs.Ordering.{is_lt, is_ge, ordering_then, int_cmp}
@@ -29,7 +31,12 @@ use Rattle.sqlite_trees.proofs.TreeLemmas.{IsShaped-filter}
 use Rattle.sqlite_value.proofs.OrderLemmas.{value_cmp-Int}
 use Rattle.sqlite_sql.proofs.QueryLemmas.{key_cmp_total}
 use Rattle.dns_sqlite.proofs.Rows.{AreKeyed}
+use Rattle.dns_sqlite.specs.Statements.{HasRecords}
 use Rattle.dns_sqlite.proofs.Texts.{from_text, query, from_is, from_plain}
+use Rattle.dns_sqlite.proofs.BatchTexts.{from_is2, from_plain2}
+
+abbrev row_names : List (List ℕ)
+row_names = codes "id" ∷ codes "client_id" ∷ codes "soa_serial" ∷ codes "timestamp" ∷ codes "record" ∷ []
 
 abbrev keeps : ℤ → Row → List Env
 keeps id r = if list_all (holds ((Int id ∷ []) ∷ r ∷ [])) query.filter then ((Int id ∷ []) ∷ r ∷ []) ∷ [] else []
@@ -41,31 +48,44 @@ staged_is id (r ∷ rows) = elim (cases_Bool (not_below id r)) [
   | inr away ↦ rw away (staged_is id rows)
 ]
 
-pub finds : (old new : State) (id : ℤ) (rows : List Row) → old.now.schema ≡ journal_schema → Shown from_text (Int id ∷ []) old new rows → HasRows 128 id (old.now.trees 1) rows
-finds old new id rows has h =
-    let got = reads_as from_text (Int id ∷ []) old new journal_schema has _ from_is.0 from_plain from_is.1 rows h in
-    let a : IsAnswer query (overlay old.now.trees []) (Int id ∷ []) rows = got.answer Null in
-    let kept : a.kept ≡ map seen (filter (not_below id) (old.now.trees 1)) = a.distinct ∙ ap (map (output query)) a.grouped ∙ staged_is id (old.now.trees 1) in
-    (a.ordered, subst (λ k. IsPermutation k a.ordered) kept a.same, a.sorted, a.shown)
+module _ (schema : Schema) (is : command_of (understood schema from_text) ≡ Select (record { lets = []; body = query }) row_names) (unlisted : reads_listing schema from_text ≡ false) (plain : IsPlain (understood schema from_text))
+    (old new : State) (id : ℤ) (rows : List Row) (has : old.now.schema ≡ schema) where
+  finds_in : Shown from_text (Int id ∷ []) old new rows → HasRows 128 id (old.now.trees 1) rows
+  finds_in h =
+      let got = reads_as from_text (Int id ∷ []) old new schema has _ is plain unlisted rows h in
+      let a : IsAnswer query (overlay old.now.trees []) (Int id ∷ []) rows = got.answer Null in
+      let kept : a.kept ≡ map seen (filter (not_below id) (old.now.trees 1)) = a.distinct ∙ ap (map (output query)) a.grouped ∙ staged_is id (old.now.trees 1) in
+      (a.ordered, subst (λ k. IsPermutation k a.ordered) kept a.same, a.sorted, a.shown)
+
+  begins_in : old.is_open ≡ true → Begins from_text (Int id ∷ []) old rows → (tail : List Row) × Shown from_text (Int id ∷ []) old old (rows ++ tail)
+  begins_in live h =
+      begins_shown from_text (Int id ∷ []) old old rows h (unchanged old live) (λ c db it source.
+      let known = ap (λ k. understood k from_text) (sym has) ∙ it.is in
+      let selects = sym (ap command_of known) ∙ is in
+      subst (λ k. EndsIn k db (timed (Int id ∷ []) c.formats it.now)) (sym selects) tt)
+
+  same_in : Shown from_text (Int id ∷ []) old new rows → IsUnchanged old new
+  unfolding Shown
+  same_in h =
+      let known = sym h.1.is ∙ ap (λ s. understood s from_text) has in
+      let bare = subst IsPlain (sym known) plain in
+      let P : Option Returning → Type 0 = ShowsRows old new from_text h.0 (timed (Int id ∷ []) h.0.formats h.1.now) rows in
+      let it : P None = subst P bare.0 h.2 in
+      it.3
+
+pub finds : (old new : State) (id : ℤ) (rows : List Row) → HasRecords old.now → Shown from_text (Int id ∷ []) old new rows → HasRows 128 id (old.now.trees 1) rows
+finds old new id rows (inl one) h = finds_in row_schema from_is.0 from_is.1 from_plain old new id rows one h
+finds old new id rows (inr two) h = finds_in batch_schema from_is2.0 from_is2.1 from_plain2 old new id rows two h
 
 -- the rows that the query has given so far begin those that it finds
-pub begins : (s : State) (id : ℤ) (rows : List Row) → s.now.schema ≡ journal_schema → s.is_open ≡ true → Begins from_text (Int id ∷ []) s rows → (tail : List Row) × HasRows 128 id (s.now.trees 1) (rows ++ tail)
-begins s id rows has live h =
-    let more = begins_shown from_text (Int id ∷ []) s s rows h (unchanged s live) (λ c db it source.
-    let known = ap (λ k. understood k from_text) (sym has) ∙ it.is in
-    let selects = sym (ap command_of known) ∙ from_is.0 in
-    subst (λ k. EndsIn k db (timed (Int id ∷ []) c.formats it.now)) (sym selects) tt) in
-    (more.0, finds s s id (rows ++ more.0) has more.1)
+pub begins : (s : State) (id : ℤ) (rows : List Row) → HasRecords s.now → s.is_open ≡ true → Begins from_text (Int id ∷ []) s rows → (tail : List Row) × HasRows 128 id (s.now.trees 1) (rows ++ tail)
+begins s id rows (inl one) live h = let more = begins_in row_schema from_is.0 from_is.1 from_plain s s id rows one live h in (more.0, finds s s id (rows ++ more.0) (inl one) more.1)
+begins s id rows (inr two) live h = let more = begins_in batch_schema from_is2.0 from_is2.1 from_plain2 s s id rows two live h in (more.0, finds s s id (rows ++ more.0) (inr two) more.1)
 
 -- and it changes nothing
-pub same : (old new : State) (id : ℤ) (rows : List Row) → old.now.schema ≡ journal_schema → Shown from_text (Int id ∷ []) old new rows → IsUnchanged old new
-unfolding Shown
-same old new id rows has h =
-    let known = sym h.1.is ∙ ap (λ s. understood s from_text) has in
-    let bare = subst IsPlain (sym known) from_plain in
-    let P : Option Returning → Type 0 = ShowsRows old new from_text h.0 (timed (Int id ∷ []) h.0.formats h.1.now) rows in
-    let it : P None = subst P bare.0 h.2 in
-    it.3
+pub same : (old new : State) (id : ℤ) (rows : List Row) → HasRecords old.now → Shown from_text (Int id ∷ []) old new rows → IsUnchanged old new
+same old new id rows (inl one) h = same_in row_schema from_is.0 from_is.1 from_plain old new id rows one h
+same old new id rows (inr two) h = same_in batch_schema from_is2.0 from_is2.1 from_plain2 old new id rows two h
 
 -- ---- the first of rows by ascending id
 
@@ -95,7 +115,7 @@ one_of : (f : Row × Row) (fs : List (Row × Row)) (o : Row × Row) → AllByRec
 one_of f fs o low none zero within e = sym e
 one_of f fs o low none (suc k) within e = absurd (let yes : lt f o ≡ true = subst (λ y. lt f y ≡ true) e (all_at (λ x. lt f x ≡ true) fs low k (omega arith) o) in let it : true ≡ false = sym yes ∙ none in cc)
 
-head_is : (f : Row × Row) (fs ordered : List (Row × Row)) → AllByRecursion (λ x. lt f x ≡ true) fs → IsPermutation (f ∷ fs) ordered → IsSorted by_key ordered → take 1 ordered ≡ f ∷ []
+pub head_is : (f : Row × Row) (fs ordered : List (Row × Row)) → AllByRecursion (λ x. lt f x ≡ true) fs → IsPermutation (f ∷ fs) ordered → IsSorted by_key ordered → take 1 ordered ≡ f ∷ []
 head_is f fs [] low same up = absurd (omega (arith, length_permutation (f ∷ fs) [] same))
 head_is f fs (o ∷ os) low same up =
     let f_in = Contains-permutation (f ∷ fs) (o ∷ os) f same (0, omega arith, refl) in
@@ -106,7 +126,7 @@ below_all : (r : Row) (rs : List Row) → AllByRecursion (λ s. value_cmp (rowid
 below_all r [] all = tt
 below_all r (s ∷ rs) all = (lt_seen r s ∙ ap is_lt all.0, below_all r rs all.1)
 
-take_one : (ordered : List (Row × Row)) → take 1 (map (λ (o : Row × Row). o.1) ordered) ≡ map (λ (o : Row × Row). o.1) (take 1 ordered)
+pub take_one : (ordered : List (Row × Row)) → take 1 (map (λ (o : Row × Row). o.1) ordered) ≡ map (λ (o : Row × Row). o.1) (take 1 ordered)
 take_one [] = refl
 take_one (o ∷ os) = refl
 

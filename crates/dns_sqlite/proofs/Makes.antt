@@ -26,8 +26,8 @@ use Rattle.sqlite_value.proofs.OrderLemmas.{value_cmp_total}
 use Rattle.sqlite.proofs.Callers.{IsPlain}
 use Rattle.sqlite.specs.State.{State, mode_of, Writes, ExecutesInside}
 use Rattle.sqlite.proofs.Callers.{command_of, statement_of, runs_as, one_step, one_permutation}
-use Rattle.dns_sqlite.specs.Tables.{versions, records, empty_schema, version_schema, journal_schema}
-use Rattle.dns_sqlite.specs.Versions.{HasMade, IsVersionless, IsVersionZero, HasBothTables, IsNewJournal}
+use Rattle.dns_sqlite.specs.Tables.{versions, records, empty_schema, version_schema, row_schema}
+use Rattle.dns_sqlite.specs.Versions.{HasMade, IsVersionless, IsVersionAlone, HasRowTable, HasNoRows}
 use Rattle.dns_sqlite.proofs.Texts.{create_version_table, create_record_table, versions_is, versions_plain, records_is, records_plain, fill_text, fill_terms, fill_is, fill_plain, raise_text, raise_query, raise_is, raise_plain}
 use Rattle.dns_sqlite.proofs.Adds.{went, same_value, cast_null, cast_int}
 
@@ -66,14 +66,14 @@ makes_versions old new count has h =
     let it = creates create_version_table empty_schema (record versions { tree = 0 }) versions_is.0 versions_is.1 versions_plain versions_is.2 refl old new count has h in
     record { made = (it.schema, it.empty); sound = it.sound; mode = it.mode }
 
-pub makes_records : (old new : State) (count : ℕ) → IsVersionZero old.now → ExecutesInside 0 create_record_table [] old new (Ok count) → HasMade HasBothTables new
+pub makes_records : (old new : State) (count : ℕ) → IsVersionAlone old.now → ExecutesInside 0 create_record_table [] old new (Ok count) → HasMade HasRowTable new
 makes_records old new count half h =
     let it = creates create_record_table version_schema (record records { tree = 0 }) records_is.0 records_is.1 records_plain records_is.2 refl old new count half.0 h in
     record { made = (it.schema, (half.1.0, half.1.1, it.others.0 ∙ half.1.2, half.1.3, half.1.4), it.empty); sound = it.sound; mode = it.mode }
 
 -- ---- the first version
 
-pub fills : (old new : State) (count : ℕ) → IsVersionless old.now → ExecutesInside 0 fill_text [] old new (Ok count) → HasMade IsVersionZero new
+pub fills : (old new : State) (count : ℕ) → IsVersionless old.now → ExecutesInside 0 fill_text [] old new (Ok count) → HasMade IsVersionAlone new
 fills old new count bare h =
     let db = old.now.trees in
     let command = Insert 0 (Values fill_terms 2) in
@@ -99,7 +99,7 @@ fills old new count bare h =
 own_rowid : (id : ℤ) → value_cmp (Int id) (Int id) ≡ Equal
 own_rowid id = tied_itself value_cmp_total (Int id)
 
-pub raises : (old new : State) (count : ℕ) → HasBothTables old.now → ExecutesInside 0 raise_text [] old new (Ok count) → HasMade IsNewJournal new
+pub raises : (old new : State) (count : ℕ) → HasRowTable old.now → ExecutesInside 0 raise_text [] old new (Ok count) → HasMade HasNoRows new
 raises old new count whole h =
     let db = old.now.trees in
     let id = whole.1.0 in
@@ -107,8 +107,8 @@ raises old new count whole h =
     let one = whole.1.2 in
     let first = whole.1.3 in
     let command = Update 0 (record { lets = []; body = raise_query }) in
-    let text = statement_of raise_text (understood journal_schema raise_text) in
-    let w = runs_as raise_text [] old new journal_schema whole.0 command raise_is raise_plain count h.0 in
+    let text = statement_of raise_text (understood row_schema raise_text) in
+    let w = runs_as raise_text [] old new row_schema whole.0 command raise_is raise_plain count h.0 in
     let done = went (subst (λ s. Does old.step_limit (mode_of old) [] (record old.now { schema = s }) text None command (Ok (w.tally, new.now))) whole.0 w.changed) in
     let now = ap (λ (p : Tally × Database). p.1) (same_value (went (went done.2).2).2) in
     let asked = went done.1 in
@@ -120,7 +120,7 @@ raises old new count whole h =
     let kept : a.kept ≡ o ∷ [] = a.distinct ∙ ap (map (output raise_query)) staged in
     let ordered = one_permutation o a.ordered (subst (λ k. IsPermutation k a.ordered) kept a.same) in
     let found : asked.0 ≡ (column r 0 ∷ column r 0 ∷ Int (pos 1) ∷ []) ∷ [] = a.shown ∙ ap (λ xs. page raise_query [] (map (λ (p : Output). p.1) xs)) ordered in
-    let step = one_step journal_schema _ db written.0 (edit_of db versions (ids_of asked.0) Given 1 asked.0) refl written.1 in
+    let step = one_step row_schema _ db written.0 (edit_of db versions (ids_of asked.0) Given 1 asked.0) refl written.1 in
     let edit : edited db (edit_of db versions (ids_of asked.0) Given 1 asked.0) ≡ (Int id ∷ Int (pos 1) ∷ []) ∷ [] =
     ap (λ all. edited db (edit_of db versions (ids_of all) Given 1 all)) found ∙ rw (one, first, own_rowid id, cast_int id, cast_int (pos 1)) in
     record {

@@ -51,3 +51,12 @@ each_ok (Err e) P Q h f = tt
 pub each_err : {T E A : Type 0} (r : Result T E) (P : E → Type 0) → (A → IfErr r P) → IfErr r (λ e. A → P e)
 each_err (Ok x) P h = tt
 each_err (Err e) P h = h
+
+pub ok_open : {T E : Type 0} (r : Result T E) (P : T → Type 0) (Q : Type 0) → IfOk r P → ((x : T) → P x → Q) → OnOk r Q
+ok_open (Ok x) P Q h f = f x h
+ok_open (Err e) P Q h f = tt
+
+-- what is found under three premises
+pub found_where : {T E A B C : Type 0} {U : C → Type 0} {V : C → Type 0} (r : Result T E) (P : T → C → Type 0) → (A → B → (c : C) → U c → V c → IfOk r (λ x. P x c)) → IfOk r (λ x. A → B → (c : C) → U c → V c → P x c)
+found_where (Ok x) P h = h
+found_where (Err e) P h = tt

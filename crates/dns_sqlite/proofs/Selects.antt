@@ -23,7 +23,7 @@ inv : {A B : Type 0} (x : Checked A) (f : A → Checked B) (b : B) → and_then 
 inv (Ok a) f b e = (a, refl, e)
 inv (Err x) f b e = absurd (cc)
 
-abbrev bare_by : Statement → Bool
+abbrev pub bare_by : Statement → Bool
 bare_by (written.Insert how name columns rows clauses shown) = false
 bare_by (written.Update name sets test shown) = false
 bare_by (written.Delete name test shown) = false
@@ -36,7 +36,7 @@ bare_is s base (written.Update name sets test shown) e = absurd (cc)
 bare_is s base (written.Delete name test shown) e = absurd (cc)
 bare_is s base _ e = refl
 
-abbrev bare_of : Checked Parsed → Bool
+abbrev pub bare_of : Checked Parsed → Bool
 bare_of (Ok p) = bare_by p.statement
 bare_of (Err e) = true
 

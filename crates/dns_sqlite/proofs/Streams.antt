@@ -1,5 +1,5 @@
 -- Rows that a query gives one at a time, and what they read as.
-use Rattle.std.proofs.Common.{◌≡◌, ◌==◌, ◌++◌, ◌<◌, ℕ, ℤ, zero, suc, List, [], ◌∷◌, length, take, false, None, Result, Ok, Err, IfOk, OnOk, OnErr, inl, inr, refl, true, ap, subst, ◌∙◌, arith}
+use Rattle.std.proofs.Common.{◌≡◌, ◌==◌, ◌++◌, ◌<◌, ℕ, ℤ, zero, suc, List, [], ◌∷◌, length, take, false, None, Result, Ok, Err, IfOk, OnOk, OnErr, inl, inr, refl, sym, true, ap, subst, ◌∙◌, arith}
 use Rattle.sqlite_trees.specs.declared.store.Store.{Ghosts}
 use Rattle.sqlite_resolve.specs.declared.compiled.Compiled.{Compiled}
 use Rattle.sqlite_resolve.specs.declared.error.CompileError.{CompileError}
@@ -12,7 +12,8 @@ use Rattle.sqlite.specs.State.{Shown, IsUnchanged}
 use Rattle.sqlite.specs.Effect.{Database}
 use Rattle.sqlite.proofs.Callers.{given_begin}
 use Rattle.dns_keeper.specs.declared.row.Row.{Row}
-use Rattle.dns_sqlite.specs.Tables.{journal_schema, from_text, HasRows}
+use Rattle.dns_sqlite.specs.Tables.{from_text, HasRows}
+use Rattle.dns_sqlite.specs.Statements.{HasRecords}
 use Rattle.dns_sqlite.specs.Reads.{ReadsAs, AreRead, HasPage}
 use Rattle.dns_sqlite.proofs.Finds.{finds, begins}
 use Rattle.dns_sqlite.proofs.Selects.{from_bare, never_returns}
@@ -37,10 +38,10 @@ front (suc n) (x ∷ xs) ys (a ∷ all) e =
 fewer : (count : ℕ) (id : ℤ) (table shown tail : List Values) → HasRows count id table (shown ++ tail) → HasRows (length shown) id table shown
 fewer count id table shown tail h = (h.0, h.1, h.2, front count shown tail _ h.3)
 
-module _ {S : Type 0} (g : Ghosts S) (old mid : Held S) (id : ℤ) (given : List Values) (rows : List Row) (has : (state g old).now.schema ≡ journal_schema) (same : (state g mid).now ≡ (state g old).now)
+module _ {S : Type 0} (g : Ghosts S) (old mid : Held S) (id : ℤ) (given : List Values) (rows : List Row) (has : HasRecords (state g old).now) (same : (state g mid).now ≡ (state g old).now)
     (gives : HasGiven g from_text (Int id ∷ []) mid given) (read : AreRead given rows) where
-  schema_is : (state g mid).now.schema ≡ journal_schema
-  schema_is = ap (λ (d : Database). d.schema) same ∙ has
+  schema_is : HasRecords (state g mid).now
+  schema_is = subst HasRecords (sym same) has
 
   moved : HasPage id ((state g mid).now.trees 1) rows → HasPage id ((state g old).now.trees 1) rows
   moved = subst (λ (d : Database). HasPage id (d.trees 1) rows) same

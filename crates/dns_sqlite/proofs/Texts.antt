@@ -13,7 +13,7 @@ use Rattle.sqlite_tied.specs.Compute.{everything}
 use Rattle.sqlite.specs.Listing.{understood, reads_listing}
 use Rattle.sqlite.proofs.Callers.{IsPlain, command_of, statement_of}
 use Rattle.dns_sqlite.specs.Versions.{version_text}
-use Rattle.dns_sqlite.specs.Tables.{versions, records, journal_schema, version_schema, empty_schema}
+use Rattle.dns_sqlite.specs.Tables.{versions, records, row_schema, batch_schema, version_schema, empty_schema}
 pub use Rattle.dns_sqlite.specs.Tables.{from_text}
 
 abbrev pub create_version_table : List ℕ
@@ -36,7 +36,7 @@ records_is = (refl, refl, refl)
 abbrev pub terms : List Term
 terms = lit Null ∷ lit Null ∷ col 0 0 ∷ col 0 1 ∷ col 0 2 ∷ col 0 3 ∷ []
 
-pub insert_is : command_of (understood journal_schema insert_text) ≡ Insert 1 (Values terms 6)
+pub insert_is : command_of (understood batch_schema insert_text) ≡ Insert 1 (Values terms 6)
 unfolding understood everything
 insert_is = refl
 
@@ -53,15 +53,15 @@ query = record {
   offset = lit (Int (pos 0));
 }
 
-pub from_is : (command_of (understood journal_schema from_text) ≡ Select (record { lets = []; body = query }) (codes "id" ∷ codes "client_id" ∷ codes "soa_serial" ∷ codes "timestamp" ∷ codes "record" ∷ [])) × (reads_listing journal_schema from_text ≡ false)
+pub from_is : (command_of (understood row_schema from_text) ≡ Select (record { lets = []; body = query }) (codes "id" ∷ codes "client_id" ∷ codes "soa_serial" ∷ codes "timestamp" ∷ codes "record" ∷ [])) × (reads_listing row_schema from_text ≡ false)
 unfolding understood everything
 from_is = (refl, refl)
 
-pub insert_plain : IsPlain (understood journal_schema insert_text)
+pub insert_plain : IsPlain (understood batch_schema insert_text)
 unfolding understood everything
 insert_plain = (refl, refl)
 
-pub from_plain : IsPlain (understood journal_schema from_text)
+pub from_plain : IsPlain (understood row_schema from_text)
 unfolding understood everything
 from_plain = (refl, refl)
 
@@ -103,11 +103,11 @@ raise_query = record {
   offset = lit (Int (pos 0));
 }
 
-pub raise_is : command_of (understood journal_schema raise_text) ≡ Update 0 (record { lets = []; body = raise_query })
+pub raise_is : command_of (understood row_schema raise_text) ≡ Update 0 (record { lets = []; body = raise_query })
 unfolding understood everything
 raise_is = refl
 
-pub raise_plain : IsPlain (understood journal_schema raise_text)
+pub raise_plain : IsPlain (understood row_schema raise_text)
 unfolding understood everything
 raise_plain = (refl, refl)
 
@@ -128,7 +128,7 @@ pub half_version_is : (command_of (understood version_schema version_text) ≡ S
 unfolding understood everything
 half_version_is = (refl, refl)
 
-pub whole_version_is : (command_of (understood journal_schema version_text) ≡ Select (record { lets = []; body = version_query }) (codes "rowid" ∷ codes "version" ∷ [])) × (reads_listing journal_schema version_text ≡ false)
+pub whole_version_is : (command_of (understood row_schema version_text) ≡ Select (record { lets = []; body = version_query }) (codes "rowid" ∷ codes "version" ∷ [])) × (reads_listing row_schema version_text ≡ false)
 unfolding understood everything
 whole_version_is = (refl, refl)
 
@@ -136,6 +136,6 @@ pub half_version_plain : IsPlain (understood version_schema version_text)
 unfolding understood everything
 half_version_plain = (refl, refl)
 
-pub whole_version_plain : IsPlain (understood journal_schema version_text)
+pub whole_version_plain : IsPlain (understood row_schema version_text)
 unfolding understood everything
 whole_version_plain = (refl, refl)

@@ -5,6 +5,9 @@ use Rattle.std.proofs.lemmas.List.Sorted.{length_permutation}
 use Rattle.sqlite.specs.declared.types.Value.TheVariants.{Null, Int, Real, Text, Blob}
 use Rattle.sqlite.specs.declared.types.Value.{Value}
 use Rattle.std.specs.Ordering.{int_eq}
+use Rattle.std.specs.Int.Signed.{le_z}
+use Rattle.std.proofs.lemmas.Int.{ints}
+use Rattle.std.proofs.lemmas.Bool.Decides.{nat_tests}
 use Rattle.std.proofs.lemmas.Bool.{and_parts, cases_Bool}
 use Rattle.sqlite.specs.Order.{Row, column}
 use Rattle.sqlite.specs.Schema.{Schema}
@@ -18,9 +21,10 @@ use Rattle.sqlite.specs.Clock.{timed}
 use Rattle.sqlite_schema.specs.declared.command.Returning.{Returning}
 use Rattle.sqlite_schema.specs.Names.{same_name}
 use Rattle.sqlite.proofs.Callers.{IsPlain, command_of, reads_as, one_permutation}
-use Rattle.dns_sqlite.specs.Tables.{version_schema, journal_schema}
-use Rattle.dns_sqlite.specs.Versions.{HasVersions, has_versions, ShowsAll, IsVersion, number_of, known, version_of, version_text}
+use Rattle.dns_sqlite.specs.Tables.{version_schema, row_schema, batch_schema}
+use Rattle.dns_sqlite.specs.Versions.{HasVersions, has_versions, ShowsAll, IsVersion, is_version, number_of, known, version_of, version_text}
 use Rattle.dns_sqlite.proofs.Texts.{version_query, half_version_is, half_version_plain, whole_version_is, whole_version_plain}
+use Rattle.dns_sqlite.proofs.BatchTexts.{version_is2, version_plain2}
 
 abbrev each : Row → List Env
 each r = ([] ∷ r ∷ []) ∷ []
@@ -49,17 +53,20 @@ module _ (schema : Schema) (plain : IsPlain (understood schema version_text)) (i
 
 pub shows : (old new : State) (rows : List Row) → HasVersions old.now.schema → Shown version_text [] old new rows → ShowsAll (old.now.trees 0) rows × IsUnchanged old new
 shows old new rows (inl half) h = (finds_in version_schema half_version_plain half_version_is.0 half_version_is.1 old new rows half h, same_in version_schema half_version_plain half_version_is.0 half_version_is.1 old new rows half h)
-shows old new rows (inr whole) h =
-    (finds_in journal_schema whole_version_plain whole_version_is.0 whole_version_is.1 old new rows whole h, same_in journal_schema whole_version_plain whole_version_is.0 whole_version_is.1 old new rows whole h)
+shows old new rows (inr (inl whole)) h =
+    (finds_in row_schema whole_version_plain whole_version_is.0 whole_version_is.1 old new rows whole h, same_in row_schema whole_version_plain whole_version_is.0 whole_version_is.1 old new rows whole h)
+shows old new rows (inr (inr three)) h =
+    (finds_in batch_schema version_plain2 version_is2.0 version_is2.1 old new rows three h, same_in batch_schema version_plain2 version_is2.0 version_is2.1 old new rows three h)
 
 -- a table of the version is there where the tables are those of a journal
-there : (has_versions version_schema ≡ true) × (has_versions journal_schema ≡ true)
+there : (has_versions version_schema ≡ true) × (has_versions row_schema ≡ true) × (has_versions batch_schema ≡ true)
 unfolding same_name
-there = (refl, refl)
+there = (refl, refl, refl)
 
 pub not_there : (schema : Schema) → has_versions schema ≡ false → ¬ HasVersions schema
 not_there schema none (inl half) = absurd (let it : true ≡ false = sym there.0 ∙ ap has_versions (sym half) ∙ none in cc)
-not_there schema none (inr whole) = absurd (let it : true ≡ false = sym there.1 ∙ ap has_versions (sym whole) ∙ none in cc)
+not_there schema none (inr (inl whole)) = absurd (let it : true ≡ false = sym there.1 ∙ ap has_versions (sym whole) ∙ none in cc)
+not_there schema none (inr (inr three)) = absurd (let it : true ≡ false = sym there.2 ∙ ap has_versions (sym three) ∙ none in cc)
 
 -- ---- one row
 
@@ -128,14 +135,14 @@ version_shown tree rows n h v =
 
 -- ---- the version that rows show
 
-known_is : (o : Option ℤ) (n : ℤ) → known o ≡ Some n → o ≡ Some n
+known_is : (o : Option ℤ) (n : ℤ) → known o ≡ Some n → (o ≡ Some n) × (is_version n ≡ true)
 known_is None n e = absurd (cc)
-known_is (Some m) n e = elim (cases_Bool (int_eq m (pos 0))) [
-  | inl zero ↦ rw zero at e
-  | inr other ↦ elim (cases_Bool (int_eq m (pos 1))) [
-    | inl one ↦ rw (other, one) at e
-    | inr none ↦ absurd (let it : None ≡ Some n = rw (other, none) at e in cc)
-  ]
+known_is (Some m) n e = elim (cases_Bool (is_version m)) [
+  | inl is_so ↦
+      let same : Some m ≡ Some n = rw is_so at e in
+      let is : m ≡ n = cc in
+      (same, subst (λ k. is_version k ≡ true) is is_so)
+  | inr is_not ↦ absurd (let it : None ≡ Some n = rw is_not at e in cc)
 ]
 
 pub version_shows : (rows : List Row) (n : ℤ) → version_of rows ≡ Some n → shows_version n rows ≡ true
@@ -145,53 +152,64 @@ version_shows (r ∷ []) n e = go (number_of (column r 0)) (number_of (column r 
   where
     go : (id version : Option ℤ) → (if is_some id then known version else None) ≡ Some n → (is_some id && is_number n version) ≡ true
     go None version e = absurd (cc)
-    go (Some id) version e = subst (λ o. is_number n o ≡ true) (sym (known_is version n e)) (int_same n)
+    go (Some id) version e = subst (λ o. is_number n o ≡ true) (sym (known_is version n e).0) (int_same n)
 
-pub version_hides : (rows : List Row) → version_of rows ≡ None → (shows_version (pos 0) rows ≡ false) × (shows_version (pos 1) rows ≡ false)
-version_hides [] e = (refl, refl)
-version_hides (r ∷ s ∷ more) e = (refl, refl)
-version_hides (r ∷ []) e = go (number_of (column r 0)) (number_of (column r 1)) e
+other_number : (m n : ℤ) → is_version m ≡ false → is_version n ≡ true → int_eq m n ≡ false
+other_number m n p q = elim (cases_Bool (int_eq m n)) [
+  | inl same ↦ absurd (let is : m ≡ n = grind (arith, same) in let it : true ≡ false = sym q ∙ ap is_version (sym is) ∙ p in cc)
+  | inr other ↦ other
+]
+
+pub version_hides : (rows : List Row) (n : ℤ) → version_of rows ≡ None → is_version n ≡ true → shows_version n rows ≡ false
+version_hides [] n e fits = refl
+version_hides (r ∷ s ∷ more) n e fits = refl
+version_hides (r ∷ []) n e fits = go (number_of (column r 0)) (number_of (column r 1)) e
   where
-    go : (id version : Option ℤ) → (if is_some id then known version else None) ≡ None → ((is_some id && is_number (pos 0) version) ≡ false) × ((is_some id && is_number (pos 1) version) ≡ false)
-    go None version e = (refl, refl)
-    go (Some id) None e = (refl, refl)
-    go (Some id) (Some n) e = elim (cases_Bool (int_eq n (pos 0))) [
-      | inl zero ↦ absurd (let it : Some n ≡ None = rw zero at e in cc)
-      | inr other ↦ elim (cases_Bool (int_eq n (pos 1))) [
-        | inl one ↦ absurd (let it : Some n ≡ None = rw (other, one) at e in cc)
-        | inr none ↦ (other, none)
-      ]
+    go : (id version : Option ℤ) → (if is_some id then known version else None) ≡ None → (is_some id && is_number n version) ≡ false
+    go None version e = refl
+    go (Some id) None e = refl
+    go (Some id) (Some m) e = elim (cases_Bool (is_version m)) [
+      | inl known ↦ absurd (let it : Some m ≡ None = rw known at e in cc)
+      | inr none ↦ other_number m n none fits
     ]
 
 -- where rows that are shown have no version, the table has none
 pub lacks : (tree rows : List Row) (n : ℤ) → ShowsAll tree rows → shows_version n rows ≡ false → ¬ IsVersion n tree
 lacks tree rows n all hidden v = absurd (let e : true ≡ false = sym (version_shown tree rows n all v) ∙ hidden in cc)
 
--- ---- a version of a journal is 0 or 1
+-- ---- a version is the same number in 64 bits
 
-known_one : (o : Option ℤ) (n : ℤ) → known o ≡ Some n → (n ≡ pos 0) ⊎ (n ≡ pos 1)
-known_one None n e = absurd (cc)
-known_one (Some m) n e = elim (cases_Bool (int_eq m (pos 0))) [
-  | inl zero ↦ let same : Some m ≡ Some n = rw zero at e in let it : m ≡ pos 0 = grind arith in inl (let is : m ≡ n = cc in sym is ∙ it)
-  | inr other ↦ elim (cases_Bool (int_eq m (pos 1))) [
-    | inl one ↦ let same : Some m ≡ Some n = rw (other, one) at e in let it : m ≡ pos 1 = grind arith in inr (let is : m ≡ n = cc in sym is ∙ it)
-    | inr none ↦ absurd (let it : None ≡ Some n = rw (other, none) at e in cc)
-  ]
+-- by its number, which is small
+small : (n : ℤ) → is_version n ≡ true → (n ≡ pos 0) ⊎ ((n ≡ pos 1) ⊎ (n ≡ pos 2))
+small n e = elim (cases_Bool (le_z (pos 0) n)) [
+  | inl low ↦
+      let high : le_z n (pos 2) ≡ true = rw low at e in
+      elim (cases_Bool (int_eq n (pos 0))) [
+        | inl none ↦ inl (grind (arith, none))
+        | inr some ↦ elim (cases_Bool (int_eq n (pos 1))) [
+          | inl one ↦ inr (inl (grind (arith, one)))
+          | inr more ↦ inr (inr (grind (arith, ints, nat_tests, low, high, some, more)))
+        ]
+      ]
+  | inr under ↦ absurd (let it : false ≡ true = rw under at e in cc)
 ]
 
-version_one : (rows : List Row) (n : ℤ) → version_of rows ≡ Some n → (n ≡ pos 0) ⊎ (n ≡ pos 1)
+of_small : (n : ℤ) → (n ≡ pos 0) ⊎ ((n ≡ pos 1) ⊎ (n ≡ pos 2)) → to_z w64 (of_z w64 n) ≡ n
+of_small n (inl is) = rw is refl
+of_small n (inr (inl is)) = rw is refl
+of_small n (inr (inr is)) = rw is refl
+
+pub in_bits : (n : ℤ) → is_version n ≡ true → to_z w64 (of_z w64 n) ≡ n
+in_bits n e = of_small n (small n e)
+
+pub version_one : (rows : List Row) (n : ℤ) → version_of rows ≡ Some n → is_version n ≡ true
 version_one [] n e = absurd (cc)
 version_one (r ∷ s ∷ more) n e = absurd (cc)
 version_one (r ∷ []) n e = go (number_of (column r 0)) (number_of (column r 1)) e
   where
-    go : (id version : Option ℤ) → (if is_some id then known version else None) ≡ Some n → (n ≡ pos 0) ⊎ (n ≡ pos 1)
+    go : (id version : Option ℤ) → (if is_some id then known version else None) ≡ Some n → is_version n ≡ true
     go None version e = absurd (cc)
-    go (Some id) version e = known_one version n e
-
--- so it is the same number in 64 bits
-in_bits : (n : ℤ) → (n ≡ pos 0) ⊎ (n ≡ pos 1) → to_z w64 (of_z w64 n) ≡ n
-in_bits n (inl is) = rw is refl
-in_bits n (inr is) = rw is refl
+    go (Some id) version e = (known_is version n e).1
 
 -- the version that rows show is that of the table, where they are all that it has
 pub fits_table : (tree rows : List Row) (n : ℤ) → ShowsAll tree rows → version_of rows ≡ Some n → IsVersion (to_z w64 (of_z w64 n)) tree

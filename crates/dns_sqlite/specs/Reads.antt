@@ -1,5 +1,5 @@
 -- What a query leaves, and what the rows that it shows read as.
-use Rattle.std.specs.Prelude.{◌≡◌, ◌⊎◌, ◌≤◌, ℕ, ℤ, suc, false, List, [], ◌∷◌, IsTrue}
+use Rattle.std.specs.Prelude.{◌≡◌, ◌⊎◌, ◌≤◌, ℕ, ℤ, suc, false, List, [], ◌∷◌, map, Option, IsTrue}
 use Rattle.sqlite_trees.specs.View.{doubt}
 use Rattle.sqlite.specs.declared.types.Value.TheVariants.{Int, Text, Blob}
 use Rattle.sqlite.specs.Order.{Row as Shown, column}
@@ -9,8 +9,10 @@ use Rattle.sqlite.specs.Store.{Ghosts}
 use Rattle.sqlite.specs.Held.{Held, state}
 use Rattle.sqlite.specs.State.{State, HasCleanDisk, IsUnchanged, IsRolledBack}
 use Rattle.dns_keeper.specs.declared.row.Row.{Row}
-use Rattle.dns_sqlite.specs.Tables.{HasRows, from_text}
-use Rattle.dns_sqlite.specs.Statements.{HasTables}
+use Rattle.dns_keeper.specs.declared.batch_row.BatchRow.{BatchRow}
+use Rattle.dns_keeper.specs.Batches.{batch_from, AreByFirst}
+use Rattle.dns_sqlite.specs.Tables.{HasRows, from_text, stored_batch}
+use Rattle.dns_sqlite.specs.Statements.{HasTables, HasRecords}
 use Rattle.dns_sqlite.specs.Versions.{KeepsDatabase}
 
 pub record ReadsAs (shown : Shown) (row : Row) : Type 0 where
@@ -55,8 +57,16 @@ pub record WasAsked {S : Type 0} (g : Ghosts S) (old new : Held S) : Type 0 wher
 -- these are a page of the rows that the query goes on to show, if it stands at its start
 abbrev pub FindsPage : {S : Type 0} → Ghosts S → Held S → Held S → List Row → Type 0
 FindsPage g old new rows =
-    HasCleanDisk (state g new) → IsTrue (state g old).is_open → HasTables (state g old).now → (id : ℤ) → HasGiven g from_text (Int id ∷ []) old [] → HasPage id ((state g old).now.trees 1) rows
+    HasCleanDisk (state g new) → IsTrue (state g old).is_open → HasRecords (state g old).now → (id : ℤ) → HasGiven g from_text (Int id ∷ []) old [] → HasPage id ((state g old).now.trees 1) rows
 
 -- these are a page of the rows from this id on, and the connection is as it was
 abbrev pub ShowsPage : {S : Type 0} → Ghosts S → ℤ → Held S → Held S → List Row → Type 0
-ShowsPage g id old new rows = HasCleanDisk (state g new) → HasTables (state g old).now → HasPage id ((state g old).now.trees 1) rows × IsUnchanged (state g old) (state g new)
+ShowsPage g id old new rows = HasCleanDisk (state g new) → HasRecords (state g old).now → HasPage id ((state g old).now.trees 1) rows × IsUnchanged (state g old) (state g new)
+
+-- this is the batch of least first that is not below this id, or there is none, where the table has these batches by ascending first
+abbrev pub IsBatchIn : ℤ → List Shown → Option BatchRow → Type 0
+IsBatchIn id table found = (batches : List BatchRow) → AreByFirst batches → table ≡ map stored_batch batches → found ≡ batch_from id batches
+
+-- so it is of the table of batches
+abbrev pub ShowsBatch : {S : Type 0} → Ghosts S → ℤ → Held S → Held S → Option BatchRow → Type 0
+ShowsBatch g id old new found = HasCleanDisk (state g new) → HasTables (state g old).now → IsBatchIn id ((state g old).now.trees 2) found

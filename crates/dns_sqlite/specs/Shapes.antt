@@ -1,5 +1,5 @@
 -- The shapes of a database that a journal may have.
-use Rattle.std.specs.Prelude.{◌≡◌, ◌≢◌, ℕ, ℤ, pos, Bool, true, false, List, [], codes}
+use Rattle.std.specs.Prelude.{◌≡◌, ◌≢◌, ℕ, ℤ, Bool, true, false, List, [], codes}
 use Rattle.sqlite.specs.Collation.TheVariants.{Binary}
 use Rattle.sqlite.specs.declared.types.Value.TheVariants.{Null}
 use Rattle.sqlite_schema.specs.declared.schema.Column.{Column}
@@ -7,9 +7,12 @@ use Rattle.sqlite_schema.specs.declared.schema.Kind.{Kind}
 use Rattle.sqlite_schema.specs.declared.schema.Kind.TheVariants.{Integer}
 use Rattle.sqlite.specs.Table.{Table}
 use Rattle.sqlite.specs.Schema.{Schema}
-use Rattle.dns_sqlite.specs.Tables.{empty_schema, version_schema, journal_schema}
+use Rattle.dns_sqlite.specs.Tables.{empty_schema, version_schema, row_schema, batch_schema}
+use Rattle.dns_sqlite.specs.Versions.{version_alone, version_rows}
+use Rattle.dns_sqlite.specs.declared.schema.Start.{Start}
+use Rattle.dns_sqlite.specs.declared.schema.Start.TheVariants as start
 use Rattle.dns_sqlite.specs.declared.shape.Shape.{Shape}
-use Rattle.dns_sqlite.specs.declared.shape.Shape.TheVariants.{Empty, VersionAlone, Journal, Foreign}
+use Rattle.dns_sqlite.specs.declared.shape.Shape.TheVariants.{Empty, VersionAlone, Rows, Batches, Foreign}
 
 -- a column of this name and kind, with no default
 abbrev pub column_of : List ℕ → Kind → Bool → Column
@@ -35,15 +38,18 @@ pub record IsPlainTable (t : Table) : Type 0 where
 pub record IsForeign (schema : Schema) : Type 0 where
   pub empty : schema ≢ empty_schema
   pub version_alone : schema ≢ version_schema
-  pub journal : schema ≢ journal_schema
+  pub rows : schema ≢ row_schema
+  pub batches : schema ≢ batch_schema
 
 abbrev pub IsShape : Schema → Shape → Type 0
 IsShape schema Empty = schema ≡ empty_schema
 IsShape schema VersionAlone = schema ≡ version_schema
-IsShape schema Journal = schema ≡ journal_schema
+IsShape schema Rows = schema ≡ row_schema
+IsShape schema Batches = schema ≡ batch_schema
 IsShape schema Foreign = IsForeign schema
 
--- what the tables of version 1 are made from, by the version that is known: no table, or the table of the version alone, which says 0
-abbrev pub IsStart : Bool → ℤ → Schema → Type 0
-IsStart true version schema = schema ≡ empty_schema
-IsStart false version schema = (schema ≡ version_schema) × (version ≡ pos 0)
+-- from what the tables of the current version are made: no table, or those of an earlier version, where that is the version which is known
+abbrev pub IsStart : Start → ℤ → Schema → Type 0
+IsStart start.NoTable version schema = schema ≡ empty_schema
+IsStart start.VersionAlone version schema = (schema ≡ version_schema) × (version ≡ version_alone)
+IsStart start.Rows version schema = (schema ≡ row_schema) × (version ≡ version_rows)

@@ -1,5 +1,5 @@
 -- What statements do inside a transaction, and what a transaction does that is begun for them.
-use Rattle.std.specs.Prelude.{◌≡◌, ◌≤◌, true, false, IsTrue, Result, OnOk, OnErr}
+use Rattle.std.specs.Prelude.{◌≡◌, ◌⊎◌, ◌≤◌, true, false, IsTrue, Result, OnOk, OnErr}
 use Rattle.sqlite_trees.specs.View.{doubt}
 use Rattle.sqlite.specs.declared.error.Error.{Error}
 use Rattle.sqlite.specs.Schema.{Schema}
@@ -8,15 +8,19 @@ use Rattle.sqlite.specs.Effect.{Database}
 use Rattle.sqlite.specs.State.{State, HasCleanDisk, Survives, KeepsCommit}
 use Rattle.sqlite.specs.Store.{Ghosts}
 use Rattle.sqlite.specs.Held.{Held, state}
-use Rattle.dns_sqlite.specs.Tables.{journal_schema}
+use Rattle.dns_sqlite.specs.Tables.{row_schema, batch_schema}
 
 -- a database has this schema
 abbrev pub HasSchema : Schema → Database → Type 0
 HasSchema schema d = d.schema ≡ schema
 
--- a database has the tables of a journal, and nothing else
+-- a database has the tables of a journal of the current version, and nothing else
 abbrev pub HasTables : Database → Type 0
-HasTables = HasSchema journal_schema
+HasTables = HasSchema batch_schema
+
+-- it has the table of the rows, and no other than those of a journal
+abbrev pub HasRecords : Database → Type 0
+HasRecords d = HasSchema row_schema d ⊎ HasTables d
 
 -- statements inside a transaction, on a clean disk: where they are done, they lead from such a database to such a state, and are still
 -- inside; the last commit stays as it is, and a crash leaves what it left before

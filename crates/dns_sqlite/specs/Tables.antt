@@ -1,5 +1,5 @@
--- The two tables of a journal.
-use Rattle.std.specs.Prelude.{◌≡◌, Bool, filter, map, take, true, false, [], ◌∷◌, None, Some, codes, List, ℕ, ℤ}
+-- The tables of a journal.
+use Rattle.std.specs.Prelude.{◌≡◌, Bool, filter, map, take, true, false, [], ◌∷◌, Option, None, Some, codes, List, ℕ, ℤ}
 use Rattle.sqlite.specs.Collation.TheVariants.{Binary}
 use Rattle.sqlite.specs.declared.types.Value.TheVariants.{Null, Int, Text as Words, Blob as Octets}
 use Rattle.sqlite.specs.Order.{Row, column}
@@ -13,6 +13,7 @@ use Rattle.sqlite_sql.specs.declared.ops.CompareOp.TheVariants as cmp
 use Rattle.sqlite.specs.Table.{Table}
 use Rattle.sqlite.specs.Schema.{Schema}
 use Rattle.sqlite.specs.Kind.TheVariants.{Integer, Text, Any}
+use Rattle.dns_keeper.specs.declared.batch_row.BatchRow.{BatchRow}
 
 -- tdns_schema(version INTEGER NOT NULL)
 abbrev pub versions : Table
@@ -53,17 +54,39 @@ records = record {
   is_counted = false;
 }
 
--- both tables
-abbrev pub journal_schema : Schema
-journal_schema = record { tables = versions ∷ records ∷ []; indexes = []; views = [] }
+-- batches(first INTEGER PRIMARY KEY, count INTEGER NOT NULL)
+abbrev pub batches : Table
+batches = record {
+  name = codes "batches";
+  tree = 2;
+  columns = (record { name = codes "first"; kind = Integer; is_strict = false; not_null = false; default = Null; collation = Binary })
+      ∷ (record { name = codes "count"; kind = Integer; is_strict = false; not_null = true; default = Null; collation = Binary }) ∷ [];
+  key = Some 0;
+  primary = 0 ∷ [];
+  uniques = [];
+  orders = [];
+  checks = [];
+  references = [];
+  computed = [];
+  stamps = record { places = []; terms = []; formats = [] };
+  is_counted = false;
+}
+
+-- no table
+abbrev pub empty_schema : Schema
+empty_schema = record { tables = []; indexes = []; views = [] }
 
 -- the table of the version alone
 abbrev pub version_schema : Schema
 version_schema = record { tables = versions ∷ []; indexes = []; views = [] }
 
--- no table
-abbrev pub empty_schema : Schema
-empty_schema = record { tables = []; indexes = []; views = [] }
+-- the tables of the version and of the rows
+abbrev pub row_schema : Schema
+row_schema = record { tables = versions ∷ records ∷ []; indexes = []; views = [] }
+
+-- the tables of the version, of the rows and of the batches
+abbrev pub batch_schema : Schema
+batch_schema = record { tables = versions ∷ records ∷ batches ∷ []; indexes = []; views = [] }
 
 -- a row as it is stored: its rowid, and then its columns, of which the key is kept as NULL
 abbrev pub stored : ℤ → ℤ → ℤ → List ℕ → List ℕ → Row
@@ -96,3 +119,26 @@ HasRow = HasRows 1
 -- the query for the rows from an id on
 abbrev pub from_text : List ℕ
 from_text = codes "SELECT id, client_id, soa_serial, timestamp, record FROM records WHERE id >= ?1 ORDER BY id LIMIT 128"
+
+-- ---- batches
+
+-- a batch as it is stored: its first id is the rowid, and the key is kept as NULL
+abbrev pub stored_batch : BatchRow → Row
+stored_batch b = Int b.first ∷ Null ∷ Int b.count ∷ []
+
+-- what a batch is sorted by, and what is shown of it
+abbrev pub batch_seen : Row → Row × Row
+batch_seen r = (column r 0 ∷ [], column r 0 ∷ column r 2 ∷ [])
+
+-- the batch of least first that is not below this id, as the query shows it, or none
+abbrev pub HasBatchFrom : ℤ → List Row → List Row → Type 0
+HasBatchFrom id rows found = (ordered : List (Row × Row)) × IsPermutation (map batch_seen (filter (not_below id) rows)) ordered × IsSorted by_key ordered × (found ≡ take 1 (map (λ (o : Row × Row). o.1) ordered))
+
+-- what a query shows of a batch, if there is one
+abbrev pub shown_batches : Option BatchRow → List Row
+shown_batches None = []
+shown_batches (Some b) = (Int b.first ∷ Int b.count ∷ []) ∷ []
+
+-- the query for the batch of least first from an id on
+abbrev pub batch_text : List ℕ
+batch_text = codes "SELECT first, count FROM batches WHERE first >= ?1 ORDER BY first LIMIT 1"

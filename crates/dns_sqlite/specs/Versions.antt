@@ -1,6 +1,6 @@
--- The steps of the schema.
+-- The versions of a journal's schema, what each has, and what a database shows of its own.
 use Rattle.std.specs.Prelude.{◌≡◌, ◌≢◌, ◌⊎◌, map, ℕ, ℤ, pos, negsuc, Bool, true, false, List, [], ◌∷◌, IsTrue, Option, Some, None, Ok, is_some, if◌then◌else◌, codes}
-use Rattle.std.specs.Ordering.{int_eq}
+use Rattle.std.specs.Int.Signed.{le_z}
 use Rattle.sqlite.specs.declared.error.Error.{Error}
 use Rattle.sqlite.specs.declared.error.Error.TheVariants.{SqliteFailure}
 use Rattle.sqlite.specs.declared.error.ErrorCode.TheVariants.{OutOfMemory}
@@ -20,7 +20,35 @@ use Rattle.sqlite_schema.specs.Names.{table_named}
 use Rattle.sqlite.specs.Store.{Ghosts}
 use Rattle.sqlite.specs.Held.{Held, state}
 use Rattle.sqlite.specs.State.{State, HasCleanDisk, FailsToQuery}
-use Rattle.dns_sqlite.specs.Tables.{empty_schema, version_schema, journal_schema}
+use Rattle.dns_sqlite.specs.Tables.{empty_schema, version_schema, row_schema, batch_schema}
+
+-- ---- the versions, one after another, each with the tables that its step leaves
+
+-- no table (`empty_schema`)
+abbrev pub version_none : ℤ
+version_none = negsuc 0
+
+-- the table of the version alone (`version_schema`)
+abbrev pub version_alone : ℤ
+version_alone = pos 0
+
+-- and that of the rows (`row_schema`)
+abbrev pub version_rows : ℤ
+version_rows = pos 1
+
+-- and that of the batches (`batch_schema`)
+abbrev pub version_batches : ℤ
+version_batches = pos 2
+
+-- the last of them
+abbrev pub current_version : ℤ
+current_version = version_batches
+
+-- a number that the table of the version may hold
+abbrev pub is_version : ℤ → Bool
+is_version n = if le_z version_alone n then le_z n current_version else false
+
+-- ---- what a version has
 
 -- the one row of the table of the version
 abbrev pub IsVersion : ℤ → List Row → Type 0
@@ -30,17 +58,21 @@ IsVersion n rows = (id : ℤ) × (r : Row) × (rows ≡ r ∷ []) × (column r 0
 abbrev pub IsVersionless : Database → Type 0
 IsVersionless d = (d.schema ≡ version_schema) × (d.trees 0 ≡ [])
 
--- version 0
-abbrev pub IsVersionZero : Database → Type 0
-IsVersionZero d = (d.schema ≡ version_schema) × IsVersion (pos 0) (d.trees 0)
+-- the table of the version alone, which says so
+abbrev pub IsVersionAlone : Database → Type 0
+IsVersionAlone d = (d.schema ≡ version_schema) × IsVersion version_alone (d.trees 0)
 
--- both tables, and the version not yet raised
-abbrev pub HasBothTables : Database → Type 0
-HasBothTables d = (d.schema ≡ journal_schema) × IsVersion (pos 0) (d.trees 0) × (d.trees 1 ≡ [])
+-- the table of the rows too, and the version not yet raised
+abbrev pub HasRowTable : Database → Type 0
+HasRowTable d = (d.schema ≡ row_schema) × IsVersion version_alone (d.trees 0) × (d.trees 1 ≡ [])
 
--- version 1 with no row
-abbrev pub IsNewJournal : Database → Type 0
-IsNewJournal d = (d.schema ≡ journal_schema) × IsVersion (pos 1) (d.trees 0) × (d.trees 1 ≡ [])
+-- the version of a journal with rows and without batches, with no row
+abbrev pub HasNoRows : Database → Type 0
+HasNoRows d = (d.schema ≡ row_schema) × IsVersion version_rows (d.trees 0) × (d.trees 1 ≡ [])
+
+-- and with any rows
+abbrev pub IsVersionRows : Database → Type 0
+IsVersionRows d = (d.schema ≡ row_schema) × IsVersion version_rows (d.trees 0)
 
 -- what a step inside the transaction has made
 pub record HasMade (IsMade : Database → Type 0) (new : State) : Type 0 where
@@ -48,26 +80,11 @@ pub record HasMade (IsMade : Database → Type 0) (new : State) : Type 0 where
   pub sound : IsDatabase new.now
   pub mode : new.in_transaction ≡ true
 
--- no table, or version 0
-abbrev pub IsBefore : Bool → Database → Type 0
-IsBefore true d = d.schema ≡ empty_schema
-IsBefore false d = IsVersionZero d
+-- ---- what a database shows of its version
 
--- the new journal is there, and it is committed
-pub record BecomesNewJournal (new : State) : Type 0 where
-  pub made : IsNewJournal new.now
-  pub sound : IsDatabase new.now
-  pub is_open : new.is_open ≡ true
-  pub committed : new.committed ≡ new.now
-
--- what a crash may leave of it, where the connection was open: version 1 with no row
-abbrev pub MayBecomeJournal : Bool → State → Trees → Type 0
-MayBecomeJournal is_empty old db =
-    IsTrue old.is_open × (IsBefore is_empty old.now → (d : Database) × IsNewJournal d × IsDatabase d × (db ≡ d.trees))
-
--- the table of the version is there, and no other but that of the rows
+-- the table of the version is there, and no other but those of a journal
 abbrev pub HasVersions : Schema → Type 0
-HasVersions schema = (schema ≡ version_schema) ⊎ (schema ≡ journal_schema)
+HasVersions schema = (schema ≡ version_schema) ⊎ ((schema ≡ row_schema) ⊎ (schema ≡ batch_schema))
 
 -- a table of the version, of whatever columns
 abbrev pub has_versions : Schema → Bool
@@ -111,10 +128,10 @@ abbrev pub number_of : Value → Option ℤ
 number_of (Int n) = Some n
 number_of _ = None
 
--- 0 and 1 are versions of a journal
+-- a number that the table of the version may hold
 abbrev pub known : Option ℤ → Option ℤ
 known None = None
-known (Some n) = if int_eq n (pos 0) then Some n else if int_eq n (pos 1) then Some n else None
+known (Some n) = if is_version n then Some n else None
 
 -- the version in one row, which has a number for its rowid too
 abbrev pub version_of : List Row → Option ℤ
@@ -122,18 +139,18 @@ version_of [] = None
 version_of (r ∷ []) = if is_some (number_of (column r 0)) then known (number_of (column r 1)) else None
 version_of (r ∷ s ∷ more) = None
 
--- the version of a database: -1 where there is no table of the version, whatever else there is, and else that in its one row
+-- the version of a database: that of no table where there is no table of the version, whatever else there is, and else that in its one row
 abbrev pub IsAtVersion : ℤ → Database → Type 0
 IsAtVersion n d =
-    ((n ≡ negsuc 0) × (has_versions d.schema ≡ false)) ⊎ ((has_versions d.schema ≡ true) × (rows : List Row) × ShowsVersions d rows × (version_of rows ≡ Some n))
+    ((n ≡ version_none) × (has_versions d.schema ≡ false)) ⊎ ((has_versions d.schema ≡ true) × (rows : List Row) × ShowsVersions d rows × (version_of rows ≡ Some n))
 
 -- the table of the version is there, and has not one row, or its number is none of a journal
 pub record LacksVersion (d : Database) : Type 0 where
   pub there : has_versions d.schema ≡ true
   pub shown : (rows : List Row) × ShowsVersions d rows × (version_of rows ≡ None)
-  pub apart : HasVersions d.schema → (¬ IsVersion (pos 0) (d.trees 0)) × (¬ IsVersion (pos 1) (d.trees 0))
+  pub apart : HasVersions d.schema → (n : ℤ) → is_version n ≡ true → ¬ IsVersion n (d.trees 0)
 
--- where the tables are those of a journal, or that of the version alone, it has this version
+-- where the tables are those of a journal, or some of them, it has this version
 abbrev pub FitsTables : ℤ → Database → Type 0
 FitsTables n d = HasVersions d.schema → IsVersion n (d.trees 0)
 

@@ -1,13 +1,16 @@
 //! Which of the schemas of a journal a database has.
 
-ghost use Rattle.std.specs.Prelude.{◌≡◌, ◌≢◌, ◌↔◌, pos, true, false, [], ◌∷◌, Some, codes, IsTrue, IfSome};
+ghost use Rattle.std.specs.Prelude.{◌≡◌, ◌≢◌, ◌↔◌, true, false, [], ◌∷◌, Some, codes, IsTrue, IfSome};
 ghost use Rattle.sqlite.specs.Held.{state};
 ghost use Rattle.sqlite.specs.declared.types.Value.TheVariants.{Null};
 ghost use Rattle.dns_sqlite.specs.Statements.{HasTables};
 ghost use Rattle.dns_sqlite.specs.Shapes.{column_of, AreNumbers, IsPlainTable, IsShape, IsStart};
 ghost use Rattle.sqlite.specs.Kind.TheVariants.{Integer};
-ghost use Rattle.dns_sqlite.specs.Tables.{versions, records};
+ghost use Rattle.dns_sqlite.specs.Tables.{versions, records, batches};
+ghost use Rattle.dns_sqlite.specs.Versions.{version_alone, version_rows};
+ghost use Rattle.dns_sqlite.specs.declared.schema.Start.TheVariants.{VersionAlone as FromVersion, Rows as FromRows};
 
+use crate::schema::Start;
 use sqlite::{Alter, Connection};
 use sqlite_schema::schema::{Column, Kind, Schema, Table};
 use sqlite_value::keys::Collation;
@@ -21,7 +24,9 @@ pub enum Shape {
     /// The table of the version alone.
     VersionAlone,
     /// The tables of the version and of the rows.
-    Journal,
+    Rows,
+    /// The tables of the version, of the rows and of the batches.
+    Batches,
     /// Anything else.
     Foreign,
 }
@@ -181,11 +186,39 @@ fn is_records(table: &Table) -> bool
     are_columns(table.columns.as_slice())
 }
 
+/// The columns of a batch.
+fn are_batch_columns(columns: &[Column]) -> bool
+    ensures { IsTrue result ↔ (columns.now ≡ batches.columns) }
+{
+    match columns {
+        [first, count] => {
+            if !is_column(first, b"first".as_slice(), Kind::Integer, false) {
+                return false;
+            }
+            is_column(count, b"count".as_slice(), Kind::Integer, true)
+        }
+        _ => false,
+    }
+}
+
+/// Whether this is the table of the batches.
+fn is_batches(table: &Table) -> bool
+    ensures { IsTrue result ↔ (table.now ≡ batches) }
+{
+    if !is_named(table, b"batches".as_slice(), 2) {
+        return false;
+    }
+    if !is_keyed(table) {
+        return false;
+    }
+    are_batch_columns(table.columns.as_slice())
+}
+
 /// The shape of a database with one table.
 fn shape_of_one(first: &Table) -> Shape
     ensures alone { result ≡ Shape.VersionAlone → first.now ≡ versions }
     ensures foreign { result ≡ Shape.Foreign → first.now ≢ versions }
-    ensures other { (result ≢ Shape.Empty) × (result ≢ Shape.Journal) }
+    ensures other { (result ≢ Shape.Empty) × (result ≢ Shape.Rows) × (result ≢ Shape.Batches) }
 {
     if is_versions(first) {
         Shape::VersionAlone
@@ -196,15 +229,31 @@ fn shape_of_one(first: &Table) -> Shape
 
 /// The shape of a database with two tables.
 fn shape_of_two(first: &Table, second: &Table) -> Shape
-    ensures journal { result ≡ Shape.Journal → (first.now ≡ versions) × (second.now ≡ records) }
+    ensures rows { result ≡ Shape.Rows → (first.now ≡ versions) × (second.now ≡ records) }
     ensures foreign { result ≡ Shape.Foreign → first.now ≡ versions → second.now ≢ records }
-    ensures other { (result ≢ Shape.Empty) × (result ≢ Shape.VersionAlone) }
+    ensures other { (result ≢ Shape.Empty) × (result ≢ Shape.VersionAlone) × (result ≢ Shape.Batches) }
 {
     if !is_versions(first) {
         return Shape::Foreign;
     }
     if is_records(second) {
-        Shape::Journal
+        Shape::Rows
+    } else {
+        Shape::Foreign
+    }
+}
+
+/// The shape of a database with three tables.
+fn shape_of_three(first: &Table, second: &Table, third: &Table) -> Shape
+    ensures batches { result ≡ Shape.Batches → (first.now ≡ versions) × (second.now ≡ records) × (third.now ≡ batches) }
+    ensures foreign { result ≡ Shape.Foreign → first.now ≡ versions → second.now ≡ records → third.now ≢ batches }
+    ensures other { (result ≢ Shape.Empty) × (result ≢ Shape.VersionAlone) × (result ≢ Shape.Rows) }
+{
+    if shape_of_two(first, second) != Shape::Rows {
+        return Shape::Foreign;
+    }
+    if is_batches(third) {
+        Shape::Batches
     } else {
         Shape::Foreign
     }
@@ -224,35 +273,52 @@ pub fn shape_of(schema: &Schema) -> Shape
         [] => Shape::Empty,
         [first] => shape_of_one(first),
         [first, second] => shape_of_two(first, second),
+        [first, second, third] => shape_of_three(first, second, third),
         _ => Shape::Foreign,
     }
 }
 
-/// Whether a connection has the two tables of a journal, and no other table, index or view.
+/// Whether a connection has the three tables of a journal, and no other table, index or view.
 pub fn has_tables<S: Alter>(conn: &Connection<S>) -> bool
     ensures { IsTrue result ↔ HasTables (state S.Store conn.now).now }
 {
     match shape_of(conn.schema()) {
-        Shape::Journal => true,
+        Shape::Batches => true,
         _ => false,
     }
 }
 
-/// From what the tables are made, where the journal has this version: from an empty database, or else from the table of the version
-/// alone. None where the connection shows neither.
-pub fn start_of<S: Alter>(conn: &Connection<S>, version: i64) -> Option<bool>
-    ensures { IfSome result (λ is_empty. IsStart is_empty version (state S.Store conn.now).now.schema) }
+/// From what the tables of the current version are made, where the journal has this version: from an empty database, or else from the
+/// tables of an earlier version, which has to be this one. None where the connection shows none of them.
+pub fn start_of<S: Alter>(conn: &Connection<S>, version: i64) -> Option<Start>
+    ensures { IfSome result (λ start. IsStart start version (state S.Store conn.now).now.schema) }
 {
     match shape_of(conn.schema()) {
-        Shape::Empty => Some(true),
+        Shape::Empty => Some(Start::NoTable),
         Shape::VersionAlone => alone_of(version),
+        Shape::Rows => rows_of(version),
         _ => None,
     }
 }
 
 /// The start from the table of the version alone, which has to say 0.
-fn alone_of(version: i64) -> Option<bool>
-    ensures { IfSome result (λ is_empty. (is_empty ≡ false) × (version ≡ pos 0)) }
+fn alone_of(version: i64) -> Option<Start>
+    ensures { IfSome result (λ start. (start ≡ FromVersion) × (version ≡ version_alone)) }
 {
-    if version == 0 { Some(false) } else { None }
+    if version == 0 {
+        Some(Start::VersionAlone)
+    } else {
+        None
+    }
+}
+
+/// The start from the tables of the version and of the rows, which have to be of version 1.
+fn rows_of(version: i64) -> Option<Start>
+    ensures { IfSome result (λ start. (start ≡ FromRows) × (version ≡ version_rows)) }
+{
+    if version == 1 {
+        Some(Start::Rows)
+    } else {
+        None
+    }
 }

@@ -10,6 +10,7 @@ ghost use Rattle.dns_sqlite.specs.Versions.{has_versions, no_memory, number_of, 
 ghost use Rattle.dns_sqlite.specs.Versions.{KeepsDatabase, TellsVersions, RefusedWith, IsRefusedFor};
 ghost use Rattle.dns_sqlite.specs.declared.version.VersionFault.TheVariants.{NoVersion, Refused};
 
+use crate::schema::CURRENT_VERSION;
 use sqlite::types::Value;
 use sqlite::{Alter, Connection, Error, ErrorCode, Row};
 use sqlite_schema::schema::Schema;
@@ -64,18 +65,17 @@ fn number_in(row: &Row, at: usize) -> Result<Option<i64>, Error>
     }
 }
 
-/// A number that is a version of a journal: 0 or 1.
+/// A number that is a version of a journal: from 0 to the current one.
 fn known(number: Option<i64>) -> Option<i64>
     ensures { result ≡ known number }
 {
     let Some(version) = number else {
         return None;
     };
-    if version == 0 {
-        return Some(version);
-    }
-    if version == 1 {
-        return Some(version);
+    if 0 <= version {
+        if version <= CURRENT_VERSION {
+            return Some(version);
+        }
     }
     None
 }
@@ -97,7 +97,7 @@ fn version_in(rows: &[Row]) -> Result<Option<i64>, Error>
 }
 
 /// The version of a journal: -1 in a database with no table of the version, whatever else it has; else the number of the one row of
-/// that table, 0 or 1. It changes nothing, and what a crash may leave stays as it is.
+/// that table, from 0 to the current version. It changes nothing, and what a crash may leave stays as it is.
 pub fn select_schema_version<S: Alter>(conn: &mut Connection<S>) -> Result<i64, VersionFault>
     ensures asked { WasAsked S.Store conn.old conn.new }
     ensures shown { OnOk result (KeepsDatabase (state S.Store conn.old) (state S.Store conn.new)) }

@@ -1,11 +1,11 @@
-//! Journals over a connection in memory: their tables, their rows and their records, more of them than are read at a time, rows that are
+//! Journals over a connection in memory: their tables, their rows, batches and records, more of them than are read at a time, rows that are
 //! damaged or missing, and statements that are refused.
 
 ghost use Rattle.std.specs.Prelude.{IfOk};
 ghost use Rattle.dns_wire.specs.WireFormat.{IsShort, AreShort};
 
 use crate::words::parted_at;
-use dns_journal::{Journal, KeepFault, Keeper, PersistenceError, RecoveryKind, Row};
+use dns_journal::{BatchRow, Journal, KeepFault, Keeper, PersistenceError, RecoveryKind, Row};
 use dns_name::{Name, ProtoError};
 use dns_rows::bytes_of;
 use dns_wire::{Data, Record, Records, read_record};
@@ -17,8 +17,8 @@ use std::test::Fail;
 /// The stamp of the moment 0.
 const EPOCH: &str = "1970-01-01 00:00:00.000";
 
-/// What comes of calls on a journal that is without tables at first, each answer with a `;` behind it. Between them statements
-/// may be executed on its connection.
+/// What comes of calls on a journal that is without tables at first, each answer with a `;` behind it. Between them statements,
+/// parted by ` && `, may be executed on its connection.
 pub fn journal(alloc: Global, given: &str) -> Result<String, Fail> {
     let mut told = String::new(alloc);
     let mut journal = empty_journal(alloc)?;
@@ -45,15 +45,17 @@ fn journal_over(alloc: Global, conn: Connection<MemStore>) -> Result<Journal<Mem
     Ok(Journal::new(alloc, conn)?)
 }
 
-/// The journal after a statement on its connection.
+/// The journal after statements on its connection.
 fn after(
     alloc: Global,
     journal: Journal<MemStore>,
-    statement: &str,
+    statements: &str,
 ) -> Result<Journal<MemStore>, Fail> {
     let mut conn = journal.into_conn();
-    if conn.execute(statement, &[]).is_err() {
-        return Err(Fail::from("the statement is refused"));
+    for statement in statements.split(" && ") {
+        if conn.execute(statement, &[]).is_err() {
+            return Err(Fail::from("the statement is refused"));
+        }
     }
     journal_over(alloc, conn)
 }
@@ -72,6 +74,7 @@ fn tell(
         "count" => put(&record_count(journal), told),
         "rows" => put(&row_count(journal, words), told),
         "row" => tell_row(alloc, journal.row_from(id_of(words)), told),
+        "batch" => tell_batch(journal.batch_from(id_of(words)), told),
         "record" => tell_record(journal.select_record(id_of(words)), told),
         "next" => tell_record(journal.try_next(id_of(words)), told),
         _ => change(alloc, journal, kind, words, told),
@@ -114,6 +117,15 @@ fn tell_row(
 ) -> Result<(), Fail> {
     match found {
         Ok(Some(row)) => put_row(alloc, &row, told),
+        Ok(None) => Ok(told.push_str("none;")?),
+        Err(fault) => put(&fault, told),
+    }
+}
+
+/// Adds the batch that was found.
+fn tell_batch(found: Result<Option<BatchRow>, KeepFault>, told: &mut String) -> Result<(), Fail> {
+    match found {
+        Ok(Some(batch)) => Ok(write!(told, "{} {};", batch.first, batch.count)?),
         Ok(None) => Ok(told.push_str("none;")?),
         Err(fault) => put(&fault, told),
     }

@@ -4,7 +4,7 @@ ghost use Rattle.std.specs.Prelude.{IsTrue, IfOk};
 ghost use Rattle.sqlite_disk.specs.Memory.{memory_is_usable};
 
 use crate::journals::{record, record_count, records_of};
-use dns_journal::Journal;
+use dns_journal::{CURRENT_VERSION, Journal};
 use dns_wire::{Record, Records};
 use sqlite::{Alter, Connection, FileStore, Files, Options};
 use sqlite_disk::{Disk, Fuse, Memory};
@@ -123,7 +123,7 @@ fn reopened(alloc: Global, log: Memory, db: Memory) -> Result<Journal<FileStore<
 
 fn counted(journal: &mut Journal<FileStore<Memory>>) -> Result<(i64, u32), Fail> {
     let version = journal.schema_version();
-    if version != 1 {
+    if version != CURRENT_VERSION {
         return Ok((version, 0));
     }
     Ok((version, record_count(journal)?))
@@ -132,9 +132,9 @@ fn counted(journal: &mut Journal<FileStore<Memory>>) -> Result<(i64, u32), Fail>
 /// What may be left after so many steps: all of these, and of the next one nothing or the whole.
 fn may_be_left(done: u32, version: i64, count: u32) -> bool {
     match done {
-        0 => count == 0 && (version == -1 || version == 1),
-        1 => version == 1 && (count == 0 || count == 8),
-        2 => version == 1 && (count == 8 || count == 9),
-        _ => version == 1 && count == 9,
+        0 => count == 0 && (version == -1 || version == CURRENT_VERSION),
+        1 => version == CURRENT_VERSION && (count == 0 || count == 8),
+        2 => version == CURRENT_VERSION && (count == 8 || count == 9),
+        _ => version == CURRENT_VERSION && count == 9,
     }
 }

@@ -8,31 +8,33 @@ use Rattle.dns_keeper.specs.declared.row.Row.{Row}
 use Rattle.dns_keeper.specs.declared.keeper.KeepFault.{KeepFault}
 use Rattle.dns_keeper.specs.declared.keeper.KeepFault.TheVariants as keep
 use Rattle.dns_keeper.specs.Rows.{appended}
-use Rattle.dns_keeper.specs.Keeping.{KeeperOf, GrowsByBatch, HasCause}
+use Rattle.dns_keeper.specs.Keeping.{KeeperOf, GrowsByBatch, KeepsBatches, HasCause}
 use Rattle.dns_zone_map.specs.Zone.{Contents, IsZone}
 use Rattle.dns_update.specs.Change.{batch_of, serial_after_batch, applied}
 use Rattle.dns_update.specs.declared.batch.Batch.{Batch}
 use Rattle.dns_update.specs.Replay.{IsJournalledAsIs, Replays}
-use Rattle.dns_zone.specs.Updates.{IsBatchOf, zone_after, Journals}
+use Rattle.dns_zone.specs.Updates.{IsBatchOf, zone_after, GrowsRun, Journals}
 use Rattle.dns_store.specs.Store.{StoreOf, HasRows, StandFor, IsStored, zone_with, IsGrown, Stores}
 use Rattle.dns_store.proofs.Opened.{length-rows_of}
+use Rattle.dns_store.proofs.ToldBatches.{covered_kept, covered_grown, last_told}
 
-HasRows-kept : (before after : Option (List Row)) (n : ℕ) → Keeps before after → HasRows before n → HasRows after n
+pub HasRows-kept : (before after : Option (List Row)) (n : ℕ) → Keeps before after → HasRows before n → HasRows after n
 HasRows-kept before None n kept has = tt
 HasRows-kept None (Some after) n kept has = absurd kept
 HasRows-kept (Some before) (Some after) n kept has = ap length kept ∙ has
 
-StandFor-kept : (before after : Option (List Row)) (zone : Contents) → Keeps before after → StandFor before zone → StandFor after zone
+pub StandFor-kept : (before after : Option (List Row)) (zone : Contents) → Keeps before after → StandFor before zone → StandFor after zone
 StandFor-kept before None zone kept stand = tt
 StandFor-kept None (Some after) zone kept stand = absurd kept
 StandFor-kept (Some before) (Some after) zone kept stand = subst (λ (rows : List Row). Replays zone.origin rows (Ok zone.records)) (sym kept) stand
 
 -- a store whose keeper kept its rows is stored
 pub IsStored-kept : {K : Type 0} (keeper : KeeperOf K) (store : StoreOf K) (held : K) → IsStored keeper store → Keeps (keeper.told store.keeper).rows (keeper.told held).rows
-    → IsStored keeper (record store { keeper = held })
-IsStored-kept keeper store held is kept = record {
+    → KeepsBatches (keeper.told store.keeper) (keeper.told held) → IsStored keeper (record store { keeper = held })
+IsStored-kept keeper store held is kept batches = record {
   count = HasRows-kept (keeper.told store.keeper).rows (keeper.told held).rows store.row_count kept is.count;
   zone = StandFor-kept (keeper.told store.keeper).rows (keeper.told held).rows store.zone kept is.zone;
+  covered = covered_kept (keeper.told store.keeper) (keeper.told held) kept batches is.covered;
 }
 
 HasRows-grown : (before after : Option (List Row)) (client serial moment : ℕ) (batch : List Record) (n : ℕ) → HasRows before n → GrowsByBatch before after client serial moment batch → HasRows after (n + length batch)
@@ -67,6 +69,7 @@ updated held zone row_count = record { keeper = held; zone = zone; row_count = r
 pub record IsDone {K : Type 0} (keeper : KeeperOf K) (store : StoreOf K) (held : K) (client moment : ℕ) (updates : List Record) (batch : Batch) (zone : Contents) : Type 0 where
   pub is : IsBatchOf store.zone updates batch
   pub done : Journals keeper store.keeper held client moment store.zone batch zone
+  pub run : GrowsRun keeper store.keeper held batch
   pub idle : length batch.records ≡ 0 → held ≡ store.keeper
   pub was : IsZone store.zone.origin store.zone.records
   pub listed : AllByRecursion (IsJournalledAsIs store.zone.origin) batch.records
@@ -95,6 +98,7 @@ module _ {K : Type 0} (keeper : KeeperOf K) (store : StoreOf K) (held : K) (clie
   grown_by some after by = record {
     some = some;
     grown = grew by;
+    run = is.run some;
     uncounted = is.uncounted;
     is = ap (λ (z : Contents). updated held z (store.row_count + length batch.records)) (becomes after);
   }
@@ -115,6 +119,8 @@ module _ {K : Type 0} (keeper : KeeperOf K) (store : StoreOf K) (held : K) (clie
     count = HasRows-grown (keeper.told store.keeper).rows (keeper.told held).rows client _ moment batch.records store.row_count stood.count (grew d.2);
     zone = subst (λ (z : Contents). StandFor (keeper.told held).rows z) (sym (becomes d.1))
         (StandFor-grown law (keeper.told store.keeper).rows (keeper.told held).rows client moment store.zone batch.records is.was is.listed stood.zone (grew d.2));
+    covered = covered_grown (keeper.told store.keeper) (keeper.told held) client batch.serial moment batch.records d.2 (is.run d.0)
+        (last_told (keeper.told store.keeper).rows store.zone stood.zone) stood.covered;
   }
 
   -- its rows stand for its zone
@@ -132,12 +138,12 @@ module _ {K : Type 0} (keeper : KeeperOf K) (store : StoreOf K) (held : K) (clie
 -- an update was refused
 pub stores_refused : {K : Type 0} (keeper : KeeperOf K) (store : StoreOf K) (held : K) (zone : Contents) (client moment : ℕ) (batch : List Record) (result : Result Batch KeepFault) (fault : KeepFault)
     → result ≡ Err fault → zone ≡ store.zone → (IsErrOf result keep.Failed → 0 < length batch) → Keeps (keeper.told store.keeper).rows (keeper.told held).rows
-    → HasCause (keeper.told store.keeper).faults (keeper.told held).faults result → Stores keeper store client moment batch (Err fault) (updated held zone store.row_count)
-stores_refused {K} keeper store held zone client moment batch result fault was same some kept cause =
+    → KeepsBatches (keeper.told store.keeper) (keeper.told held) → HasCause (keeper.told store.keeper).faults (keeper.told held).faults result → Stores keeper store client moment batch (Err fault) (updated held zone store.row_count)
+stores_refused {K} keeper store held zone client moment batch result fault was same some kept batches cause =
     subst (λ (z : Contents). Stores keeper store client moment batch (Err fault) (updated held z store.row_count)) (sym same)
     (refused fault was (subst (HasCause (keeper.told store.keeper).faults (keeper.told held).faults) was cause))
   where
     refused : (fault : KeepFault) → result ≡ Err fault → HasCause {T = Batch} (keeper.told store.keeper).faults (keeper.told held).faults (Err fault)
         → Stores keeper store client moment batch (Err fault) (record store { keeper = held })
-    refused keep.Failed was is = record { some = some was; same = refl; kept = kept; later = is.later; rose = is.counts }
-    refused keep.OutOfMemory was is = record { same = refl; kept = kept; uncounted = is.counts }
+    refused keep.Failed was is = record { some = some was; same = refl; kept = kept; batches = batches; later = is.later; rose = is.counts }
+    refused keep.OutOfMemory was is = record { same = refl; kept = kept; batches = batches; uncounted = is.counts }

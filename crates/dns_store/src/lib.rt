@@ -2,11 +2,13 @@
 //! is answered and what is counted stand above it.
 #![tactic(auto)]
 
+mod covering;
 mod kept_records;
+pub mod laws;
 mod opening;
 mod opening_records;
 mod recovering;
 mod store;
 
-pub use opening::{BeginFault, OpenFault, OpenKind};
+pub use opening::{OpenFault, OpenKind};
 pub use store::Store;

@@ -4,14 +4,18 @@ ghost use Rattle.std.specs.Prelude.{◌≡◌, ◌++◌, ◌∷◌, ◌+ℤ◌, 
 ghost use Rattle.std.specs.Int.{w64};
 ghost use Rattle.dns_name.specs.Name.{fold_of};
 ghost use Rattle.dns_keeper.specs.declared.row.Row.{Row as JournalRow};
+ghost use Rattle.dns_keeper.specs.RunsSoFar.{AreRunsOf};
 ghost use Rattle.dns_update.specs.Replay.{Replays};
 ghost use Rattle.dns_zone.specs.Replaying.{HasTaken};
 ghost use Rattle.dns_store.specs.Store.{HasRows, StandFor};
-ghost use Rattle.dns_store.specs.Opening.{IsUnread};
-ghost use Rattle.dns_store.specs.Recovering.{kind_of, keeper_kind, TellsRefusal, IsKeepers, ReadsRows, IsFirst, IsFirstFrom, AreTaken};
+ghost use Rattle.dns_store.specs.Opening.{AreUnread, IsUnread, IsKeepers};
+ghost use Rattle.dns_store.specs.Covered.{IsCovered};
+ghost use Rattle.dns_store.specs.Covering.{HaveRuns};
+ghost use Rattle.dns_store.specs.Recovering.{kind_of, keeper_kind, TellsRefusal, ReadsRows, IsFirst, IsFirstFrom, AreTaken};
 
+use crate::covering::look_over;
 use crate::opening::OpenKind;
-use dns_keeper::{KeepFault, Keeper, Row};
+use dns_keeper::{KeepFault, Keeper, Row, RowRuns};
 use dns_name::Name;
 use dns_zone::{ReplayFault, Replaying, Zone};
 use std::alloc::Global;
@@ -25,15 +29,25 @@ pub(crate) struct Recovered {
     pub(crate) row_count: u64,
 }
 
+/// A zone that was read back from rows, and the runs of these.
+#[derive(Drop)]
+struct Replay {
+    back: Recovered,
+    runs: RowRuns,
+}
+
 /// Rows that were taken.
 #[derive(Drop)]
 struct Taken {
     replaying: Replaying,
+    /// The runs of them.
+    runs: RowRuns,
     /// How many they are.
     row_count: u64,
 }
 
-/// Reads all rows of a keeper back, from the least id on: the zone of this origin that they stand for.
+/// Reads all rows of a keeper back, from the least id on: the zone of this origin that they stand for. Then looks whether the batches cover
+/// them.
 pub(crate) fn read_back<K: Keeper>(
     alloc: Global,
     keeper: &mut K,
@@ -42,36 +56,58 @@ pub(crate) fn read_back<K: Keeper>(
     ensures origin { IfOk result (λ back. back.zone.origin ≡ fold_of origin.now) }
     ensures count { IfOk result (λ back. HasRows (K.keeper.told keeper.new).rows back.row_count) }
     ensures zone { IfOk result (λ back. StandFor (K.keeper.told keeper.new).rows back.zone) }
-    ensures err { IfErr result (IsUnread (K.keeper.told keeper.old).rows (K.keeper.told keeper.new).rows origin.now) }
+    ensures covered { OnOk result (IsCovered (K.keeper.told keeper.new)) }
+    ensures err { IfErr result (IsUnread (K.keeper.told keeper.old) (K.keeper.told keeper.new) origin.now) }
+    ensures reads { ReadsRows K.keeper keeper.old keeper.new result }
+{
+    let Replay { back, runs } = replay_rows(alloc, keeper, origin)?;
+    look_over(keeper, runs)?;
+    Ok(back)
+}
+
+/// Reads all rows of a keeper back, from the least id on: the zone of this origin that they stand for, and their runs.
+fn replay_rows<K: Keeper>(alloc: Global, keeper: &mut K, origin: &Name) -> Result<Replay, OpenKind>
+    ensures origin { IfOk result (λ replay. replay.back.zone.origin ≡ fold_of origin.now) }
+    ensures count { IfOk result (λ replay. HasRows (K.keeper.told keeper.new).rows replay.back.row_count) }
+    ensures zone { IfOk result (λ replay. StandFor (K.keeper.told keeper.new).rows replay.back.zone) }
+    ensures runs { IfOk result (λ replay. IfSome (K.keeper.told keeper.new).rows (HaveRuns replay.runs)) }
+    ensures err { IfErr result (AreUnread (K.keeper.told keeper.old).rows (K.keeper.told keeper.new).rows origin.now) }
     ensures reads { ReadsRows K.keeper keeper.old keeper.new result }
 {
     let Taken {
         replaying,
+        runs,
         row_count,
     } = take_rows(alloc, keeper, origin)?;
     match replaying.finish() {
-        Ok(zone) => Ok(Recovered { zone, row_count }),
+        Ok(zone) => Ok(Replay {
+            back: Recovered { zone, row_count },
+            runs,
+        }),
         Err(fault) => Err(kind_of(fault)),
     }
 }
 
-/// Takes all rows of a keeper, from the least id on.
+/// Takes all rows of a keeper, from the least id on, and counts their runs.
 fn take_rows<K: Keeper>(alloc: Global, keeper: &mut K, origin: &Name) -> Result<Taken, OpenKind>
     ensures origin { IfOk result (λ taken. taken.replaying.origin ≡ fold_of origin.now) }
-    ensures all { IfOk result (λ taken. IfSome (K.keeper.told keeper.new).rows (AreTaken taken.replaying taken.row_count)) }
-    ensures err { IfErr result (IsUnread (K.keeper.told keeper.old).rows (K.keeper.told keeper.new).rows origin.now) }
+    ensures all { IfOk result (λ taken. IfSome (K.keeper.told keeper.new).rows (AreTaken taken.replaying taken.runs taken.row_count)) }
+    ensures err { IfErr result (AreUnread (K.keeper.told keeper.old).rows (K.keeper.told keeper.new).rows origin.now) }
     ensures reads { ReadsRows K.keeper keeper.old keeper.new result }
 {
     let mut replaying = no_rows(alloc, origin)?;
+    let mut runs = RowRuns::new(alloc);
     let mut next = first_row(keeper)?;
     for row_count in 0..u64::MAX {
         let Some(row) = next else {
             return Ok(Taken {
                 replaying,
+                runs,
                 row_count,
             });
         };
         take_row(alloc, &mut replaying, &row)?;
+        count_row(&mut runs, &row)?;
         next = row_behind(keeper, &row)?;
     }
     // No journal has so many rows.
@@ -101,6 +137,17 @@ fn take_row(alloc: Global, replaying: &mut Replaying, row: &Row) -> Result<(), O
     match replaying.take(alloc, row) {
         Ok(()) => Ok(()),
         Err(fault) => Err(kind_of(fault)),
+    }
+}
+
+/// Counts the next row among the runs.
+fn count_row(runs: &mut RowRuns, row: &Row) -> Result<(), OpenKind>
+    ensures counted { OnOk result ((rows : List JournalRow) → AreRunsOf rows runs.old → AreRunsOf (rows ++ row.now ∷ []) runs.new) }
+    ensures err { IfErr result (λ kind. kind ≡ OpenKind.OutOfMemory) }
+{
+    match runs.count_row(row) {
+        Ok(()) => Ok(()),
+        Err(_) => Err(OpenKind::OutOfMemory),
     }
 }
 

@@ -1,4 +1,4 @@
-//! A zone beside the rows of the journal that it is the replay of.
+//! A zone beside the rows of the journal that it is the replay of, which the batches of the journal cover.
 
 ghost use Rattle.std.specs.Prelude.{◌≡◌, ◌<◌, ◌^◌, IfOk};
 ghost use Rattle.std.specs.List.{AllByRecursion};
@@ -42,7 +42,7 @@ impl<K: Keeper> Store<K> {
     /// Does an update whose records pass the prescan (RFC 2136 3.4.1): its batch, where it has records, is journalled by one append at
     /// this moment (milliseconds, below 2^47), all with this client, and then the zone is what it makes of it. Where it has none, where
     /// the keeper refuses it, and where memory runs out, the zone is as before. All that can fail comes before the append. A crash then
-    /// leaves just the rows, or after a refusal what it might leave before, or the rows with the whole batch.
+    /// leaves just the rows and the batches, or after a refusal what it might leave before, or both with the whole batch.
     pub fn journal(
         &mut self,
         client: u32,

@@ -62,7 +62,7 @@ module _ {K : Type 0} (keeper : KeeperOf K) where
       faults = omega arith;
     },
   )
-  ended_advances before ask batch false (Some receipt) after (Ends.journalled more held grown later) = (
+  ended_advances before ask batch false (Some receipt) after (Ends.journalled more held grown run later) = (
     length batch,
     record {
       rows = batch_of (keeper.told before.keeper).rows (keeper.told held).rows ask.client _ _ batch grown;
@@ -73,7 +73,7 @@ module _ {K : Type 0} (keeper : KeeperOf K) where
       faults = omega (arith, later);
     },
   )
-  ended_advances before ask batch true None after (Ends.failed more held kept later rose) = (
+  ended_advances before ask batch true None after (Ends.failed more held kept batches later rose) = (
     0,
     record {
       rows = no_batch (keeper.told before.keeper).rows (keeper.told held).rows ask.client kept;

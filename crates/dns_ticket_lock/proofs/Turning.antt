@@ -88,8 +88,8 @@ module _ {K : Type 0} (keeper : KeeperOf K) where
 
   ends_rose : (before : SeenOf K) (ask : Ask) (batch : List Record) (failed : Bool) (receipt : Option Receipt) (after : SeenOf K) → Ends keeper before ask batch failed receipt after → failed ≡ true → Rose (keeper.told before.keeper).faults (keeper.told after.keeper).faults
   ends_rose before ask batch false None after (Ends.idle none) e = absurd (grind arith)
-  ends_rose before ask batch false (Some receipt) after (Ends.journalled more held grown later) e = absurd (grind arith)
-  ends_rose before ask batch true None after (Ends.failed more held kept later rose) e = rose
+  ends_rose before ask batch false (Some receipt) after (Ends.journalled more held grown run later) e = absurd (grind arith)
+  ends_rose before ask batch true None after (Ends.failed more held kept batches later rose) e = rose
   ends_rose before ask batch true (Some receipt) after x e = elim x [ ]
 
   settle_rose : (access : Access) (before : SeenOf K) (ask : Ask) (done : Settled) (after : SeenOf K) → (s : Settles keeper access before ask done after) → s.failed ≡ true → Rose (keeper.told before.keeper).faults (keeper.told after.keeper).faults
@@ -100,8 +100,8 @@ module _ {K : Type 0} (keeper : KeeperOf K) where
   ends_calm : (before : SeenOf K) (ask : Ask) (batch : List Record) (failed : Bool) (receipt : Option Receipt) (after : SeenOf K) → Ends keeper before ask batch failed receipt after → failed ≡ false
       → (keeper.told after.keeper).faults ≡ (keeper.told before.keeper).faults
   ends_calm before ask batch false None after (Ends.idle none) e = refl
-  ends_calm before ask batch false (Some receipt) after (Ends.journalled more held grown later) e = later
-  ends_calm before ask batch true None after (Ends.failed more held kept later rose) e = absurd (grind arith)
+  ends_calm before ask batch false (Some receipt) after (Ends.journalled more held grown run later) e = later
+  ends_calm before ask batch true None after (Ends.failed more held kept batches later rose) e = absurd (grind arith)
   ends_calm before ask batch true (Some receipt) after x e = elim x [ ]
 
   settle_calm : (access : Access) (before : SeenOf K) (ask : Ask) (done : Settled) (after : SeenOf K) → (s : Settles keeper access before ask done after) → s.failed ≡ false

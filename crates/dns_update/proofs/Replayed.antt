@@ -8,6 +8,7 @@ use Rattle.dns_wire.specs.declared.message.Message.{Message}
 use Rattle.dns_wire.specs.ReadBack.{ReadsBack}
 use Rattle.dns_keeper.specs.declared.row.Row.{Row}
 use Rattle.dns_keeper.specs.Rows.{last_id, rows_of, appended}
+use Rattle.dns_keeper.specs.Batches.{AreNumbered}
 use Rattle.dns_zone_map.specs.Zone.{is_type, serial_of, IsZone}
 use Rattle.dns_zone_map.specs.Changes.{set_serial}
 use Rattle.dns_update.specs.Change.{batch_of, serial_after_batch, applied}
@@ -16,7 +17,7 @@ use Rattle.dns_update.specs.declared.verdict.Verdict.TheVariants.{Passes}
 use Rattle.dns_update.specs.Replay.{Refusal, IsJournalledAsIs, RunsTo, with_soa, Replays}
 use Rattle.dns_update.proofs.Batches.{both_pass, batch_journalled}
 use Rattle.dns_update.proofs.Serials.{steps_at, steps_applied}
-use Rattle.dns_update.proofs.Rows.{runs_on, runs_one, last_is, batch_runs}
+use Rattle.dns_update.proofs.Rows.{runs_on, runs_one, last_is, numbered_from, batch_runs}
 use Rattle.dns_update.proofs.Zones.{applied_zone}
 use Rattle.dns_update.proofs.ZoneSerials.{settled}
 
@@ -96,3 +97,6 @@ last_run origin (row ∷ rows) records h = last_is origin 1 [] row rows records 
 
 pub last_replayed : (origin : List (List ℕ)) (rows : List Row) (records : List Record) → Replays origin rows (Ok records) → last_id rows ≡ pos (length rows)
 last_replayed origin rows records p = last_run origin rows records (has_run origin rows records p)
+
+pub numbered_replayed : (origin : List (List ℕ)) (rows : List Row) (records : List Record) → Replays origin rows (Ok records) → AreNumbered (pos 1) rows
+numbered_replayed origin rows records p = numbered_from origin 1 [] rows records (has_run origin rows records p).runs

@@ -9,6 +9,7 @@ use Rattle.dns_wire.proofs.Back.{record_alone}
 use Rattle.dns_wire.proofs.ItemsDetermined.{RecordAt-one}
 use Rattle.dns_keeper.specs.declared.row.Row.{Row}
 use Rattle.dns_keeper.specs.Rows.{id_of, last_id, rows_of}
+use Rattle.dns_keeper.specs.Batches.{AreNumbered}
 use Rattle.dns_name.specs.Name.{is_same_name}
 use Rattle.dns_zone_map.specs.Zone.{is_meta}
 use Rattle.dns_update.specs.declared.replay_kind.ReplayKind.{ReplayKind}
@@ -114,6 +115,12 @@ last_place origin place records row (other ∷ rows) end run =
 -- rows that run to records have the ids from the first place on
 pub last_is : (origin : List (List ℕ)) (place : ℕ) (records : List Record) (row : Row) (rows : List Row) (end : List Record) → RunsTo origin place records (row ∷ rows) (Ok end) → last_id (row ∷ rows) ≡ pos (place + length rows)
 last_is origin place records row rows end run = last_at row rows ∙ last_place origin place records row rows end run
+
+pub numbered_from : (origin : List (List ℕ)) (place : ℕ) (records : List Record) (rows : List Row) (end : List Record) → RunsTo origin place records rows (Ok end) → AreNumbered (pos place) rows
+numbered_from origin place records [] end run = tt
+numbered_from origin place records (row ∷ rows) end run =
+    let b = runs_first origin place records row rows end run in
+    (taken_place origin place records row b.0 b.1, numbered_from origin (place + 1) b.0 rows end b.2)
 
 no_snapshot_if : (same snapshot here still empty meta other : Bool) → (if here then not meta && not empty else other) ≡ true → (same && (snapshot && (here && (still && empty)))) ≡ false
 no_snapshot_if false snapshot here still empty meta other h = refl

@@ -12,6 +12,7 @@ ghost use Rattle.dns_wire.specs.Messages.{MessageAt};
 ghost use Rattle.dns_wire.specs.ReadBack.{ReadsBack, IsOfItsType};
 ghost use Rattle.dns_keeper.specs.declared.row.Row.{Row as JournalRow};
 ghost use Rattle.dns_keeper.specs.Rows.{last_id, appended};
+ghost use Rattle.dns_keeper.specs.Batches.{AreNumbered};
 ghost use Rattle.dns_zone_map.specs.Zone.{Contents, is_type, serial_of, IsEntry, IsSoFar, IsZone};
 ghost use Rattle.dns_zone_map.specs.Changes.{set_serial};
 ghost use Rattle.dns_update.specs.Change.{fold_record, step, steps, changes, batch_of, serial_after_batch, serial_after, applied};
@@ -112,6 +113,9 @@ pub fn replays()
     // The last id is their number.
     ensures last { (origin : List (List ℕ)) (rows : List JournalRow) (records : List Record)
         → Replays origin rows (Ok records) → last_id rows ≡ pos (length rows) }
+    // Their ids are 1 and those that follow.
+    ensures numbered { (origin : List (List ℕ)) (rows : List JournalRow) (records : List Record)
+        → Replays origin rows (Ok records) → AreNumbered (pos 1) rows }
     // Grown by a batch that can be journalled, they stand for the zone after it.
     ensures batch { (origin : List (List ℕ)) (rows : List JournalRow) (client : ℕ) (stamp : List ℕ) (records batch : List Record)
         → AllByRecursion (IsJournalledAsIs origin) batch → IsZone origin records → Replays origin rows (Ok records)

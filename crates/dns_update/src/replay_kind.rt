@@ -15,4 +15,8 @@ pub enum ReplayKind {
     /// After the last row there is no SOA.
     #[error("not one SOA")]
     NotOneSoa,
+    /// The batches of the journal do not cover its rows: the one that should begin with this row does not, or is no run of rows that are
+    /// there. No row is refused for this; it is told where a journal is opened.
+    #[error("batch out of place")]
+    BatchOutOfPlace,
 }

@@ -9,8 +9,8 @@ ghost use Rattle.dns_update.specs.Change.{batch_of, serial_after, applied};
 ghost use Rattle.dns_update.specs.Verdict.{prescan, verdict_of};
 ghost use Rattle.dns_zone_map.specs.Zone.{IsZone};
 ghost use Rattle.dns_update.specs.Replay.{IsJournalledAsIs};
-ghost use Rattle.dns_zone.specs.Updates.{zone_after, IsBatchOf, GrowsBy, Journals, LeavesJournalled, LeavesBatchOf};
-ghost use Rattle.dns_keeper.specs.Keeping.{HasCause};
+ghost use Rattle.dns_zone.specs.Updates.{zone_after, IsBatchOf, GrowsBy, GrowsRun, Journals, LeavesJournalled, LeavesBatchOf};
+ghost use Rattle.dns_keeper.specs.Keeping.{KeepsBatches, HasCause};
 ghost use Rattle.dns_io.specs.Told.{Keeps};
 ghost use Rattle.dns_zone_map.specs.Mapped.{contents};
 
@@ -39,7 +39,7 @@ impl Zone {
 
     /// Does an update whose records pass the prescan (RFC 2136 3.4.1), and has its batch appended to the journal by one call,
     /// where it has records. The zone is as before where it has none, where the keeper refuses it, and where memory runs out.
-    /// A crash leaves the rows once the batch is appended, and after a refusal what it might leave before, or the rows with it.
+    /// A crash leaves the rows and the batches once the batch is appended, and after a refusal what it might leave before, or both with it.
     /// Takes time for the records of the update and those of their names; once the keeper was called it takes no memory.
     pub fn journal<K: Keeper>(
         &mut self,
@@ -54,11 +54,13 @@ impl Zone {
         requires back { AllByRecursion ReadsBack updates.now }
         ensures batch { IfOk result (IsBatchOf self.old updates.now) }
         ensures done { IfOk result (λ batch. Journals K.keeper keeper.old keeper.new client moment self.old batch self.new) }
+        ensures run { IfOk result (GrowsRun K.keeper keeper.old keeper.new) }
         ensures idle { IfOk result (λ batch. length batch.records ≡ 0 → keeper.new ≡ keeper.old) }
         ensures zone { IsZone self.old.origin self.old.records }
         ensures journalled { IfOk result (λ batch. AllByRecursion (IsJournalledAsIs self.old.origin) batch.records) }
         ensures err { OnErr result (self.new ≡ self.old) }
         ensures kept { OnErr result (Keeps (K.keeper.told keeper.old).rows (K.keeper.told keeper.new).rows) }
+        ensures batches { OnErr result (KeepsBatches (K.keeper.told keeper.old) (K.keeper.told keeper.new)) }
         ensures alone { IfOk result (LeavesJournalled K.keeper keeper.new) }
         ensures left { LeavesBatchOf K.keeper keeper.old keeper.new client moment self.old updates.now }
         ensures cause { HasCause (K.keeper.told keeper.old).faults (K.keeper.told keeper.new).faults result }
@@ -127,9 +129,11 @@ fn journalled<K: Keeper>(
     ensures before { map.new.before ≡ map.old.before }
     ensures zone { OnOk result (IsZone map.new.origin map.new.records) }
     ensures grown { IfOk result (λ batch. 0 < length batch.records → GrowsBy K.keeper keeper.old keeper.new client moment batch) }
+    ensures run { IfOk result (GrowsRun K.keeper keeper.old keeper.new) }
     ensures idle { IfOk result (λ batch. length batch.records ≡ 0 → keeper.new ≡ keeper.old) }
     ensures journalled { IfOk result (λ batch. AllByRecursion (IsJournalledAsIs map.old.origin) batch.records) }
     ensures kept { OnErr result (Keeps (K.keeper.told keeper.old).rows (K.keeper.told keeper.new).rows) }
+    ensures batches { OnErr result (KeepsBatches (K.keeper.told keeper.old) (K.keeper.told keeper.new)) }
     ensures alone { IfOk result (LeavesJournalled K.keeper keeper.new) }
     ensures left { LeavesBatchOf K.keeper keeper.old keeper.new client moment (contents map.old) updates.now }
     ensures cause { HasCause (K.keeper.told keeper.old).faults (K.keeper.told keeper.new).faults result }

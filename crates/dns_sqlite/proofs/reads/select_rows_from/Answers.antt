@@ -7,6 +7,7 @@ use Rattle.sqlite.specs.Held.{state}
 use Rattle.sqlite.specs.State.{HasCleanDisk, IsUnchanged}
 use Rattle.sqlite.proofs.Callers.{unchanged_then}
 use Rattle.dns_sqlite.specs.Tables.{from_text}
+use Rattle.dns_sqlite.specs.Statements.{HasRecords}
 use Rattle.dns_sqlite.specs.Reads.{HasPage, IsKept, ShowsPage}
 use Rattle.dns_sqlite.proofs.Queries.{fails_query, stays}
 use Rattle.dns_sqlite.proofs.Selects.{from_bare, shows_nothing}
@@ -52,7 +53,7 @@ returns-clause-found g c =
     let at : HasBegun g.S.Store from_text (Int c.args.id ∷ []) old mid = rw (c.params-to_sql.ensures, to_z-of_z w64 c.args.id c.ranges.id) at (c.in_ok-shown.ensures.begun (omega (arith, c.take_rows.ensures.survives.clean, clear))) in
     let start = begun g.S.Store old mid _ at in
     let unmoved = start.1 in
-    let page = found clear unmoved.0.is_open (ap (λ (d : Database). d.schema) unmoved.0.now_is ∙ has) c.args.id start.0 in
+    let page = found clear unmoved.0.is_open (subst HasRecords (sym unmoved.0.now_is) has) c.args.id start.0 in
     let later = stays clear unmoved.0.is_open in
     (subst (λ (d : Database). HasPage c.args.id (d.trees 1) rows.items) unmoved.0.now_is page, subst (λ h. IsUnchanged (state g.S.Store old) (state g.S.Store h)) same (unchanged_then (state g.S.Store old) (state g.S.Store mid) (state g.S.Store new) unmoved later)))
 

@@ -1,4 +1,4 @@
-use Rattle.dns_sqlite.specs.Versions.{HasMade, IsVersionZero, HasBothTables, IsNewJournal}
+use Rattle.dns_sqlite.specs.Versions.{HasMade, IsVersionAlone, HasRowTable, HasNoRows}
 use Rattle.dns_sqlite.proofs.Statements.{refused, follows}
 use Rattle.dns_sqlite.proofs.schema.make_version_one.Goals as goal
 
@@ -7,4 +7,4 @@ returns-in_err-_made-clause-done g c = refused g.S.Store _ _ _ _ _ _ _ c.from_re
 
 pub returns-clause-done : goal.returns-clause-done
 returns-clause-done g c =
-    follows g.S.Store IsVersionZero HasBothTables (λ _. HasMade HasBothTables) (λ _. HasMade IsNewJournal) (λ _. HasMade IsNewJournal) _ _ _ _ _ (λ it. it.made) (λ _ made. made) c.in_ok-_made.ensures.done c.raise_version.ensures.done
+    follows g.S.Store IsVersionAlone HasRowTable (λ _. HasMade HasRowTable) (λ _. HasMade HasNoRows) (λ _. HasMade HasNoRows) _ _ _ _ _ (λ it. it.made) (λ _ made. made) c.in_ok-_made.ensures.done c.raise_to_one.ensures.done

@@ -1,6 +1,6 @@
 use Rattle.dns_sqlite.specs.Tables.{empty_schema}
 use Rattle.dns_sqlite.specs.Statements.{HasSchema}
-use Rattle.dns_sqlite.specs.Versions.{HasMade, IsVersionless, IsVersionZero}
+use Rattle.dns_sqlite.specs.Versions.{HasMade, IsVersionless, IsVersionAlone}
 use Rattle.dns_sqlite.proofs.Statements.{refused, follows}
 use Rattle.dns_sqlite.proofs.schema.make_version_zero.Goals as goal
 
@@ -9,4 +9,4 @@ returns-in_err-_made-clause-done g c = refused g.S.Store _ _ _ _ _ _ _ c.from_re
 
 pub returns-clause-done : goal.returns-clause-done
 returns-clause-done g c =
-    follows g.S.Store (HasSchema empty_schema) IsVersionless (λ _. HasMade IsVersionless) (λ _. HasMade IsVersionZero) (λ _. HasMade IsVersionZero) _ _ _ _ _ (λ it. it.made) (λ _ made. made) c.in_ok-_made.ensures.done c.insert_version.ensures.done
+    follows g.S.Store (HasSchema empty_schema) IsVersionless (λ _. HasMade IsVersionless) (λ _. HasMade IsVersionAlone) (λ _. HasMade IsVersionAlone) _ _ _ _ _ (λ it. it.made) (λ _ made. made) c.in_ok-_made.ensures.done c.insert_version.ensures.done

@@ -3,7 +3,7 @@ use Rattle.sqlite.specs.State.{HasCleanDisk, Survives}
 use Rattle.sqlite.specs.Held.{state}
 use Rattle.sqlite.proofs.StateLemmas.{survives_then}
 use Rattle.sqlite.proofs.Callers.{survives_begin}
-use Rattle.dns_sqlite.specs.Versions.{MayBecomeJournal}
+use Rattle.dns_sqlite.specs.Migration.{MayBecomeCurrent}
 use Rattle.dns_sqlite.proofs.Statements.{not_done}
 use Rattle.dns_sqlite.proofs.schema.schema_up.Goals as goal
 
@@ -23,10 +23,10 @@ returns-in_err-_made g c = record {
 pub returns : goal.returns
 returns g c =
     let old = c.args.conn.now in
-    let mid = c.make_tables.new.tx.conn.now in
+    let mid = c.make_current.new.tx.conn.now in
     let end = c.commit.new.self.0 in
     let begun = c.transaction-tx.ensures.begun in
-    let P = MayBecomeJournal c.args.is_empty (state g.S.Store old) in
+    let P = MayBecomeCurrent c.args.start c.args.batches.now (state g.S.Store old) in
     let early = λ (clean : HasCleanDisk (state g.S.Store end)). let it : HasCleanDisk (state g.S.Store mid) = omega (arith, c.commit.ensures.survives.clean) in it in
     let tables = c.in_ok-_made.ensures.done in
     let opened = λ (clean : HasCleanDisk (state g.S.Store mid)). (rw begun at (tables.done.kept clean (rw begun refl))).was_open (tables.opened clean (rw begun refl)) in
@@ -34,7 +34,7 @@ returns g c =
     (λ clean db is. (
       opened (early clean),
       λ before.
-          let it = tables.done.made (early clean) (rw begun refl) (rw begun before) in
+          let it = rw begun at (tables.done.made (early clean) (rw begun refl) (rw begun before)) in
           ((state g.S.Store mid).now, it.made, it.sound, is),
     ))
     (survives_begin g.S.Store old (state g.S.Store mid) _ (rw begun at tables.done.survives)) c.commit.ensures.survives in

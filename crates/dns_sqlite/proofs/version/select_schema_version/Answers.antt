@@ -1,4 +1,4 @@
-use Rattle.std.proofs.Common.{◌≡◌, false, Some, None, pos, rules}
+use Rattle.std.proofs.Common.{◌≡◌, false, Some, None, rules}
 use Rattle.sqlite.specs.Held.{state}
 use Rattle.dns_sqlite.specs.Versions.{has_versions, version_of}
 use Rattle.dns_sqlite.proofs.Versions.{not_there, version_hides, fits_table, lacks}
@@ -21,9 +21,8 @@ returns-clause-none g c clean is =
     let tree = (state g.S.Store c.args.conn.now).now.trees 0 in
     let tells = c.in_ok-rows.ensures.rows clean in
     let none : version_of rows ≡ None = search rules in
-    let hides = version_hides rows none in
     record {
       there = search rules;
       shown = (rows, tells.0, none);
-      apart = λ has. (lacks tree rows (pos 0) (tells.1 has) hides.0, lacks tree rows (pos 1) (tells.1 has) hides.1);
+      apart = λ has n known. lacks tree rows n (tells.1 has) (version_hides rows n none known);
     }

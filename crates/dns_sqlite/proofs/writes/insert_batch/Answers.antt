@@ -4,11 +4,12 @@ use Rattle.sqlite.specs.Held.{state}
 use Rattle.sqlite.proofs.StateLemmas.{survives_then}
 use Rattle.sqlite.proofs.Callers.{survives_begin}
 use Rattle.dns_sqlite.specs.Batch.{MayGrow}
+use Rattle.dns_sqlite.proofs.Batches.{taken_apart}
 use Rattle.dns_sqlite.proofs.Statements.{not_done}
 use Rattle.dns_sqlite.proofs.writes.insert_batch.Goals as goal
 
-pub returns-in_err-insert_rows : goal.returns-in_err-insert_rows
-returns-in_err-insert_rows g c = record {
+pub returns-in_err-_count : goal.returns-in_err-_count
+returns-in_err-_count g c = record {
   done = record {
     alone = search rules;
     falls = search rules;
@@ -23,15 +24,16 @@ returns-in_err-insert_rows g c = record {
 pub returns : goal.returns
 returns g c =
     let old = c.args.conn.now in
-    let mid = c.insert_rows.new.tx.conn.now in
+    let mid = c.insert_whole.new.tx.conn.now in
     let end = c.commit.new.self.0 in
     let begun = c.transaction-tx.ensures.begun in
+    let all = taken_apart c.args.records.now c.first-item.result c.requires.some c.first-item.is in
     let P = MayGrow c.args.client c.args.serial c.args.stamp.now c.args.records.now (state g.S.Store old) in
     let early = λ (clean : HasCleanDisk (state g.S.Store end)). let it : HasCleanDisk (state g.S.Store mid) = omega (arith, c.commit.ensures.survives.clean) in it in
-    let opened = λ (clean : HasCleanDisk (state g.S.Store mid)). (rw begun at (c.insert_rows.ensures.done.kept clean (rw begun refl))).was_open (c.in_ok-insert_rows.ensures.opened c.requires.some clean (rw begun refl)) in
+    let opened = λ (clean : HasCleanDisk (state g.S.Store mid)). (rw begun at (c.insert_whole.ensures.done.done.kept clean (rw begun refl))).was_open (c.in_ok-_count.ensures.done.opened clean (rw begun refl)) in
     let whole = survives_then (state g.S.Store old) (state g.S.Store mid) (state g.S.Store end) _ _ P (λ _ db none. absurd none)
-    (λ clean db is. (opened (early clean), λ has. ((state g.S.Store mid).now, (rw begun at (c.in_ok-insert_rows.ensures.done.made (early clean) (rw begun refl) (rw begun has))).grown, is)))
-    (survives_begin g.S.Store old (state g.S.Store mid) _ (rw begun at c.insert_rows.ensures.done.survives)) c.commit.ensures.survives in
+    (λ clean db is. (opened (early clean), λ has. ((state g.S.Store mid).now, (rw (begun, all) at (c.in_ok-_count.ensures.done.done.made (early clean) (rw begun refl) (rw begun has))).grown, is)))
+    (survives_begin g.S.Store old (state g.S.Store mid) _ (rw begun at c.insert_whole.ensures.done.done.survives)) c.commit.ensures.survives in
     let same : end ≡ c.conn-2-1.given.0 = search rules in
     record {
       done = record {

@@ -10,7 +10,7 @@ use Rattle.dns_sqlite.proofs.writes.insert_rows.Goals as goal
 
 pub loop-bytes-init : goal.loop-bytes-init
 loop-bytes-init g c =
-    (refl, survives_none _, (λ clean inside. (record { was_open = λ h. h; committed = λ _. refl }, inside, λ some. absurd (omega (arith, some)))), λ clean inside has. puts_none c.args.client c.args.serial c.args.stamp.now _ inside has)
+    (refl, survives_none _, (λ clean inside. (record { was_open = λ h. h; committed = λ _. refl }, inside)), λ clean inside has. puts_none c.args.client c.args.serial c.args.stamp.now _ inside has)
 
 pub loop-bytes-preserved : goal.loop-bytes-preserved
 loop-bytes-preserved g c =
@@ -19,14 +19,13 @@ loop-bytes-preserved g c =
     let new = state g.S.Store c.insert_row.new.tx.conn.now in
     let was = c.loop-bytes.invariant in
     let one = c.in_ok-_count.ensures.done.done in
-    let opened = c.in_ok-_count.ensures.done.opened in
     let all = survives_then old mid new _ _ (λ _. ⊥) (λ _ db none. none) (λ _ db none. none) was.1 one.survives in
     let i = c.loop-bytes.bytes-index in
     let records = c.args.records.now in
     let item : c.as_slice.result.now ≡ get_or records i c.bytes-item.result = c.as_slice.ensures ∙ c.bytes-item.is in (
       c.in_ok-_count.ensures.same_reference ∙ was.0,
       all,
-      (λ clean inside. let kept = was.2 (omega (arith, one.survives.clean)) inside in (keeps_then old mid new kept.0 (one.kept clean kept.1), one.inside clean kept.1, λ _. opened clean kept.1)),
+      (λ clean inside. let kept = was.2 (omega (arith, one.survives.clean)) inside in (keeps_then old mid new kept.0 (one.kept clean kept.1), one.inside clean kept.1)),
       λ clean inside has.
           let done = was.3 (omega (arith, one.survives.clean)) inside has in
           let more = puts_more c.args.client c.args.serial c.args.stamp.now (take i records) c.as_slice.result.now old mid new done (one.made clean done.mode done.grown.schema) (one.kept clean done.mode) in
@@ -59,6 +58,3 @@ returns-clause-done g c = record {
   kept = λ clean inside. (c.loop-bytes.invariant.2 clean inside).0;
   survives = c.loop-bytes.invariant.1;
 }
-
-pub returns-clause-opened : goal.returns-clause-opened
-returns-clause-opened g c some clean inside = (c.loop-bytes.invariant.2 clean inside).2 (omega (arith, some, c.loop-bytes-test.false))

@@ -1,7 +1,7 @@
-use Rattle.std.proofs.Common.{◌≡◌, true, IsTrue, ◌<◌, take}
+use Rattle.std.proofs.Common.{◌≡◌, true, IsTrue, take}
 use Rattle.sqlite.specs.State.{HasCleanDisk, Survives, KeepsCommit}
 use Rattle.sqlite.specs.Held.{state}
-use Rattle.dns_sqlite.specs.Tables.{journal_schema}
+use Rattle.dns_sqlite.specs.Statements.{HasTables}
 use Rattle.dns_sqlite.specs.Batch.{PutsAll}
 use Rattle.dns_sqlite.proofs.writes.insert_rows.Given as goal
 
@@ -11,5 +11,5 @@ invariant-loop-bytes g l =
     let now = state g.S.Store l.tx.conn.now in
     (l.tx.conn.ghost_name ≡ l.fn.tx.conn.ghost_name)
     × Survives old now (λ _. ⊥)
-    × (HasCleanDisk now → IsTrue old.in_transaction → KeepsCommit old now × (now.in_transaction ≡ true) × (0 < l.bytes-index → IsTrue now.is_open))
-    × (HasCleanDisk now → IsTrue old.in_transaction → old.now.schema ≡ journal_schema → PutsAll l.client l.serial l.stamp (take l.bytes-index l.records) old now)
+    × (HasCleanDisk now → IsTrue old.in_transaction → KeepsCommit old now × (now.in_transaction ≡ true))
+    × (HasCleanDisk now → IsTrue old.in_transaction → HasTables old.now → PutsAll l.client l.serial l.stamp (take l.bytes-index l.records) old now)

@@ -7,4 +7,4 @@ pub returns : goal.returns
 unfolding host_told host_may_leave
 returns c =
     let all = rw (to_z-of_z w64 c.args.id c.ranges.id) at c.row_from.ensures.read in
-    record { read = record { found = all.found; first = all.first; ascending = all.ascending; kept = all.kept; left = all.left; cause = all.cause } }
+    record { read = record { found = all.found; first = all.first; ascending = all.ascending; kept = all.kept; batches = all.batches; left = all.left; cause = all.cause } }

@@ -2,6 +2,7 @@ use Rattle.std.proofs.Common.{◌≡◌, ◌+ℤ◌, ◌++◌, ◌∷◌, [], po
 use Rattle.std.proofs.lemmas.Int.{to_z-of_z}
 use Rattle.sqlite.specs.Held.{state}
 use Rattle.dns_journal.specs.declared.error.PersistenceError.TheVariants.{OutOfMemory}
+use Rattle.dns_sqlite.specs.Versions.{current_version}
 use Rattle.dns_journal.specs.Selects.{SelectsAll}
 use Rattle.dns_journal.proofs.Iterating.{begins, goes_on, ends, ends_full, breaks, wants}
 use Rattle.dns_journal.proofs.Asking.{is_current}
@@ -21,7 +22,7 @@ pub returns-in-Ok-None : goal.returns-in-Ok-None
 returns-in-Ok-None g c =
     let is : c.self.inside.ready ≡ true = search rules in
     let ready : c.args.self.now.is_ready ≡ true = rw (← c.self.view_is) is in
-    let current : c.args.self.now.version ≡ pos 1 = rw (← c.self.view_is) (is_current c.self.inside.ready c.self.inside.version (state g.S.Store c.self.inside.conn) is c.self.invariant.ready) in
+    let current : c.args.self.now.version ≡ current_version = rw (← c.self.view_is) (is_current c.self.inside.ready c.self.inside.version (state g.S.Store c.self.inside.conn) is c.self.invariant.ready) in
     let last = rw c.in-Ok-None.field-0-is at c.in-Ok-None.ensures.selected in
     record { selected = rw c.new.ensures (ends g.S.Store c.args.self.now c.loop.self c.select_record.new.self (to_z w64 c.loop.from-bits) c.loop.records.items c.loop.invariant current ready last) }
 
@@ -29,14 +30,14 @@ pub returns-in-Err : goal.returns-in-Err
 returns-in-Err g c =
     let is : c.self.inside.ready ≡ true = search rules in
     let ready : c.args.self.now.is_ready ≡ true = rw (← c.self.view_is) is in
-    let current : c.args.self.now.version ≡ pos 1 = rw (← c.self.view_is) (is_current c.self.inside.ready c.self.inside.version (state g.S.Store c.self.inside.conn) is c.self.invariant.ready) in
+    let current : c.args.self.now.version ≡ current_version = rw (← c.self.view_is) (is_current c.self.inside.ready c.self.inside.version (state g.S.Store c.self.inside.conn) is c.self.invariant.ready) in
     record { selected = breaks g.S.Store c.args.self.now c.loop.self c.select_record.new.self (to_z w64 c.loop.from-bits) c.loop.records.items c.loop.invariant current ready c.in-Err.error c.in-Err.ensures.selected }
 
 pub returns-in-None : goal.returns-in-None
 returns-in-None g c =
     let is : c.self.inside.ready ≡ true = search rules in
     let ready : c.args.self.now.is_ready ≡ true = rw (← c.self.view_is) is in
-    let current : c.args.self.now.version ≡ pos 1 = rw (← c.self.view_is) (is_current c.self.inside.ready c.self.inside.version (state g.S.Store c.self.inside.conn) is c.self.invariant.ready) in
+    let current : c.args.self.now.version ≡ current_version = rw (← c.self.view_is) (is_current c.self.inside.ready c.self.inside.version (state g.S.Store c.self.inside.conn) is c.self.invariant.ready) in
     let one = rw c.in-Ok-Some.field-0-is at c.in-Ok-Some.ensures.selected in
     let now = c.select_record.new.self in
     let step = goes_on g.S.Store _ c.loop.self now (to_z w64 c.loop.from-bits) c.in-Ok-Some.found.0 c.loop.records.items c.in-Ok-Some.found.1 c.loop.invariant one in
@@ -48,7 +49,7 @@ pub returns-in_err-push : goal.returns-in_err-push
 returns-in_err-push g c =
     let is : c.self.inside.ready ≡ true = search rules in
     let ready : c.args.self.now.is_ready ≡ true = rw (← c.self.view_is) is in
-    let current : c.args.self.now.version ≡ pos 1 = rw (← c.self.view_is) (is_current c.self.inside.ready c.self.inside.version (state g.S.Store c.self.inside.conn) is c.self.invariant.ready) in
+    let current : c.args.self.now.version ≡ current_version = rw (← c.self.view_is) (is_current c.self.inside.ready c.self.inside.version (state g.S.Store c.self.inside.conn) is c.self.invariant.ready) in
     let one = rw c.in-Ok-Some.field-0-is at c.in-Ok-Some.ensures.selected in
     let now = c.select_record.new.self in
     let step = goes_on g.S.Store _ c.loop.self now (to_z w64 c.loop.from-bits) c.in-Ok-Some.found.0 c.loop.records.items c.in-Ok-Some.found.1 c.loop.invariant one in
@@ -59,5 +60,5 @@ pub returns : goal.returns
 returns g c =
     let is : c.self.inside.ready ≡ true = search rules in
     let ready : c.args.self.now.is_ready ≡ true = rw (← c.self.view_is) is in
-    let current : c.args.self.now.version ≡ pos 1 = rw (← c.self.view_is) (is_current c.self.inside.ready c.self.inside.version (state g.S.Store c.self.inside.conn) is c.self.invariant.ready) in
+    let current : c.args.self.now.version ≡ current_version = rw (← c.self.view_is) (is_current c.self.inside.ready c.self.inside.version (state g.S.Store c.self.inside.conn) is c.self.invariant.ready) in
     record { selected = wants g.S.Store c.args.self.now c.loop.self c.loop.self (to_z w64 c.loop.from-bits) c.loop.records.items c.loop.invariant current ready }

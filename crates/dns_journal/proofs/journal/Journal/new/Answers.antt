@@ -1,7 +1,7 @@
 use Rattle.std.proofs.Common.{sym, subst}
 use Rattle.sqlite.specs.Held.{state}
 use Rattle.dns_sqlite.specs.Versions.{FitsTables}
-use Rattle.dns_journal.proofs.Opening.{ready_if, in_bits}
+use Rattle.dns_journal.proofs.Opening.{ready_if, version_bits}
 use Rattle.dns_journal.proofs.Pages.{holds_none}
 use Rattle.dns_journal.proofs.journal.Journal.new.Goals as goal
 
@@ -13,7 +13,7 @@ invariant_of-result g c =
     record {
       ready = ready_if c.takes_calls.result _ s c.takes_calls.ensures.0;
       page = λ clean. holds_none c.empty.result _ c.empty.ensures;
-      fits = λ clean live. subst (λ n. FitsTables n s.now) (sym (in_bits c.in-Ok.version old.now (done.version clean))) (subst (FitsTables c.in-Ok.version) (sym (done.shown clean live).1) (done.fits clean));
+      fits = λ clean live. subst (λ n. FitsTables n s.now) (sym (version_bits c.in-Ok.version old.now (done.version clean))) (subst (FitsTables c.in-Ok.version) (sym (done.shown clean live).1) (done.fits clean));
     }
 
 pub returns-in-Err-clause-none : goal.returns-in-Err-clause-none

@@ -1,4 +1,4 @@
-use Rattle.std.proofs.Common.{◌≡◌, true, sym, subst, arith, rules, w64, to_z, of_z}
+use Rattle.std.proofs.Common.{◌≡◌, true, inr, sym, subst, arith, rules, w64, to_z, of_z}
 use Rattle.std.proofs.lemmas.Int.{to_z-of_z}
 use Rattle.sqlite.specs.Held.{state}
 use Rattle.sqlite.specs.Effect.{Database}
@@ -17,7 +17,7 @@ first_of-requires g c clean =
     let done = c.in-Ok.ensures in
     let is : c.self.inside.ready ≡ true = rw (← c.self.view_is) at c.requires in
     let ready : IsReady true c.self.inside.version old = subst (λ b. IsReady b c.self.inside.version old) is c.self.invariant.ready in
-    let it = done.found clean (ready.2 (omega (arith, done.asked.falls, clean)) (done.opened clean)) in
+    let it = done.found clean (inr (ready.2 (omega (arith, done.asked.falls, clean)) (done.opened clean))) in
     subst (λ (d : Database). HasPage (to_z w64 (of_z w64 c.args.id)) (d.trees 1) c.in-Ok.rows.items) (sym it.1.0.now_is) it.0
 
 pub returns-in-Ok-clause-stays : goal.returns-in-Ok-clause-stays
@@ -34,7 +34,7 @@ returns-in-Ok-clause-shown g c =
     let is : c.self.inside.ready ≡ true = rw (← c.self.view_is) at c.requires in
     let ready : IsReady true c.self.inside.version old = subst (λ b. IsReady b c.self.inside.version old) is c.self.invariant.ready in
     let stored = rw (to_z-of_z w64 c.args.id c.ranges.id, c.first_of.ensures.kept) at c.first_of.ensures.stored in
-    let all : ShowsRow c.args.id old new c.first_of.result = shows_row c.args.id old new c.first_of.result (λ clean. (done.found clean (ready.2 (omega (arith, done.asked.falls, clean)) (done.opened clean))).1.0.now_is) stored in
+    let all : ShowsRow c.args.id old new c.first_of.result = shows_row c.args.id old new c.first_of.result (λ clean. (done.found clean (inr (ready.2 (omega (arith, done.asked.falls, clean)) (done.opened clean)))).1.0.now_is) stored in
     rw (← c.self.view_is, c.first_of.ensures.kept) all
 
 pub returns-in-Ok-clause-read : goal.returns-in-Ok-clause-read

@@ -13,7 +13,7 @@ returns-in-Err-clause-is g c =
     subst (λ (before : StoreOf g.row.K.Denot). Stores g.K.Keeper.keeper before c.args.client c.args.moment (batch_of before.zone.origin before.zone.records c.args.updates.now) (Err c.in-Err.fault)
     (updated c.journal.new.keeper c.journal.new.self c.self.inside.row_count)) c.self.view_is
     (stores_refused g.K.Keeper.keeper _ c.journal.new.keeper c.journal.new.self c.args.client c.args.moment _ c.journal.result c.in-Err.fault c.in-Err.is c.in-Err.ensures.err
-    c.journal.ensures.some c.in-Err.ensures.kept c.journal.ensures.cause)
+    c.journal.ensures.some c.in-Err.ensures.kept c.in-Err.ensures.batches c.journal.ensures.cause)
 
 pub returns-in-Err-clause-left_on : goal.returns-in-Err-clause-left_on
 returns-in-Err-clause-left_on g c =
@@ -22,7 +22,7 @@ returns-in-Err-clause-left_on g c =
     let passes : prescan zone.origin c.args.updates.now ≡ Passes = rw (← c.self.view_is) at c.requires.passes in
     subst (λ (before : StoreOf g.row.K.Denot). LeavesStoreOn g.K.Keeper.keeper before → LeavesStoreOn g.K.Keeper.keeper after) c.self.view_is
     (on_whole g.K.Keeper.keeper _ after c.args.client c.args.moment (batch_of zone.origin zone.records c.args.updates.now) c.replays.ensures.batch c.self.invariant c.journal.ensures.zone
-    (c.batches.ensures.journalled zone.origin zone.records c.args.updates.now c.requires.back passes) c.in-Err.ensures.err c.in-Err.ensures.kept c.journal.ensures.left)
+    (c.batches.ensures.journalled zone.origin zone.records c.args.updates.now c.requires.back passes) c.in-Err.ensures.err c.in-Err.ensures.kept c.in-Err.ensures.batches c.journal.ensures.left)
 
 pub invariant_of-self-2 : goal.invariant_of-self-2
 invariant_of-self-2 g c =
@@ -30,6 +30,7 @@ invariant_of-self-2 g c =
     let done : IsDone g.K.Keeper.keeper store c.journal.new.keeper c.args.client c.args.moment c.args.updates.now c.in-Ok.batch c.journal.new.self = record {
       is = c.in-Ok.ensures.batch;
       done = c.in-Ok.ensures.done;
+      run = c.in-Ok.ensures.run;
       idle = c.in-Ok.ensures.idle;
       was = c.journal.ensures.zone;
       listed = c.in-Ok.ensures.journalled;
@@ -47,6 +48,7 @@ returns-clause-left_on g c = λ on.
     let done : IsDone g.K.Keeper.keeper store c.journal.new.keeper c.args.client c.args.moment c.args.updates.now c.in-Ok.batch c.journal.new.self = record {
       is = c.in-Ok.ensures.batch;
       done = c.in-Ok.ensures.done;
+      run = c.in-Ok.ensures.run;
       idle = c.in-Ok.ensures.idle;
       was = c.journal.ensures.zone;
       listed = c.in-Ok.ensures.journalled;

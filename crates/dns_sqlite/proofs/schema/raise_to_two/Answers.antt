@@ -3,9 +3,10 @@ use Rattle.sqlite.specs.Held.{state}
 use Rattle.sqlite.specs.State.{ExecutesInside}
 use Rattle.sqlite.proofs.InsideLemmas.{inside_keeps}
 use Rattle.dns_sqlite.proofs.Batches.{stays_inside, stays_open}
-use Rattle.dns_sqlite.proofs.Texts.{raise_text}
-use Rattle.dns_sqlite.proofs.Makes.{raises, if_ok}
-use Rattle.dns_sqlite.proofs.schema.raise_version.Goals as goal
+use Rattle.dns_sqlite.proofs.BatchTexts.{two_text}
+use Rattle.dns_sqlite.proofs.Makes.{if_ok}
+use Rattle.dns_sqlite.proofs.BatchMakes.{raises_to_two}
+use Rattle.dns_sqlite.proofs.schema.raise_to_two.Goals as goal
 
 pub returns-clause-done : goal.returns-clause-done
 returns-clause-done g c =
@@ -13,7 +14,7 @@ returns-clause-done g c =
     let new = state g.S.Store c.execute.new.self.conn.now in
     record {
       done = record {
-        made = λ clean inside was. if_ok c.execute.result _ (λ count is. raises old new count was (subst (ExecutesInside 0 raise_text [] old new) is (c.execute.ensures.runs clean inside)));
+        made = λ clean inside was. if_ok c.execute.result _ (λ count is. raises_to_two old new count was (subst (ExecutesInside 0 two_text [] old new) is (c.execute.ensures.runs clean inside)));
         inside = λ clean inside. stays_inside _ _ _ _ c.execute.result (c.execute.ensures.runs clean inside);
         kept = λ clean inside. inside_keeps _ _ 0 false _ _ c.execute.result (c.execute.ensures.runs clean inside);
         survives = c.execute.ensures.survives;
