@@ -131,15 +131,15 @@ def continued(number_, seed):
     return None
 
 
-def changing_events():
+def changing_events(count=BATCHES):
     """Updates that each add two records of a name, or delete those of one that was added."""
     events = []
-    for place in range(BATCHES):
+    for place in range(count):
         name = (f"host{place // 3 * 3}".encode(), *ORIGIN)
         deletion = [Record(name, ANY, ANY, 0, ())]
         additions = [Record(name, A, IN, 60, (bytes([192, 0, 2, n]),)) for n in (place % 3 * 2 + 1, place % 3 * 2 + 2)]
         records = deletion if place % 3 == 2 else additions
-        head = number(place, 2) + number(5 << 11, 2) + b"".join(number(n, 2) for n in (1, 0, len(records), 0))
+        head = number(place % 65_536, 2) + number(5 << 11, 2) + b"".join(number(n, 2) for n in (1, 0, len(records), 0))
         message = head + name_bytes(ORIGIN) + number(SOA, 2) + number(IN, 2) + b"".join(map(record_bytes, records))
         events.append({"kind": "D", "at": place, "peer": PEER, "piece": message})
     return events

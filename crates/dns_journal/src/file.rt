@@ -23,6 +23,21 @@ fn opened(rt: &HostRuntime, path: &str) -> Result<Journal<HostStore>, Persistenc
     }
 }
 
+/// The number in the table of the version of the file at a path, whatever it is; none where the file shows not one. It is for a person who
+/// is told that a file was refused: no clause ties a file to its path. It changes nothing.
+pub fn shown_version(rt: &HostRuntime, path: &str) -> Option<i64> {
+    let Ok(mut conn) = Connection::open(rt, path) else {
+        return None;
+    };
+    let Ok(rows) = conn.query_all("SELECT version FROM tdns_schema", &[]) else {
+        return None;
+    };
+    match rows.as_slice() {
+        [row] => row.get(0).ok(),
+        _ => None,
+    }
+}
+
 impl Journal<HostStore> {
     /// Opens the file at a path, or makes it, and goes to the current version. `Recovery` says that what the file holds
     /// is no journal, or not that alone, `Sqlite` that SQLite refused, or that a row of an earlier version did not read. Of the rows nothing is known: no clause ties a file to its path.

@@ -8,7 +8,7 @@ use dns_command::run::run;
 use dns_command::{Ended, HELP, Status, VERSION, after_writing};
 use dns_edges::{FileSource, Reading, SystemClock, Writing};
 use dns_io::OutOfMemory;
-use dns_journal::{ClosedJournal, FileJournal, PersistenceError};
+use dns_journal::{CURRENT_VERSION, ClosedJournal, FileJournal, PersistenceError, RecoveryKind, shown_version};
 use dns_keeper::{Keeper, MemoryKeeper};
 use dns_ports::SocketHub;
 use dns_words::{Action, action_of, hex_words, put_text, unread_words};
@@ -86,8 +86,24 @@ fn command_task(rt: &HostRuntime, words: &Vec<String>) -> Task {
 fn file_task(rt: &HostRuntime, path: &str) -> Task {
     match FileJournal::open(rt, path) {
         Ok(journal) => Task::InFile(journal),
-        Err(error) => Task::Closed(ClosedJournal::after(&error)),
+        Err(error) => {
+            tell_unopened(rt, path, &error);
+            Task::Closed(ClosedJournal::after(&error))
+        }
     }
+}
+
+/// Tells a person on standard error why the journal at a path could not be opened: what goes to standard output is the status's line. That
+/// this line itself could not be written changes nothing.
+fn tell_unopened(rt: &HostRuntime, path: &str, error: &PersistenceError) {
+    let version = match error {
+        PersistenceError::Recovery(RecoveryKind::SchemaVersion) => shown_version(rt, path),
+        _ => None,
+    };
+    let _told = match version {
+        Some(number) => eprintln!(rt; "dns: {path}: a journal of version {number}, of which this program knows 0 to {}", CURRENT_VERSION),
+        None => eprintln!(rt; "dns: {path}: {error}"),
+    };
 }
 
 /// Runs the command over this journal, the zone file that the words name, standard input, the system's clock and sockets.
