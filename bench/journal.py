@@ -21,7 +21,8 @@ import wire
 PROGRAM = TOP / "crates" / "dns_program" / "out" / "dns_program"
 UPDATES = 2_000  # of one record each
 ROWS = (50_000, 100_000)
-AT_ONCE = 500  # records in one update of a journal of many rows
+AT_ONCE = (500, 1)  # records in one update of a journal of many rows
+IN_A_RUN = 20_000  # updates; the text of a run's events is bounded
 TURNS = 3  # of which the fastest counts
 BOUND = 300  # seconds
 ZONE = "example.com. 60 IN SOA ns.example.com. host.example.com. 7 1 1 1 1\nexample.com. 60 IN NS ns.example.com.\n"
@@ -54,27 +55,30 @@ def updated(folder, turn):
 
 
 def inserted(folder, turn):
-    """The same rows by SQLite alone, one a transaction."""
+    """The same rows and batches by SQLite alone, one of each a transaction."""
     database = sqlite3.connect(Path(folder, f"bare{turn}"), isolation_level=None)
     database.execute("PRAGMA journal_mode = WAL")
     database.execute("PRAGMA synchronous = FULL")
     database.execute("CREATE TABLE records (id INTEGER PRIMARY KEY, client_id, soa_serial, timestamp, record)")
+    database.execute("CREATE TABLE batches (first INTEGER PRIMARY KEY, count)")
     begin = time.perf_counter()
     for place in range(UPDATES):
         row = (place + 1, place, "2026-01-01 00:00:00.000", wire.record_bytes(added(place)))
         database.execute("BEGIN")
         database.execute("INSERT INTO records VALUES (?, 0, ?, ?, ?)", row)
+        database.execute("INSERT INTO batches VALUES (?, 1)", row[:1])
         database.execute("COMMIT")
     return UPDATES / (time.perf_counter() - begin)
 
 
 def read(journal):
-    """Seconds in which Python's sqlite3 reads all rows."""
+    """Seconds in which Python's sqlite3 reads all rows and batches, and how many there are of both."""
     begin = time.perf_counter()
     database = sqlite3.connect(journal)
     rows = database.execute("SELECT id, client_id, soa_serial, timestamp, record FROM records ORDER BY id").fetchall()
+    batches = database.execute("SELECT first, count FROM batches ORDER BY first").fetchall()
     database.close()
-    return time.perf_counter() - begin, len(rows)
+    return time.perf_counter() - begin, len(rows), len(batches)
 
 
 def answered(journal):
@@ -84,16 +88,19 @@ def answered(journal):
         return time.perf_counter() - begin
 
 
-def opened(folder, count):
-    """A journal of at least so many rows: how long it takes to open it, and to read its rows by Python."""
-    zone, journal = Path(folder, "zone"), Path(folder, f"rows{count}")
+def opened(folder, count, at_once):
+    """A journal of at least so many rows, with so many records in each update: how long it takes to open it, and to read it by Python."""
+    zone, journal = Path(folder, "zone"), Path(folder, f"rows{count}by{at_once}")
     zone.write_text(ZONE)
     places = range(count)
-    batches = [wire.update(("example.com.", "SOA", "IN"), [], [added(place) for place in places[first:first + AT_ONCE]]) for first in range(0, count, AT_ONCE)]
-    run(journal, batches, zone)
+    parts = [places[first : first + at_once] for first in range(0, count, at_once)]
+    updates = [wire.update(("example.com.", "SOA", "IN"), [], [added(place) for place in part]) for part in parts]
+    for first in range(0, len(updates), IN_A_RUN):
+        run(journal, updates[first : first + IN_A_RUN], zone)
     ours = min(answered(journal) for _ in range(TURNS))
-    seconds, rows = min(read(journal) for _ in range(TURNS))
-    print(f"a journal of {rows:,} rows: first answer after {ours:.3f} s, read by Python's sqlite3 in {seconds:.3f} s", flush=True)
+    seconds, rows, batches = min(read(journal) for _ in range(TURNS))
+    told = f"first answer after {ours:.3f} s, read by Python's sqlite3 in {seconds:.3f} s"
+    print(f"a journal of {rows:,} rows in {batches:,} batches: {told}", flush=True)
 
 
 def main():
@@ -101,8 +108,9 @@ def main():
         ours = max(updated(folder, turn) for turn in range(TURNS))
         bare = max(inserted(folder, turn) for turn in range(TURNS))
         print(f"updates on a journal in a file: {ours:,.0f} a second, {100 * ours / bare:.0f} % of SQLite's own {bare:,.0f}", flush=True)
-        for count in ROWS:
-            opened(folder, count)
+        for at_once in AT_ONCE:
+            for count in ROWS:
+                opened(folder, count, at_once)
 
 
 if __name__ == "__main__":

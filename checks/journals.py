@@ -39,6 +39,11 @@ BOUND = 60  # seconds
 BATCHES = 60  # updates of a run that is killed
 MOST_CALLS = 10_000  # calls of a run that is stopped
 UPDATE = wire.update(("example.com.", "SOA", "IN"), [], ["serialtest.example.com. 3600 IN A 192.0.2.55"])
+# What a run that opens the zone of eight rows and settles an update of one may leave of version, rows and batches; over a file of version 1
+# and over none.
+SETTLED = [(2, 8, [(1, 8)]), (2, 9, [(1, 8), (9, 1)])]
+LEFT_OF_EARLIER = [(1, 8, None), *SETTLED]
+LEFT = [(-1, 0, None), (2, 0, []), *SETTLED]
 COLUMNS = "SELECT id, client_id, soa_serial, timestamp, record FROM records ORDER BY id"
 ORIGIN = (b"example", b"com")
 ZONE = "example.com. 60 IN SOA ns.example.com. host.example.com. 7 1 1 1 1\nexample.com. 60 IN NS ns.example.com.\n"
@@ -59,6 +64,16 @@ def stored(journal):
     try:
         tables = {name for (name,) in database.execute("SELECT name FROM sqlite_master WHERE type = 'table'")}
         return [tuple(row) for row in database.execute(COLUMNS)] if "records" in tables else []
+    finally:
+        database.close()
+
+
+def batches_in(journal):
+    """The batches of a file, by their first rows and lengths; none where it has no table of them."""
+    database = sqlite3.connect(journal)
+    try:
+        tables = {name for (name,) in database.execute("SELECT name FROM sqlite_master WHERE type = 'table'")}
+        return database.execute("SELECT first, count FROM batches ORDER BY first").fetchall() if "batches" in tables else None
     finally:
         database.close()
 
@@ -103,6 +118,11 @@ class Due:
         """Whether these are the first rows that are due."""
         return all(self.is_row(place, row) for place, row in enumerate(rows))
 
+    def batched(self, count):
+        """The batches that so many rows are due to have."""
+        ends = [end for end in self.batches if end <= count]
+        return [(begin + 1, end - begin) for begin, end in zip(ends, ends[1:]) if begin < end]
+
     def is_row(self, place, row):
         if place >= len(self.moments):
             return False
@@ -128,6 +148,8 @@ def continued(number_, seed):
             rows = stored(journal)
             if len(rows) != len(due.moments) or not due.are(rows):
                 return f"case {number_}, run {place + 1}: the rows in the file are others: {rows}"
+            if batches_in(journal) != due.batched(len(rows)):
+                return f"case {number_}, run {place + 1}: the batches in the file are others: {batches_in(journal)}"
     return None
 
 
@@ -176,6 +198,8 @@ def killed(wait, events):
         rows = stored(journal) if journal.exists() and not is_half_made(journal) else []
         if not due.are(rows) or len(rows) not in due.batches:
             return f"killed after {wait:.3f} s: {len(rows)} rows, which are no front of those due that ends with a batch"
+        if rows and batches_in(journal) != due.batched(len(rows)):
+            return f"killed after {wait:.3f} s: {len(rows)} rows with other batches: {batches_in(journal)}"
         if output and len(rows) != len(due.moments):
             return f"killed after {wait:.3f} s: replies were out, and of {len(due.moments)} rows {len(rows)} are left"
         length = len(rows) or due.batches[1]
@@ -187,16 +211,16 @@ def killed(wait, events):
 
 
 def left(journal):
-    """The version and the rows of a file, without stamps: -1 and none where it has no tables."""
+    """The version, the rows and the batches of a file, without stamps: -1 and none where it has no tables."""
     if not journal.exists() or not journal.read_bytes() or is_half_made(journal):
-        return -1, []
+        return -1, [], None
     database = sqlite3.connect(journal)
     try:
         tables = {name for (name,) in database.execute("SELECT name FROM sqlite_master WHERE type = 'table'")}
         version = database.execute("SELECT version FROM tdns_schema").fetchall() if "tdns_schema" in tables else [(-1,)]
     finally:
         database.close()
-    return version[0][0], [(row[0], row[1], row[2], row[4]) for row in stored(journal)]
+    return version[0][0], [(row[0], row[1], row[2], row[4]) for row in stored(journal)], batches_in(journal)
 
 
 def earlier():
@@ -222,11 +246,11 @@ def stopped(count, whole, begun):
         command = [updates.PROGRAM, "events", "example.com.", "--update", f"--journal={journal}", f"--zone={zone}"]
         with given.open("rb") as text, told.open("wb") as output:
             status = traced.stopped_before(count, command, stdin=text, stdout=output)
-        version, rows = left(journal)
+        version, rows, batches = left(journal)
         place = f"stopped before call {count}"
-        due = [(1, 8), (2, 8), (2, 9)] if begun else [(-1, 0), (2, 0), (2, 8), (2, 9)]
-        if (version, len(rows)) not in due or whole and rows != whole[: len(rows)]:
-            return f"{place}: version {version}, {len(rows)} rows", rows, False
+        due = LEFT_OF_EARLIER if begun else LEFT
+        if (version, len(rows), batches) not in due or whole and rows != whole[: len(rows)]:
+            return f"{place}: version {version}, {len(rows)} rows, batches {batches}", rows, False
         if told.stat().st_size and len(rows) != 9:
             return f"{place}: replies were out, and {len(rows)} rows are left", rows, False
         length = len(rows) or 8
@@ -376,10 +400,10 @@ def missing_row_before_text(journal, zone):
 
 
 REFUSALS = [
-    (no_database, 8, "keeper fault"),
-    (a_folder, 8, "keeper fault"),
-    (foreign_table, 8, "keeper fault"),
-    (later_version, 8, "keeper fault"),
+    (no_database, 8, "keeper fault", "sqlite error"),
+    (a_folder, 8, "keeper fault", "sqlite error"),
+    (foreign_table, 8, "keeper fault", "sqlite error"),
+    (later_version, 8, "keeper fault", "a journal of version 3, of which this program knows 0 to 2"),
     (cut_row, 5, "journal row 3: row is no record"),
     (cut_row_of_eight, 5, "journal row 5: row is no record"),
     (missing_row, 5, "journal row 3: row out of place"),
@@ -401,16 +425,19 @@ def content(journal):
     return journal.read_bytes() if journal.is_file() else None
 
 
-def refused(make, status, line):
-    """What is wrong with the refusal of a file, none where nothing is."""
+def refused(make, status, line, why=""):
+    """What is wrong with the refusal of a file, none where nothing is; the last words are those on standard error."""
     with tempfile.TemporaryDirectory() as folder:
         zone, journal = Path(folder, "zone"), Path(folder, "journal")
         zone.write_text(ZONE, encoding="ascii")
         make(journal, zone)
         before = content(journal)
-        got = run(["events", "example.com.", "--update"], journal, changing_events()[:1], zone)
-        if got != (status, line + "\n"):
-            return f"{make.__name__}: status {got[0]}, {got[1]!r}, due {status}, {line!r}"
+        command = [updates.PROGRAM, "events", "example.com.", "--update", f"--journal={journal}", f"--zone={zone}"]
+        text = "".join(map(connections.line, changing_events()[:1])).encode()
+        done = subprocess.run(command, input=text, capture_output=True, timeout=BOUND)
+        got = (done.returncode, done.stdout.decode(errors="replace"), done.stderr.decode(errors="replace"))
+        if got != (status, line + "\n", f"dns: {journal}: {why}\n" if why else ""):
+            return f"{make.__name__}: status {got[0]}, {got[1]!r}, {got[2]!r}, due {status}, {line!r}, {why!r}"
         if content(journal) != before:
             return f"{make.__name__}: the file was changed"
     return None

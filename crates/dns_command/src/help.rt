@@ -35,7 +35,8 @@ ORIGIN is the name at the top of the zone.
 SRV, SOA and TXT, and any other by its number (RFC 3597 5). Without it the zone text is empty, which is no zone.
 
 --journal= names the file of the journal, a database of SQLite. It is made where there is none. Where it has rows, the zone
-is what they stand for, and no zone text is read. Without it the journal is in memory, and gone when the program ends.
+is what they stand for, and no zone text is read. A journal of an earlier version is brought to this one when it is opened.
+Without it the journal is in memory, and gone when the program ends.
 
 --update lets updates in (RFC 2136), from whoever is let in. An update that passes comes into the journal before it is
 answered. Without --update it is Refused.
@@ -76,10 +77,11 @@ Exit status, and the one line that is written in place of the output:
   2   zone text line L: KIND    line L of the zone text is faulty
   3   event line L              line L of the event text is faulty
   4   not valid                 the events break a rule above: a moment that falls or is too great, and so on
-  5   journal row R: KIND       the rows of the journal are no zone's: row R is the first that is refused
+  5   journal row R: KIND       the rows of the journal are no zone's: row R is the first that is refused; or no batch begins
+                                at row R that covers rows from there on, though one should
   6   read fault                the zone text or the event text could not be read
   7                             the output could not be written
-  8   keeper fault              the journal could not be read or opened
+  8   keeper fault              the journal could not be read or opened; why it could not be opened, standard error says
   9   too long                  the zone text has more than 16777216 bytes, or the event text more than 8388608
   10                            memory ran out
   11  port fault                an address could not be listened at, or receiving at it failed
