@@ -7,13 +7,13 @@ use Rattle.sqlite.specs.Store.{Ghosts}
 use Rattle.sqlite.specs.Held.{state}
 use Rattle.sqlite.specs.State.{State, HasCleanDisk}
 use Rattle.sqlite_trees.proofs.Doubt.{no_doubt}
-use Rattle.dns_sqlite.specs.Reads.{IsBatchIn}
 use Rattle.dns_keeper.specs.declared.row.Row.{Row}
 use Rattle.dns_keeper.specs.declared.batch_row.BatchRow.{BatchRow}
 use Rattle.dns_keeper.specs.Batches.{first_batch, batch_from, AreByFirst}
 use Rattle.dns_keeper.specs.Keeping.{TellsByFirst, IsBatchFrom, IsFirstBatch}
 use Rattle.dns_journal.specs.Told.{View, batches_told, or_none, told_rows, told_batches}
 use Rattle.dns_journal.specs.Keepers.{journal_keeper}
+use Rattle.dns_journal.specs.BatchPages.{IsBatchIn, IsBatchStoredIn}
 use Rattle.dns_journal.proofs.Telling.{tells}
 use Rattle.dns_journal.proofs.BatchOrder.{AreSigned, batches_are}
 
@@ -48,3 +48,10 @@ module _ {S : Type 0} (g : Ghosts S) (j : View S) where
   pub first_batch_told : (found : Option BatchRow) → (HasCleanDisk (state g j.conn) → IsTrue (state g j.conn).is_open → j.is_ready ≡ true → IsBatchIn (neg_ℤ (pos (2 ^ 63))) ((state g j.conn).now.trees 2) found) → IsFirstBatch ((journal_keeper g).told j) found
   first_batch_told found h =
       told_where (λ batches. found ≡ first_batch batches) (λ clean live ready batches e. let it = batches_are ((state g j.conn).now.trees 2) batches e in h clean live ready batches it.by_first it.is ∙ first_signed batches it.signed)
+
+  -- the batch that is stored is the one that is asked for
+  pub stored_batch_told : (id : ℤ) (found : Option BatchRow) → IsBatchStoredIn id (state g j.conn) found → IsBatchFrom ((journal_keeper g).told j) id found
+  stored_batch_told id found stored = batch_told id found (λ clean live ready. stored clean)
+
+  pub stored_first_told : (found : Option BatchRow) → IsBatchStoredIn (neg_ℤ (pos (2 ^ 63))) (state g j.conn) found → IsFirstBatch ((journal_keeper g).told j) found
+  stored_first_told found stored = first_batch_told found (λ clean live ready. stored clean)

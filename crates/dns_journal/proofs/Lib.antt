@@ -1,6 +1,7 @@
 pub mod Opening
 pub mod Order
 pub mod BatchOrder
+pub mod BatchPages
 pub mod Telling
 pub mod Pages
 pub mod Reading
@@ -10,7 +11,6 @@ pub mod Iterating
 pub mod SentJournal
 pub mod Selecting
 pub mod Asking
-pub mod BatchAsking
 pub mod Inserting
 pub mod Runs
 pub mod Raising

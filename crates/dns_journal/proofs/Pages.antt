@@ -46,7 +46,7 @@ opened_page id table (r ∷ rows) page = (suc page.0, page.1, page.2, page.3)
 -- ---- of a page
 
 -- the rows that are left, once the first was asked for
-pub led_is : (first : Option Row) (rest all : List Row) → all ≡ option_to_list first ++ rest → IfNone first (all ≡ []) → led first rest ≡ all
+pub led_is : {X : Type 0} (first : Option X) (rest all : List X) → all ≡ option_to_list first ++ rest → IfNone first (all ≡ []) → led first rest ≡ all
 led_is None rest all is none = sym none
 led_is (Some row) rest all is none = sym is
 

@@ -8,6 +8,8 @@ pub mod Records
 pub mod Opening
 pub mod Stored
 pub mod Pages
+pub mod BatchPages
+pub mod Kept
 pub mod Inserts
 pub mod Selects
 pub mod HostFiles

@@ -6,12 +6,11 @@ use Rattle.sqlite.specs.State.{State, HasCleanDisk}
 use Rattle.dns_sqlite.specs.Tables.{HasRows}
 use Rattle.dns_sqlite.specs.Reads.{AreRead}
 use Rattle.dns_keeper.specs.declared.row.Row.{Row}
-use Rattle.dns_journal.specs.Told.{IsReady, FitsConnection}
 use Rattle.dns_journal.specs.Stored.{IsStoredFrom}
 use Rattle.dns_journal.specs.declared.page.Page.{Page}
 
--- a first row and those behind it; none where there is no first
-abbrev pub led : Option Row → List Row → List Row
+-- a first one and those behind it; none where there is no first
+abbrev pub led : {X : Type 0} → Option X → List X → List X
 led None rest = []
 led (Some first) rest = first ∷ rest
 
@@ -44,9 +43,3 @@ IsStoredIn id s found = HasCleanDisk s → IsStoredFrom id (s.now.trees 1) found
 -- a page goes on behind its first row, which has this id
 abbrev pub PassesFirst : ℤ → Page → Page → Type 0
 PassesFirst id old new = (row : Row) → row.id ≡ id → (table : List Shown) → HoldsPage old.next table (row ∷ into_iter_items old.rest) → Holds new table
-
--- what a journal keeps is true of its connection
-pub record IsTrueOf (is_ready : Bool) (version : ℤ) (kept : Page) (s : State) : Type 0 where
-  pub ready : IsReady is_ready version s
-  pub page : HoldsRows kept s
-  pub fits : FitsConnection version s

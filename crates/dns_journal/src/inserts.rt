@@ -3,7 +3,7 @@
 ghost use Rattle.std.specs.Prelude.{◌≡◌, ◌≢◌, ◌<◌, ◌≤◌, ◌^◌, ◌∷◌, [], map, Some, true, IfOk, IfErr, IfSome};
 ghost use Rattle.sqlite.specs.Held.{state};
 ghost use Rattle.sqlite.specs.State.{HasCleanDisk};
-ghost use Rattle.dns_sqlite.specs.Reads.{HasPage};
+ghost use Rattle.dns_sqlite.specs.Reads.{HasPage, AreBatchesIn};
 ghost use Rattle.dns_io.specs.Told.{one_more};
 ghost use Rattle.dns_wire.specs.WireFormat.{record_bytes, AreShort};
 ghost use Rattle.dns_keeper.specs.declared.keeper.KeepFault.TheVariants.{Failed, OutOfMemory as NoRoom};
@@ -13,15 +13,17 @@ ghost use Rattle.dns_journal.specs.Told.{Stays, IsUnready, Refuses};
 ghost use Rattle.dns_journal.specs.Inserts.{Puts, Inserts};
 ghost use Rattle.dns_journal.specs.Selects.{WasRead};
 ghost use Rattle.dns_journal.specs.Pages.{IsStoredIn};
+ghost use Rattle.dns_journal.specs.BatchPages.{IsBatchStoredIn};
 ghost use Rattle.dns_journal.specs.Records.{TellsFirstLong};
 ghost use Rattle.dns_journal.specs.Stored.{ShowsRow};
 
+use crate::batch_page::BatchPage;
 use crate::error::PersistenceError;
 use crate::journal::Journal;
 use crate::page::Page;
 use dns_io::Octets;
 use dns_keeper::{BatchRow, KeepFault, Keeper, Row};
-use dns_sqlite::{insert_batch, select_batch_from, select_rows_from};
+use dns_sqlite::{insert_batch, select_batches_from, select_rows_from};
 use dns_wire::{ProtoError, Record, Records};
 use sqlite::{Alter, Error};
 use std::alloc::Global;
@@ -92,6 +94,7 @@ impl<S: Alter> Journal<S> {
         }
         let stamp = dns_stamp::stamp(self.alloc, moment)?;
         self.page = Page::empty(self.alloc);
+        self.batches = BatchPage::none(self.alloc);
         match insert_batch(
             &mut self.conn,
             client,
@@ -154,14 +157,9 @@ impl<S: Alter> Keeper for Journal<S> {
             self.count();
             return Err(KeepFault::Failed);
         }
-        match select_batch_from(&mut self.conn, first) {
-            Ok(found) => Ok(found),
-            Err(error) => {
-                // Of a connection that the error closed nothing is known.
-                let alloc = self.alloc;
-                self.page = Page::empty(alloc);
-                Err(self.keep_fault(error))
-            }
+        match self.from_batches(first) {
+            Some(batch) => Ok(Some(batch)),
+            None => self.read_batches(first),
         }
     }
 
@@ -191,6 +189,7 @@ impl<S: Alter> Journal<S> {
     {
         let alloc = self.alloc;
         self.page = Page::empty(alloc);
+        self.batches = BatchPage::none(alloc);
         match select_rows_from(alloc, &mut self.conn, id) {
             Ok(rows) => Ok(self.first_of(id, rows)),
             Err(error) => Err(self.keep_fault(error)),
@@ -205,6 +204,42 @@ impl<S: Alter> Journal<S> {
     {
         self.page = Page::new(id, rows);
         self.page.take()
+    }
+
+    /// The batch that follows by what was read, where that goes on from this id; else none. Takes no memory.
+    fn from_batches(&mut self, first: i64) -> Option<BatchRow>
+        ensures stored { IfSome result (λ batch. IsBatchStoredIn first (state S.Store self.new.conn) (Some batch)) }
+        ensures kept { self.new ≡ self.old }
+    {
+        self.batches.take(first)
+    }
+
+    /// The batch that a new page begins with.
+    fn read_batches(&mut self, first: i64) -> Result<Option<BatchRow>, KeepFault>
+        requires { self.old.is_ready ≡ true }
+        ensures read { ReadsBatch (journal_keeper S.Store) self.old self.new first result }
+        ensures stays { WasRead S.Store self.old self.new }
+    {
+        let alloc = self.alloc;
+        self.batches = BatchPage::none(alloc);
+        match select_batches_from(alloc, &mut self.conn, first) {
+            Ok(batches) => Ok(self.first_batch_of(first, batches)),
+            Err(error) => {
+                // Of a connection that the error closed nothing is known.
+                self.page = Page::empty(alloc);
+                Err(self.keep_fault(error))
+            }
+        }
+    }
+
+    /// Makes a page of the batches that were read from a first id on, and takes the first of them.
+    fn first_batch_of(&mut self, first: i64, batches: Vec<BatchRow>) -> Option<BatchRow>
+        requires { HasCleanDisk (state S.Store self.old.conn) → AreBatchesIn first ((state S.Store self.old.conn).now.trees 2) batches.items }
+        ensures stored { IsBatchStoredIn first (state S.Store self.new.conn) result }
+        ensures kept { self.new ≡ self.old }
+    {
+        self.batches = BatchPage::new(first, batches);
+        self.batches.take(first)
     }
 
     /// Counts an error of the connection, unless it is want of memory.

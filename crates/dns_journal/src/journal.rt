@@ -15,6 +15,7 @@ ghost use Rattle.dns_journal.specs.Counting.{CountsAs, HasCause};
 ghost use Rattle.dns_journal.specs.Opening.{HasNoVersion, HasNoVersionOf, refusal_of, version_refusal, is_memory};
 ghost use Rattle.dns_journal.specs.declared.error.PersistenceError.TheVariants.{Sqlite, OutOfMemory as NoMemory};
 
+use crate::batch_page::BatchPage;
 use crate::error::{PersistenceError, RecoveryKind};
 use crate::migrating::raise;
 use crate::page::Page;
@@ -37,12 +38,14 @@ pub struct Journal<S: Alter> {
     pub(crate) faults: u64,
     /// Rows of the connection that were read and not asked for yet. A call that writes lets them go.
     pub(crate) page: Page,
+    /// Batches of the connection that were read and not asked for yet. A call that writes lets them go, and so does one that reads on in the rows.
+    pub(crate) batches: BatchPage,
 }
 
 impl<S: Alter> Model for Journal<S> {
     ghost use Rattle.sqlite.specs.Held.{state};
     ghost use Rattle.dns_journal.specs.Told.{View, view_code};
-    ghost use Rattle.dns_journal.specs.Pages.{IsTrueOf};
+    ghost use Rattle.dns_journal.specs.Kept.{IsTrueOf};
 
     ghost Value = { View S };
 
@@ -50,7 +53,7 @@ impl<S: Alter> Model for Journal<S> {
 
     ghost view = { λ j. record { conn = j.conn; version = j.version; is_ready = j.ready; faults = j.faults } };
 
-    ghost invariant = { λ j. IsTrueOf j.ready j.version j.page (state S.Store j.conn) };
+    ghost invariant = { λ j. IsTrueOf j.ready j.version j.page j.batches (state S.Store j.conn) };
 }
 
 /// Whether this is the current version.
@@ -138,6 +141,7 @@ impl<S: Alter + Drop> Journal<S> {
                 version,
                 faults: 0,
                 page: Page::empty(alloc),
+                batches: BatchPage::none(alloc),
             }),
             Err(error) => Err(error),
         }
@@ -157,6 +161,7 @@ impl<S: Alter> Journal<S> {
             ready: _,
             faults: _,
             page: _page,
+            batches: _batches,
         } = self;
         conn
     }
@@ -236,6 +241,7 @@ impl<S: Alter> Journal<S> {
             return Err(PersistenceError::Sqlite);
         };
         self.page = Page::empty(self.alloc);
+        self.batches = BatchPage::none(self.alloc);
         match raise(self.alloc, &mut self.conn, start) {
             Ok(()) => {
                 self.version = CURRENT_VERSION;

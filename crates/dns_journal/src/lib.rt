@@ -2,6 +2,7 @@
 //! what a crash may leave of it.
 #![tactic(auto)]
 
+mod batch_page;
 mod closed_journal;
 mod error;
 mod file;

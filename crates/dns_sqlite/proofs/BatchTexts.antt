@@ -76,7 +76,7 @@ batches_query = record {
   distinct = false;
   collations = [];
   order = (col 1 0, record { collation = Binary; descending = false }) ∷ [];
-  limit = lit (Int (pos 1));
+  limit = lit (Int (pos 128));
   offset = lit (Int (pos 0));
 }
 

@@ -1,5 +1,6 @@
 -- What a query leaves, and what the rows that it shows read as.
-use Rattle.std.specs.Prelude.{◌≡◌, ◌⊎◌, ◌≤◌, ℕ, ℤ, suc, false, List, [], ◌∷◌, map, Option, IsTrue}
+use Rattle.std.specs.Prelude.{◌≡◌, ◌⊎◌, ◌≤◌, ℕ, ℤ, suc, false, List, [], ◌∷◌, ◌++◌, map, if◌then◌else◌, IsTrue}
+use Rattle.std.specs.Int.Signed.{le_z}
 use Rattle.sqlite_trees.specs.View.{doubt}
 use Rattle.sqlite.specs.declared.types.Value.TheVariants.{Int, Text, Blob}
 use Rattle.sqlite.specs.Order.{Row as Shown, column}
@@ -10,7 +11,7 @@ use Rattle.sqlite.specs.Held.{Held, state}
 use Rattle.sqlite.specs.State.{State, HasCleanDisk, IsUnchanged, IsRolledBack}
 use Rattle.dns_keeper.specs.declared.row.Row.{Row}
 use Rattle.dns_keeper.specs.declared.batch_row.BatchRow.{BatchRow}
-use Rattle.dns_keeper.specs.Batches.{batch_from, AreByFirst}
+use Rattle.dns_keeper.specs.Batches.{AreByFirst}
 use Rattle.dns_sqlite.specs.Tables.{HasRows, from_text, stored_batch}
 use Rattle.dns_sqlite.specs.Statements.{HasTables, HasRecords}
 use Rattle.dns_sqlite.specs.Versions.{KeepsDatabase}
@@ -63,10 +64,21 @@ FindsPage g old new rows =
 abbrev pub ShowsPage : {S : Type 0} → Ghosts S → ℤ → Held S → Held S → List Row → Type 0
 ShowsPage g id old new rows = HasCleanDisk (state g new) → HasRecords (state g old).now → HasPage id ((state g old).now.trees 1) rows × IsUnchanged (state g old) (state g new)
 
--- this is the batch of least first that is not below this id, or there is none, where the table has these batches by ascending first
-abbrev pub IsBatchIn : ℤ → List Shown → Option BatchRow → Type 0
-IsBatchIn id table found = (batches : List BatchRow) → AreByFirst batches → table ≡ map stored_batch batches → found ≡ batch_from id batches
+-- the batches from the first one on whose first is not below this id
+abbrev pub batches_from : ℤ → List BatchRow → List BatchRow
+batches_from id [] = []
+batches_from id (b ∷ batches) = if le_z id b.first then b ∷ batches else batches_from id batches
+
+-- some batches, others behind them, and those that both are; where there are none there are no others
+abbrev pub AreFrontOf : List BatchRow → List BatchRow → Type 0
+AreFrontOf [] all = all ≡ []
+AreFrontOf (b ∷ front) all = (rest : List BatchRow) × (all ≡ b ∷ front ++ rest)
+
+-- these are batches from this id on, none of which is passed over, where the table has batches by ascending first; where there is one, it is
+-- among them
+abbrev pub AreBatchesIn : ℤ → List Shown → List BatchRow → Type 0
+AreBatchesIn id table found = (batches : List BatchRow) → AreByFirst batches → table ≡ map stored_batch batches → AreFrontOf found (batches_from id batches)
 
 -- so it is of the table of batches
-abbrev pub ShowsBatch : {S : Type 0} → Ghosts S → ℤ → Held S → Held S → Option BatchRow → Type 0
-ShowsBatch g id old new found = HasCleanDisk (state g new) → HasTables (state g old).now → IsBatchIn id ((state g old).now.trees 2) found
+abbrev pub ShowsBatches : {S : Type 0} → Ghosts S → ℤ → Held S → Held S → List BatchRow → Type 0
+ShowsBatches g id old new found = HasCleanDisk (state g new) → HasTables (state g old).now → AreBatchesIn id ((state g old).now.trees 2) found

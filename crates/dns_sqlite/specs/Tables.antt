@@ -130,15 +130,14 @@ stored_batch b = Int b.first ∷ Null ∷ Int b.count ∷ []
 abbrev pub batch_seen : Row → Row × Row
 batch_seen r = (column r 0 ∷ [], column r 0 ∷ column r 2 ∷ [])
 
--- the batch of least first that is not below this id, as the query shows it, or none
-abbrev pub HasBatchFrom : ℤ → List Row → List Row → Type 0
-HasBatchFrom id rows found = (ordered : List (Row × Row)) × IsPermutation (map batch_seen (filter (not_below id) rows)) ordered × IsSorted by_key ordered × (found ≡ take 1 (map (λ (o : Row × Row). o.1) ordered))
+-- 128 of the batches whose firsts are not below this id, or as many as there are, in the order of their firsts
+abbrev pub HasBatchesFrom : ℤ → List Row → List Row → Type 0
+HasBatchesFrom id rows found = (ordered : List (Row × Row)) × IsPermutation (map batch_seen (filter (not_below id) rows)) ordered × IsSorted by_key ordered × (found ≡ take 128 (map (λ (o : Row × Row). o.1) ordered))
 
--- what a query shows of a batch, if there is one
-abbrev pub shown_batches : Option BatchRow → List Row
-shown_batches None = []
-shown_batches (Some b) = (Int b.first ∷ Int b.count ∷ []) ∷ []
+-- what a query shows of a batch
+abbrev pub shown_batch : BatchRow → Row
+shown_batch b = Int b.first ∷ Int b.count ∷ []
 
--- the query for the batch of least first from an id on
+-- the query for the batches from an id on
 abbrev pub batch_text : List ℕ
-batch_text = codes "SELECT first, count FROM batches WHERE first >= ?1 ORDER BY first LIMIT 1"
+batch_text = codes "SELECT first, count FROM batches WHERE first >= ?1 ORDER BY first LIMIT 128"

@@ -1,31 +1,32 @@
 //! The batches of a journal, read.
 
-ghost use Rattle.std.specs.Prelude.{◌≡◌, false, Option, IsTrue, IfOk, OnOk, OnErr};
+ghost use Rattle.std.specs.Prelude.{◌≡◌, ◌++◌, ◌∷◌, [], List, map, IsTrue, IfOk, OnOk, OnErr};
 ghost use Rattle.sqlite.specs.declared.types.Value.TheVariants.{Int};
 ghost use Rattle.sqlite.specs.Held.{state};
 ghost use Rattle.sqlite.specs.State.{HasCleanDisk};
 ghost use Rattle.sqlite.specs.Order.{column};
 ghost use Rattle.dns_keeper.specs.declared.batch_row.BatchRow.{BatchRow as Batch};
-ghost use Rattle.dns_sqlite.specs.Tables.{shown_batches, HasBatchFrom};
+ghost use Rattle.dns_sqlite.specs.Tables.{shown_batch, HasBatchesFrom};
 ghost use Rattle.dns_sqlite.specs.Statements.{HasTables};
-ghost use Rattle.dns_sqlite.specs.Reads.{WasAsked, StaysAs, StaysOrIsUndone, ShowsBatch};
+ghost use Rattle.dns_sqlite.specs.Reads.{WasAsked, StaysAs, StaysOrIsUndone, AreFrontOf, ShowsBatches};
 
 use dns_keeper::BatchRow;
 use sqlite::types::Value;
-use sqlite::{Alter, Connection, Error, Row, params};
+use sqlite::{Alter, Connection, Error, ErrorCode, Row, params};
+use std::alloc::Global;
 
-/// The row that shows the batch of least first id not below this one.
+/// The rows that show the batches from this first id on.
 fn select_batches<S: Alter>(conn: &mut Connection<S>, first: i64) -> Result<Vec<Row>, Error>
     ensures asked { WasAsked S.Store conn.old conn.new }
     ensures opened { HasCleanDisk (state S.Store conn.new) → OnOk result (IsTrue (state S.Store conn.old).is_open) }
     ensures same { OnOk result (StaysAs S.Store conn.old conn.new) }
     ensures undone { OnErr result (StaysOrIsUndone S.Store conn.old conn.new) }
     ensures rows { HasCleanDisk (state S.Store conn.new) → HasTables (state S.Store conn.old).now
-        → IfOk result (λ rows. HasBatchFrom first ((state S.Store conn.old).now.trees 2) rows.items) }
+        → IfOk result (λ rows. HasBatchesFrom first ((state S.Store conn.old).now.trees 2) rows.items) }
 {
     let _settled = conn.is_autocommit();
     conn.query_all(
-        "SELECT first, count FROM batches WHERE first >= ?1 ORDER BY first LIMIT 1",
+        "SELECT first, count FROM batches WHERE first >= ?1 ORDER BY first LIMIT 128",
         params![first],
     )
 }
@@ -49,27 +50,47 @@ fn batch_in(row: &Row) -> Result<BatchRow, Error>
     Ok(BatchRow { first, count })
 }
 
-/// The batch of the first row, if there is one.
-fn first_batch(rows: &[Row]) -> Result<Option<BatchRow>, Error>
-    ensures { (found : Option Batch) → rows.now ≡ shown_batches found → IfOk result (λ it. it ≡ found) }
+/// Adds a batch at the end.
+fn push(batches: &mut Vec<BatchRow>, one: BatchRow) -> Result<(), Error>
+    ensures { OnOk result (batches.new.items ≡ batches.old.items ++ one ∷ []) }
 {
-    match rows {
-        [] => Ok(None),
-        [row, ..] => Ok(Some(batch_in(row)?)),
+    match batches.push(one) {
+        Ok(()) => Ok(()),
+        Err(_) => Err(Error::SqliteFailure(ErrorCode::OutOfMemory)),
     }
 }
 
-/// The batch of least first id that is not below this one, if there is one; an error where a column of it is no number. It changes nothing,
-/// and what a crash may leave stays as it is.
-pub fn select_batch_from<S: Alter>(
+/// The batches of rows from the first to the last, or to the one before the first that does not read; an error where that is the first.
+fn batches_in(alloc: Global, rows: &[Row]) -> Result<Vec<BatchRow>, Error>
+    ensures { (found : List Batch) → rows.now ≡ map shown_batch found → IfOk result (λ batches. AreFrontOf batches.items found) }
+{
+    let mut batches = Vec::with_capacity(alloc, rows.len())?;
+    for row in rows {
+        match batch_in(row) {
+            Ok(one) => push(&mut batches, one)?,
+            Err(error) => {
+                if batches.is_empty() {
+                    return Err(error);
+                }
+                return Ok(batches);
+            }
+        }
+    }
+    Ok(batches)
+}
+
+/// The batches whose first ids are not below this one, by ascending first: 128, or as many as there are. Where a column of one is no number,
+/// those before it; an error where that is the first. It changes nothing, and what a crash may leave stays as it is.
+pub fn select_batches_from<S: Alter>(
+    alloc: Global,
     conn: &mut Connection<S>,
     first: i64,
-) -> Result<Option<BatchRow>, Error>
+) -> Result<Vec<BatchRow>, Error>
     ensures asked { WasAsked S.Store conn.old conn.new }
     ensures opened { HasCleanDisk (state S.Store conn.new) → OnOk result (IsTrue (state S.Store conn.old).is_open) }
     ensures same { OnOk result (StaysAs S.Store conn.old conn.new) }
-    ensures found { IfOk result (ShowsBatch S.Store first conn.old conn.new) }
+    ensures found { IfOk result (λ batches. ShowsBatches S.Store first conn.old conn.new batches.items) }
 {
     let rows = select_batches(conn, first)?;
-    first_batch(rows.as_slice())
+    batches_in(alloc, rows.as_slice())
 }

@@ -9,7 +9,7 @@ mod shape;
 mod version;
 mod writes;
 
-pub use batch_reads::select_batch_from;
+pub use batch_reads::select_batches_from;
 pub use reads::select_rows_from;
 pub use schema::{CURRENT_VERSION, Start, schema_up};
 pub use shape::{has_tables, start_of};

@@ -4,14 +4,14 @@ use Rattle.std.proofs.lemmas.Result.{IfOk-weaker}
 use Rattle.sqlite.specs.Held.{state}
 use Rattle.dns_sqlite.specs.Tables.{batch_text}
 use Rattle.dns_sqlite.proofs.BatchTexts.{batch_bare}
-use Rattle.dns_sqlite.proofs.BatchFinds.{finds_batch}
+use Rattle.dns_sqlite.proofs.BatchFinds.{finds_batches}
 use Rattle.dns_sqlite.proofs.Selects.{shows_nothing, shown_same}
 use Rattle.dns_sqlite.proofs.Queries.{either, stays, fails_query, shown_open, ok_where, err_where, ok_open}
 use Rattle.dns_sqlite.proofs.batch_reads.select_batches.Goals as goal
 
 pub returns-clause-rows : goal.returns-clause-rows
 returns-clause-rows g c clean has =
-    IfOk-weaker c.query_all.result _ _ (λ rows h. finds_batch (state g.S.Store c.args.conn.now) (state g.S.Store c.query_all.new.self) c.args.first rows.items has h)
+    IfOk-weaker c.query_all.result _ _ (λ rows h. finds_batches (state g.S.Store c.args.conn.now) (state g.S.Store c.query_all.new.self) c.args.first rows.items has h)
     (rw (c.params-to_sql.ensures, to_z-of_z w64 c.args.first c.ranges.first) at (c.query_all.ensures.ok clean))
 
 pub returns-clause-opened : goal.returns-clause-opened

@@ -8,6 +8,7 @@ pub invariant_of-self : goal.invariant_of-self
 invariant_of-self g c = record {
   ready = c.self.invariant.ready;
   page = λ clean. c.take.ensures.held _ (opens c.new.result c.args.id (state g.S.Store c.self.inside.conn) c.args.rows.items c.new.ensures.rows (rw (to_z-of_z w64 c.args.id c.ranges.id) at c.new.ensures.next) (rw (← c.self.view_is) at c.requires) clean);
+  batches = c.self.invariant.batches;
   fits = c.self.invariant.fits;
 }
 

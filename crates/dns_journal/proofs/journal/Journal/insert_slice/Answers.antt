@@ -9,6 +9,7 @@ use Rattle.dns_journal.specs.Told.{View, IsReady}
 use Rattle.dns_journal.specs.Inserts.{Inserts}
 use Rattle.dns_journal.proofs.Telling.{stamp_for, ready_grown, fits_grown, ready_kept, fits_kept}
 use Rattle.dns_journal.proofs.Pages.{holds_none}
+use Rattle.dns_journal.proofs.BatchPages.{holds_no_batch}
 use Rattle.dns_journal.proofs.Asking.{stays_is}
 use Rattle.dns_journal.proofs.Inserting.{inserts_batch, inserts_no_batch, some_records, refuses_by}
 use Rattle.dns_journal.proofs.journal.Journal.insert_slice.Goals as goal
@@ -25,6 +26,7 @@ invariant_of-self g c =
     record {
       ready = subst (λ b. IsReady b version new) (sym is) (ready_grown version old new ready done.alone (λ clean live. (done.made clean (has clean)).grown.schema));
       page = λ clean. holds_none c.empty.result _ c.empty.ensures;
+      batches = λ clean. holds_no_batch c.none.result _ c.none.ensures;
       fits = λ clean live.
           fits_grown version c.args.client c.args.soa_serial c.as_str.result.now c.as_slice.result.now old.now new.now (has clean) (c.self.invariant.fits (omega (arith, done.falls, clean)) (done.opened clean)) (done.made clean (has clean)).grown;
     }
@@ -37,6 +39,7 @@ invariant_of-self-in-Err g c =
     record {
       ready = ready_kept c.self.inside.ready c.self.inside.version old new c.self.invariant.ready (λ _. failed.alone) failed.falls (λ clean live. let k = failed.kept clean live in (k.0, k.1));
       page = λ clean. holds_none c.empty.result _ c.empty.ensures;
+      batches = λ clean. holds_no_batch c.none.result _ c.none.ensures;
       fits = fits_kept c.self.inside.version old new c.self.invariant.fits failed.falls (λ clean live. let k = failed.kept clean live in (k.0, k.1));
     }
 

@@ -3,6 +3,7 @@ use Rattle.sqlite.specs.Held.{state}
 use Rattle.dns_sqlite.specs.Versions.{FitsTables}
 use Rattle.dns_journal.proofs.Opening.{ready_if, version_bits}
 use Rattle.dns_journal.proofs.Pages.{holds_none}
+use Rattle.dns_journal.proofs.BatchPages.{holds_no_batch}
 use Rattle.dns_journal.proofs.journal.Journal.new.Goals as goal
 
 pub invariant_of-result : goal.invariant_of-result
@@ -13,6 +14,7 @@ invariant_of-result g c =
     record {
       ready = ready_if c.takes_calls.result _ s c.takes_calls.ensures.0;
       page = λ clean. holds_none c.empty.result _ c.empty.ensures;
+      batches = λ clean. holds_no_batch c.none.result _ c.none.ensures;
       fits = λ clean live. subst (λ n. FitsTables n s.now) (sym (version_bits c.in-Ok.version old.now (done.version clean))) (subst (FitsTables c.in-Ok.version) (sym (done.shown clean live).1) (done.fits clean));
     }
 

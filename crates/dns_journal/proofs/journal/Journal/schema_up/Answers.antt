@@ -5,6 +5,7 @@ use Rattle.dns_journal.specs.Crash.{LeftRaised, LeavesTrees}
 use Rattle.dns_journal.specs.Migrating.{BecomesWith}
 use Rattle.dns_journal.proofs.Opening.{before, runs_for, raised_journal, tells_journal, ready_raised, fits_raised, ready_kept, fits_kept}
 use Rattle.dns_journal.proofs.Pages.{holds_none}
+use Rattle.dns_journal.proofs.BatchPages.{holds_no_batch}
 use Rattle.dns_journal.proofs.journal.Journal.schema_up.Goals as goal
 
 pub invariant_of-self : goal.invariant_of-self
@@ -17,6 +18,7 @@ invariant_of-self g c =
     record {
       ready = ready_raised c.in-Some.start old new done.alone made;
       page = λ clean. holds_none c.empty.result _ c.empty.ensures;
+      batches = λ clean. holds_no_batch c.none.result _ c.none.ensures;
       fits = fits_raised c.in-Some.start old new made;
     }
 
@@ -29,6 +31,7 @@ invariant_of-self-in-Err g c =
     record {
       ready = ready_kept c.self.inside.ready c.self.inside.version old new failed.alone early failed.kept c.self.invariant.ready;
       page = λ clean. holds_none c.empty.result _ c.empty.ensures;
+      batches = λ clean. holds_no_batch c.none.result _ c.none.ensures;
       fits = fits_kept c.self.inside.version old new early failed.kept c.self.invariant.fits;
     }
 
