@@ -2,6 +2,7 @@ use Rattle.std.proofs.Common.{◌≡◌, ◌+◌, ◌-◌, ◌<◌, length, fals
 use Rattle.dns_zone_map.specs.Zone.{Contents}
 use Rattle.dns_update.specs.Change.{batch_of}
 use Rattle.dns_book.specs.Book.{SeenOf, seen, Ends}
+use Rattle.dns_book.specs.Crash.{LeavesOn}
 use Rattle.dns_book.specs.Outcome.{Journals}
 use Rattle.dns_book.proofs.Growing.{journals_refused, journals_idle, more_rows, journals_grown}
 use Rattle.dns_book.proofs.book.Book.journal.Goals as goal
@@ -42,3 +43,12 @@ returns-clause-is g c =
     (journals_grown g.K.Keeper.keeper store c.journal.new.self c.self.inside.allow_update c.self.inside.counts c.args.ask.now _ c.in-Ok.batch
     (c.row_count.result - c.len-count.result + 1) c.len-count.result c.len-records.result c.count_change.new.counts some c.in-Ok.ensures.is c.in-Ok.ensures.batch.records c.in-Ok.ensures.batch.modified
     first counted (c.len-records.ensures ∙ ap (λ (z : Contents). length z.records) c.zone.ensures.is) c.count_change.ensures)
+
+pub returns-in-Err-clause-left_on : goal.returns-in-Err-clause-left_on
+returns-in-Err-clause-left_on g c = λ on. c.journal.ensures.left_on (subst (λ (b : SeenOf g.row.K.Denot). LeavesOn g.K.Keeper.keeper b) (sym c.self.view_is) on)
+
+pub returns-then-count-eq0-clause-left_on : goal.returns-then-count-eq0-clause-left_on
+returns-then-count-eq0-clause-left_on g c = λ on. c.journal.ensures.left_on (subst (λ (b : SeenOf g.row.K.Denot). LeavesOn g.K.Keeper.keeper b) (sym c.self.view_is) on)
+
+pub returns-clause-left_on : goal.returns-clause-left_on
+returns-clause-left_on g c = λ on. c.journal.ensures.left_on (subst (λ (b : SeenOf g.row.K.Denot). LeavesOn g.K.Keeper.keeper b) (sym c.self.view_is) on)
