@@ -1,5 +1,5 @@
 -- What a table of batches reads as, and what it read as before a batch was put.
-use Rattle.std.proofs.Common.{◌≡◌, ℤ, pos, List, [], ◌∷◌, map, true, false, Option, Some, None, inl, inr, refl, sym, ap, subst, ◌∙◌}
+use Rattle.std.proofs.Common.{◌≡◌, List, [], ◌∷◌, map, true, Option, Some, None, inl, inr, refl, ap, subst, ◌∙◌}
 use Rattle.std.specs.List.{AllByRecursion}
 use Rattle.std.specs.Int.Signed.{le_z}
 use Rattle.std.proofs.lemmas.Bool.{cases_Bool}
@@ -14,7 +14,7 @@ use Rattle.dns_sqlite.specs.Tables.{stored_batch}
 use Rattle.dns_sqlite.specs.Migration.{AreBatchesPut}
 use Rattle.dns_sqlite.proofs.BatchRows.{put_in_order, was_in_order}
 use Rattle.dns_journal.specs.Told.{is_signed, joined, batch_of, batches_of, batches_told, if_by_first}
-use Rattle.dns_journal.specs.Told.{row_of, rows_of}
+use Rattle.dns_journal.specs.Told.{rows_of}
 use Rattle.dns_journal.proofs.Order.{split, row_signed}
 
 -- each begins at a number of 64 bits

@@ -1,5 +1,5 @@
 -- What a page of batches holds when it is made, when a batch is taken, and when its first batch is passed.
-use Rattle.std.proofs.Common.{◌≡◌, ◌+ℤ◌, ◌≤ℤ◌, ◌<ℤ◌, ℤ, pos, List, [], ◌∷◌, ◌++◌, map, Option, Some, None, IfSome, IfNone, true, false, inl, inr, refl, sym, ap, subst, ◌∙◌, arith}
+use Rattle.std.proofs.Common.{◌≡◌, ◌+ℤ◌, ◌≤ℤ◌, ◌<ℤ◌, ℤ, pos, List, [], ◌∷◌, ◌++◌, Option, Some, None, IfSome, IfNone, true, false, inl, inr, refl, sym, ap, subst, ◌∙◌, arith}
 use Rattle.std.specs.Int.Signed.{le_z}
 use Rattle.std.proofs.lemmas.Int.{ints}
 use Rattle.std.proofs.lemmas.Bool.{cases_Bool}
@@ -7,9 +7,9 @@ use Rattle.std.proofs.lemmas.Bool.Decides.{nat_tests}
 use Rattle.sqlite.specs.Order.{Row as Shown}
 use Rattle.sqlite.specs.State.{State, HasCleanDisk}
 use Rattle.dns_keeper.specs.declared.batch_row.BatchRow.{BatchRow}
-use Rattle.dns_keeper.specs.Batches.{first_batch, batch_from, AreByFirst}
+use Rattle.dns_keeper.specs.Batches.{first_batch, batch_from}
 use Rattle.dns_keeper.proofs.Ascends.{AscendAbove, ascends}
-use Rattle.dns_sqlite.specs.Reads.{batches_from, AreFrontOf, AreBatchesIn}
+use Rattle.dns_sqlite.specs.Reads.{batches_from, AreBatchesIn}
 use Rattle.dns_journal.specs.BatchPages.{batches_left, IsBatchIn, HoldsAhead, HoldsBatches, HoldsBatchesOf, IsBatchStoredIn}
 use Rattle.dns_journal.specs.declared.batch_page.BatchPage.{BatchPage}
 

@@ -1,5 +1,5 @@
 -- What an insert does to a journal, by how it ends.
-use Rattle.std.proofs.Common.{◌≡◌, ◌≢◌, ◌≤◌, ◌<◌, ◌⊎◌, ℕ, ℤ, pos, true, false, OnOk, List, [], ◌∷◌, length, map, Option, Some, None, Result, Ok, Err, inl, inr, refl, sym, ap, subst, ◌∙◌, arith, append-nil}
+use Rattle.std.proofs.Common.{◌≡◌, ◌≢◌, ◌≤◌, ◌<◌, ◌⊎◌, ℕ, ℤ, true, false, OnOk, List, [], ◌∷◌, length, map, Option, Some, None, Result, Ok, Err, inl, inr, refl, sym, ap, subst, ◌∙◌, arith, append-nil}
 use Rattle.sqlite.specs.declared.error.Error.{Error}
 use Rattle.sqlite.specs.Store.{Ghosts}
 use Rattle.sqlite.specs.Held.{Held, state}
@@ -30,6 +30,10 @@ use Rattle.dns_journal.proofs.Telling.{grows_told, grows_run, keeps_told, keeps_
 use Rattle.dns_journal.proofs.Iterating.{keeps_same, not_unready}
 use Rattle.dns_journal.proofs.Reading.{told_ascends}
 use Rattle.dns_journal.proofs.BatchReading.{tells_by_first}
+
+pub no_records : (records : List Record) → length (map record_bytes records) ≡ 0 → records ≡ []
+no_records [] e = refl
+no_records (r ∷ rs) e = absurd (cc)
 
 pub some_records : (records : List Record) → 0 < length (map record_bytes records) → 0 < length records
 some_records [] some = absurd (omega (arith, some))

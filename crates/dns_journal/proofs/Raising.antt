@@ -1,17 +1,14 @@
 -- How the current version is made of a database that was only read before.
-use Rattle.std.proofs.Common.{◌≡◌, ◌⊎◌, ◌≤◌, false, List, [], Result, Ok, Err, OnOk, OnErr, IsErr, IsTrue, inl, inr, refl, sym, subst, ◌∙◌, arith}
+use Rattle.std.proofs.Common.{◌≡◌, false, List, Result, Ok, Err, OnOk, OnErr, IsErr, IsTrue, inl, inr, sym, subst, ◌∙◌, arith}
 use Rattle.sqlite.specs.declared.error.Error.{Error}
-use Rattle.sqlite.specs.Tree.{Trees}
-use Rattle.sqlite.specs.Effect.{Database}
 use Rattle.sqlite.specs.Store.{Ghosts}
 use Rattle.sqlite.specs.Held.{Held, state}
 use Rattle.sqlite.specs.State.{State, HasCleanDisk}
 use Rattle.dns_sqlite.specs.declared.schema.Start.{Start}
-use Rattle.dns_sqlite.specs.Statements.{HasRecords}
 use Rattle.dns_sqlite.specs.Reads.{WasAsked}
-use Rattle.dns_sqlite.specs.Migration.{IsBefore, IsRaised, BecomesCurrent, RaisesVersion, rows_before}
+use Rattle.dns_sqlite.specs.Migration.{IsBefore, IsRaised, BecomesCurrent, RaisesVersion}
 use Rattle.dns_keeper.specs.declared.batch_row.BatchRow.{BatchRow}
-use Rattle.dns_journal.specs.Migrating.{AreBatchesFor, BecomesWith, MayBecomeWith, Raises}
+use Rattle.dns_journal.specs.Migrating.{AreBatchesFor, BecomesWith, Raises}
 
 on_ok : {T E : Type 0} (r : Result T E) (P Q : Type 0) → OnOk r P → (P → Q) → OnOk r Q
 on_ok (Ok x) P Q p f = f p

@@ -1,14 +1,12 @@
 -- The runs of the rows of a table that were read one by one.
-use Rattle.std.proofs.Common.{◌≡◌, ◌+ℤ◌, ◌-◌, ◌^◌, ◌++◌, ◌⊎◌, ◌≤◌, ℤ, pos, neg_ℤ, false, List, [], ◌∷◌, Option, Some, None, IsTrue, Result, Ok, Err, IfOk, inl, inr, refl, sym, ap, subst, ◌∙◌, arith, append_assoc, append-nil}
-use Rattle.sqlite_trees.specs.View.{doubt}
+use Rattle.std.proofs.Common.{◌≡◌, ◌+ℤ◌, ◌-◌, ◌^◌, ◌++◌, ℤ, pos, neg_ℤ, false, List, [], ◌∷◌, Option, Some, None, Result, Ok, Err, IfOk, inl, inr, refl, sym, ap, subst, ◌∙◌, arith, append_assoc, append-nil}
 use Rattle.sqlite.specs.Order.{Row as Shown}
 use Rattle.sqlite.specs.Effect.{Database}
 use Rattle.sqlite.specs.Store.{Ghosts}
 use Rattle.sqlite.specs.Held.{Held, state}
-use Rattle.sqlite.specs.State.{State, HasCleanDisk}
+use Rattle.sqlite.specs.State.{HasCleanDisk}
 use Rattle.dns_sqlite.specs.Statements.{HasRecords}
 use Rattle.dns_sqlite.specs.Reads.{WasAsked}
-use Rattle.dns_sqlite.specs.Versions.{KeepsDatabase}
 use Rattle.dns_keeper.specs.declared.row.Row.{Row}
 use Rattle.dns_keeper.specs.declared.batch_row.BatchRow.{BatchRow}
 use Rattle.dns_keeper.specs.Batches.{runs_of}

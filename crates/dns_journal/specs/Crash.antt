@@ -1,5 +1,5 @@
 -- What a crash may leave of a journal.
-use Rattle.std.specs.Prelude.{◌≡◌, ◌⊎◌, ℤ, true, List, Some, IsTrue}
+use Rattle.std.specs.Prelude.{◌≡◌, ◌⊎◌, ℤ, true, List, IsTrue}
 use Rattle.sqlite.specs.Tree.{Trees}
 use Rattle.sqlite.specs.State.{State, HasCleanDisk}
 use Rattle.sqlite.specs.Store.{Ghosts}

@@ -1,5 +1,5 @@
 -- Rows that were read and that are not taken yet.
-use Rattle.std.specs.Prelude.{◌≡◌, ℕ, ℤ, Bool, List, [], ◌∷◌, Option, Some, None}
+use Rattle.std.specs.Prelude.{◌≡◌, ℕ, ℤ, List, [], ◌∷◌, Option, Some, None}
 use Rattle.std.specs.Vec.Iter.{into_iter_items}
 use Rattle.sqlite.specs.Order.{Row as Shown}
 use Rattle.sqlite.specs.State.{State, HasCleanDisk}

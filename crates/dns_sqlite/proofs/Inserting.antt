@@ -10,7 +10,7 @@ use Rattle.sqlite.proofs.InsideLemmas.{keeps_then}
 use Rattle.dns_keeper.specs.declared.batch_row.BatchRow.{BatchRow}
 use Rattle.dns_sqlite.specs.Statements.{HasTables, Statement, Statements}
 use Rattle.dns_sqlite.specs.Migration.{PutsBatch}
-use Rattle.dns_sqlite.specs.Batch.{next_batch, PutsOne, PutsAll, PutsWhole, NamesFirst}
+use Rattle.dns_sqlite.specs.Batch.{PutsOne, PutsAll, PutsWhole, NamesFirst}
 use Rattle.dns_sqlite.proofs.Batches.{puts_first, puts_whole}
 use Rattle.dns_sqlite.proofs.Statements.{ok_then}
 

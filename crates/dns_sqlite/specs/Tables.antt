@@ -1,5 +1,5 @@
 -- The tables of a journal.
-use Rattle.std.specs.Prelude.{◌≡◌, Bool, filter, map, take, true, false, [], ◌∷◌, Option, None, Some, codes, List, ℕ, ℤ}
+use Rattle.std.specs.Prelude.{◌≡◌, Bool, filter, map, take, true, false, [], ◌∷◌, None, Some, codes, List, ℕ, ℤ}
 use Rattle.sqlite.specs.Collation.TheVariants.{Binary}
 use Rattle.sqlite.specs.declared.types.Value.TheVariants.{Null, Int, Text as Words, Blob as Octets}
 use Rattle.sqlite.specs.Order.{Row, column}

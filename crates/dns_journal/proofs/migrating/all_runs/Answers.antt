@@ -1,4 +1,4 @@
-use Rattle.std.proofs.Common.{◌+ℤ◌, pos, sym, ap, subst, ◌∙◌, to_z, w64}
+use Rattle.std.proofs.Common.{sym, subst, ◌∙◌, to_z, w64}
 use Rattle.std.proofs.lemmas.Int.{to_z-of_z}
 use Rattle.sqlite.specs.Held.{state}
 use Rattle.dns_journal.specs.Pages.{HoldsPage}

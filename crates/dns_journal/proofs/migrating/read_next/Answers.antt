@@ -1,4 +1,4 @@
-use Rattle.std.proofs.Common.{◌≡◌, inr, w64}
+use Rattle.std.proofs.Common.{inr, w64}
 use Rattle.std.proofs.lemmas.Int.{to_z-of_z}
 use Rattle.sqlite.specs.Held.{state}
 use Rattle.dns_journal.proofs.Pages.{first_in, opens_in}

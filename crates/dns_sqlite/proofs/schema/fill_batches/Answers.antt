@@ -1,9 +1,3 @@
-use Rattle.std.proofs.Common.{[], subst, sym, ◌∙◌, arith}
-use Rattle.sqlite.specs.Held.{state}
-use Rattle.dns_sqlite.specs.Tables.{empty_schema}
-use Rattle.dns_sqlite.specs.Statements.{HasSchema, HasTables}
-use Rattle.dns_sqlite.specs.Versions.{version_rows, current_version, HasMade, IsVersionAlone, HasNoRows, IsVersionRows}
-use Rattle.dns_sqlite.specs.Migration.{PutsBatches, HasBatches, HasBatchTable, IsUnraised, RaisesVersionRow}
 use Rattle.dns_sqlite.proofs.Statements.{refused_first}
 use Rattle.dns_sqlite.proofs.BatchMakes.{fills_batches}
 use Rattle.dns_sqlite.proofs.schema.fill_batches.Goals as goal

@@ -1,9 +1,8 @@
 use Rattle.std.proofs.Common.{[]}
-use Rattle.sqlite.specs.Held.{state}
 use Rattle.dns_sqlite.specs.Tables.{empty_schema}
-use Rattle.dns_sqlite.specs.Statements.{HasSchema, HasTables}
-use Rattle.dns_sqlite.specs.Versions.{version_rows, current_version, HasMade, IsVersionAlone, HasNoRows, IsVersionRows}
-use Rattle.dns_sqlite.specs.Migration.{PutsBatches, HasBatches, HasBatchTable, IsUnraised, RaisesVersionRow}
+use Rattle.dns_sqlite.specs.Statements.{HasSchema}
+use Rattle.dns_sqlite.specs.Versions.{current_version, HasMade, IsVersionAlone}
+use Rattle.dns_sqlite.specs.Migration.{HasBatches}
 use Rattle.dns_sqlite.proofs.Statements.{refused, follows}
 use Rattle.dns_sqlite.proofs.schema.make_all.Goals as goal
 

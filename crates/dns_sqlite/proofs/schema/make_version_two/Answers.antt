@@ -1,9 +1,6 @@
 use Rattle.std.proofs.Common.{[], refl, ◌∙◌}
-use Rattle.sqlite.specs.Held.{state}
-use Rattle.dns_sqlite.specs.Tables.{empty_schema}
-use Rattle.dns_sqlite.specs.Statements.{HasSchema, HasTables}
-use Rattle.dns_sqlite.specs.Versions.{version_rows, current_version, HasMade, IsVersionAlone, HasNoRows, IsVersionRows}
-use Rattle.dns_sqlite.specs.Migration.{PutsBatches, HasBatches, HasBatchTable, IsUnraised, RaisesVersionRow}
+use Rattle.dns_sqlite.specs.Versions.{version_rows, current_version, HasMade, IsVersionRows}
+use Rattle.dns_sqlite.specs.Migration.{HasBatches, HasBatchTable}
 use Rattle.dns_sqlite.proofs.Statements.{refused, follows}
 use Rattle.dns_sqlite.proofs.schema.make_version_two.Goals as goal
 

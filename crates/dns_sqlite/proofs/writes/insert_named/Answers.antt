@@ -1,4 +1,4 @@
-use Rattle.dns_sqlite.proofs.Statements.{refused, answers}
+use Rattle.dns_sqlite.proofs.Statements.{refused}
 use Rattle.dns_sqlite.proofs.writes.insert_named.Goals as goal
 
 pub returns-in_err-_count-clause-done : goal.returns-in_err-_count-clause-done

@@ -1,5 +1,4 @@
-use Rattle.dns_sqlite.proofs.Statements.{refused_on, answers}
-use Rattle.dns_sqlite.proofs.Inserting.{follow_first}
+use Rattle.dns_sqlite.proofs.Statements.{refused_on}
 use Rattle.dns_sqlite.proofs.writes.insert_some_rows.Goals as goal
 
 pub returns-in_err-id-clause-done : goal.returns-in_err-id-clause-done

@@ -1,4 +1,4 @@
-use Rattle.std.proofs.Common.{◌≡◌, ◌∷◌, ◌+ℤ◌, pos, subst, sym, ap, ◌∙◌, w64}
+use Rattle.std.proofs.Common.{◌+ℤ◌, pos, subst, sym, ap, ◌∙◌, w64}
 use Rattle.std.specs.Vec.Iter.{into_iter_items}
 use Rattle.std.proofs.lemmas.Int.{to_z-of_z}
 use Rattle.dns_journal.specs.Pages.{led}

@@ -1,4 +1,4 @@
-use Rattle.std.proofs.Common.{ap, subst, rules}
+use Rattle.std.proofs.Common.{◌<ℤ◌, ◌≤ℤ◌, subst, rules}
 use Rattle.std.specs.Vec.Iter.{into_iter_items}
 use Rattle.dns_sqlite.specs.Reads.{AreBatchesIn}
 use Rattle.dns_journal.specs.Pages.{led}
@@ -14,12 +14,15 @@ returns-in_default-clause-none c next table read =
 pub returns-then-batch-first-clause-none : goal.returns-then-batch-first-clause-none
 returns-then-batch-first-clause-none c next table read =
     let page = c.args.self.now in
-    no_lower c.args.first table c.in-Some.batch (into_iter_items page.rest) c.if-batch-first.true (subst (λ o. AreBatchesIn c.args.first table (led o (into_iter_items page.rest))) c.in-Some.is read)
+    let lower : c.in-Some.batch.first <ℤ c.args.first = search rules in
+    no_lower c.args.first table c.in-Some.batch (into_iter_items page.rest) lower (subst (λ o. AreBatchesIn c.args.first table (led o (into_iter_items page.rest))) c.in-Some.is read)
 
 pub returns-clause-found : goal.returns-clause-found
 returns-clause-found c table holds =
     let page = c.args.self.now in
-    taken_is page.next c.args.first table c.in-Some.batch (into_iter_items page.rest) c.if-first-self.false c.if-batch-first.false (subst (λ o. HoldsAhead page.next table (led o (into_iter_items page.rest))) c.in-Some.is holds)
+    let low : page.next ≤ℤ c.args.first = search rules in
+    let high : c.args.first ≤ℤ c.in-Some.batch.first = search rules in
+    taken_is page.next c.args.first table c.in-Some.batch (into_iter_items page.rest) low high (subst (λ o. HoldsAhead page.next table (led o (into_iter_items page.rest))) c.in-Some.is holds)
 
 pub returns-clause-held : goal.returns-clause-held
 returns-clause-held c table holds =

@@ -1,4 +1,5 @@
-use Rattle.std.proofs.Common.{◌≡◌, ◌∙◌, ◌<◌, length, map, true, Err, refl, sym, subst, rules, arith}
+use Rattle.std.proofs.Common.{◌≡◌, ◌∙◌, ◌<◌, [], length, map, true, Ok, Err, refl, sym, ap, subst, rules, arith}
+use Rattle.std.proofs.lemmas.Bool.{eqb-true}
 use Rattle.sqlite.specs.Held.{state}
 use Rattle.sqlite.specs.State.{HasCleanDisk}
 use Rattle.dns_wire.specs.WireFormat.{record_bytes}
@@ -10,8 +11,9 @@ use Rattle.dns_journal.specs.Inserts.{Inserts}
 use Rattle.dns_journal.proofs.Telling.{stamp_for, ready_grown, fits_grown, ready_kept, fits_kept}
 use Rattle.dns_journal.proofs.Pages.{holds_none}
 use Rattle.dns_journal.proofs.BatchPages.{holds_no_batch}
-use Rattle.dns_journal.proofs.Asking.{stays_is}
-use Rattle.dns_journal.proofs.Inserting.{inserts_batch, inserts_no_batch, some_records, refuses_by}
+use Rattle.dns_sqlite.specs.Versions.{current_version}
+use Rattle.dns_journal.proofs.Asking.{stays_is, is_current}
+use Rattle.dns_journal.proofs.Inserting.{inserts_batch, inserts_no_batch, inserts_none, some_records, no_records, refuses_by}
 use Rattle.dns_journal.proofs.journal.Journal.insert_slice.Goals as goal
 
 pub invariant_of-self : goal.invariant_of-self
@@ -41,6 +43,19 @@ invariant_of-self-in-Err g c =
       page = λ clean. holds_none c.empty.result _ c.empty.ensures;
       batches = λ clean. holds_no_batch c.none.result _ c.none.ensures;
       fits = fits_kept c.self.inside.version old new c.self.invariant.fits failed.falls (λ clean live. let k = failed.kept clean live in (k.0, k.1));
+    }
+
+pub returns-then-is_empty : goal.returns-then-is_empty
+returns-then-is_empty g c =
+    let records = c.args.records.now in
+    let is : c.self.inside.ready ≡ true = search rules in
+    let items = c.in_ok-all.ensures.ok.0 in
+    let none : records ≡ [] = no_records records (omega (arith, c.in_ok-all.all.ok, ap length items, eqb-true c.in_ok-all.all.len 0 (sym c.is_empty.ensures ∙ c.if-is_empty.true))) in
+    let current : c.args.self.now.version ≡ current_version = rw (← c.self.view_is) (is_current c.self.inside.ready c.self.inside.version (state g.S.Store c.self.inside.conn) is c.self.invariant.ready) in
+    let ready : c.args.self.now.is_ready ≡ true = rw (← c.self.view_is) is in
+    record {
+      inserted = subst (λ rs. Inserts g.S.Store c.args.self.now c.args.self.now c.args.client c.args.soa_serial c.args.moment rs (Ok tt)) (sym none)
+          (inserts_none g.S.Store c.args.client c.args.soa_serial c.args.moment c.args.self.now current ready);
     }
 
 pub returns-in-Ok : goal.returns-in-Ok

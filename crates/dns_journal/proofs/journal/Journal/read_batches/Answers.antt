@@ -15,9 +15,9 @@ first_batch_of-requires g c clean =
     let done = c.in-Ok.ensures in
     let is : c.self.inside.ready ≡ true = rw (← c.self.view_is) at c.requires in
     let ready : IsReady true c.self.inside.version old = subst (λ b. IsReady b c.self.inside.version old) is c.self.invariant.ready in
-    let kept = done.asked.kept ready.1 clean (done.opened clean) in
+    let same = (done.same clean (done.opened clean)).0.now_is in
     let it = done.found clean (ready.2 (omega (arith, done.asked.falls, clean)) (done.opened clean)) in
-    subst (λ (d : Database). AreBatchesIn (to_z w64 (of_z w64 c.args.first)) (d.trees 2) c.in-Ok.batches.items) (sym kept.1) it
+    subst (λ (d : Database). AreBatchesIn (to_z w64 (of_z w64 c.args.first)) (d.trees 2) c.in-Ok.batches.items) (sym same) it
 
 pub returns-in-Ok-clause-stays : goal.returns-in-Ok-clause-stays
 returns-in-Ok-clause-stays g c =

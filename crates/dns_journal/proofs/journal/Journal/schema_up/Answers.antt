@@ -1,8 +1,7 @@
-use Rattle.std.proofs.Common.{◌⊎◌, arith, inl, inr, refl, sym, subst}
+use Rattle.std.proofs.Common.{◌⊎◌, arith, inl, inr, sym, subst}
 use Rattle.sqlite.specs.Held.{state}
 use Rattle.sqlite.specs.State.{HasCleanDisk}
 use Rattle.dns_journal.specs.Crash.{LeftRaised, LeavesTrees}
-use Rattle.dns_journal.specs.Migrating.{BecomesWith}
 use Rattle.dns_journal.proofs.Opening.{before, runs_for, raised_journal, tells_journal, ready_raised, fits_raised, ready_kept, fits_kept}
 use Rattle.dns_journal.proofs.Pages.{holds_none}
 use Rattle.dns_journal.proofs.BatchPages.{holds_no_batch}
