@@ -1,0 +1,97 @@
+//! Runs over keepers in memory that begin with rows and batches of their own.
+
+ghost use Rattle.std.specs.Prelude.{◌≡◌, IfOk};
+
+use crate::runs::run_line;
+use dns_io::Octets;
+use dns_keeper::{BatchRow, Keeper, MemoryKeeper, Row};
+use dns_rows::number;
+use std::alloc::Global;
+use std::test::Fail;
+
+/// What comes of a run over a keeper that has eight rows, of which one may lack its last byte: `ROW / MAKING / RUN`, where ROW is the id of
+/// the row, MAKING the line of the run that makes the rows, and RUN the one that is told.
+pub fn rows(alloc: Global, given: &str) -> Result<String, Fail> {
+    let (cut, lines) = given.split_once(" / ").unwrap_or((given, ""));
+    let (making, line) = lines.split_once(" / ").unwrap_or((lines, ""));
+    let mut made = made(alloc, making)?;
+    told(alloc, eight_rows(alloc, &mut made, number(cut))?, line)
+}
+
+/// What comes of a run over a keeper that has nine rows, with a batch of the first eight, and one behind the last: `MAKING / RUN`.
+pub fn parts(alloc: Global, given: &str) -> Result<String, Fail> {
+    let (making, line) = given.split_once(" / ").unwrap_or((given, ""));
+    let mut made = made(alloc, making)?;
+    told(alloc, nine_rows(alloc, &mut made)?, line)
+}
+
+/// A keeper after the run that makes its rows.
+fn made(alloc: Global, line: &str) -> Result<MemoryKeeper, Fail> {
+    let mut unread = String::new(alloc);
+    run_line(alloc, line, MemoryKeeper::new(alloc), &mut unread)
+}
+
+/// What comes of a run over a keeper, and the keeper's count of faults.
+fn told(alloc: Global, keeper: MemoryKeeper, line: &str) -> Result<String, Fail> {
+    let mut answers = String::new(alloc);
+    let keeper = run_line(alloc, line, keeper, &mut answers)?;
+    write!(answers, "{}", keeper.fault_count())?;
+    Ok(answers)
+}
+
+/// The row with this id; where it is the one to be cut, without its last byte.
+fn row(alloc: Global, keeper: &mut MemoryKeeper, id: i64, cut: u64) -> Result<Row, Fail>
+    ensures { IfOk result (λ row. row.id ≡ id) }
+{
+    let Ok(Some(found)) = keeper.row_from(id) else {
+        return Err(Fail::from("no such row"));
+    };
+    let mut bytes = found.bytes.into_vec();
+    if id as u64 == cut {
+        bytes.pop();
+    }
+    Ok(Row {
+        id,
+        client: found.client,
+        serial: found.serial,
+        stamp: found.stamp,
+        bytes: Octets::from_vec(bytes),
+    })
+}
+
+/// A keeper of the rows with the ids from 1 to 8, the batches of which are their runs.
+fn eight_rows(alloc: Global, made: &mut MemoryKeeper, cut: u64) -> Result<MemoryKeeper, Fail> {
+    let rows = vec![in alloc;
+        row(alloc, made, 1, cut)?,
+        row(alloc, made, 2, cut)?,
+        row(alloc, made, 3, cut)?,
+        row(alloc, made, 4, cut)?,
+        row(alloc, made, 5, cut)?,
+        row(alloc, made, 6, cut)?,
+        row(alloc, made, 7, cut)?,
+        row(alloc, made, 8, cut)?,
+    ]?;
+    Ok(MemoryKeeper::from_rows(alloc, rows)?)
+}
+
+/// A keeper of the rows with the ids from 1 to 9, with a batch of the first eight, and one behind the last.
+fn nine_rows(alloc: Global, made: &mut MemoryKeeper) -> Result<MemoryKeeper, Fail> {
+    let rows = vec![in alloc;
+        row(alloc, made, 1, 0)?,
+        row(alloc, made, 2, 0)?,
+        row(alloc, made, 3, 0)?,
+        row(alloc, made, 4, 0)?,
+        row(alloc, made, 5, 0)?,
+        row(alloc, made, 6, 0)?,
+        row(alloc, made, 7, 0)?,
+        row(alloc, made, 8, 0)?,
+        row(alloc, made, 9, 0)?,
+    ]?;
+    let first = BatchRow { first: 1, count: 8 };
+    let last = BatchRow {
+        first: 10,
+        count: 1,
+    };
+    let batches = vec![in alloc; first, last]?;
+    Ok(MemoryKeeper::from_parts(alloc, rows, batches))
+}
