@@ -15,14 +15,18 @@ pub fn rows(alloc: Global, given: &str) -> Result<String, Fail> {
     let (cut, lines) = given.split_once(" / ").unwrap_or((given, ""));
     let (making, line) = lines.split_once(" / ").unwrap_or((lines, ""));
     let mut made = made(alloc, making)?;
-    told(alloc, eight_rows(alloc, &mut made, number(cut))?, line)
+    told(
+        alloc,
+        keeper_of(alloc, &mut made, number(cut), false)?,
+        line,
+    )
 }
 
 /// What comes of a run over a keeper that has nine rows, with a batch of the first eight, and one behind the last: `MAKING / RUN`.
 pub fn parts(alloc: Global, given: &str) -> Result<String, Fail> {
     let (making, line) = given.split_once(" / ").unwrap_or((given, ""));
     let mut made = made(alloc, making)?;
-    told(alloc, nine_rows(alloc, &mut made)?, line)
+    told(alloc, keeper_of(alloc, &mut made, 0, true)?, line)
 }
 
 /// A keeper after the run that makes its rows.
@@ -59,9 +63,15 @@ fn row(alloc: Global, keeper: &mut MemoryKeeper, id: i64, cut: u64) -> Result<Ro
     })
 }
 
-/// A keeper of the rows with the ids from 1 to 8, the batches of which are their runs.
-fn eight_rows(alloc: Global, made: &mut MemoryKeeper, cut: u64) -> Result<MemoryKeeper, Fail> {
-    let rows = vec![in alloc;
+/// A keeper of the rows with the ids from 1 to 8, the batches of which are their runs; or of nine, with a batch of the first eight, and one
+/// behind the last.
+fn keeper_of(
+    alloc: Global,
+    made: &mut MemoryKeeper,
+    cut: u64,
+    has_nine: bool,
+) -> Result<MemoryKeeper, Fail> {
+    let mut rows = vec![in alloc;
         row(alloc, made, 1, cut)?,
         row(alloc, made, 2, cut)?,
         row(alloc, made, 3, cut)?,
@@ -71,22 +81,10 @@ fn eight_rows(alloc: Global, made: &mut MemoryKeeper, cut: u64) -> Result<Memory
         row(alloc, made, 7, cut)?,
         row(alloc, made, 8, cut)?,
     ]?;
-    Ok(MemoryKeeper::from_rows(alloc, rows)?)
-}
-
-/// A keeper of the rows with the ids from 1 to 9, with a batch of the first eight, and one behind the last.
-fn nine_rows(alloc: Global, made: &mut MemoryKeeper) -> Result<MemoryKeeper, Fail> {
-    let rows = vec![in alloc;
-        row(alloc, made, 1, 0)?,
-        row(alloc, made, 2, 0)?,
-        row(alloc, made, 3, 0)?,
-        row(alloc, made, 4, 0)?,
-        row(alloc, made, 5, 0)?,
-        row(alloc, made, 6, 0)?,
-        row(alloc, made, 7, 0)?,
-        row(alloc, made, 8, 0)?,
-        row(alloc, made, 9, 0)?,
-    ]?;
+    if !has_nine {
+        return Ok(MemoryKeeper::from_rows(alloc, rows)?);
+    }
+    rows.push(row(alloc, made, 9, cut)?)?;
     let first = BatchRow { first: 1, count: 8 };
     let last = BatchRow {
         first: 10,
