@@ -402,7 +402,7 @@ def missing_row_before_text(journal, zone):
 REFUSALS = [
     (no_database, 8, "keeper fault", "sqlite error"),
     (a_folder, 8, "keeper fault", "sqlite error"),
-    (foreign_table, 8, "keeper fault", "sqlite error"),
+    (foreign_table, 8, "keeper fault", "error recovering from journal: schema version"),
     (later_version, 8, "keeper fault", "a journal of version 3, of which this program knows 0 to 2"),
     (cut_row, 5, "journal row 3: row is no record"),
     (cut_row_of_eight, 5, "journal row 5: row is no record"),
