@@ -1,6 +1,6 @@
 //! Appends, look-ups of rows and batches, and failing calls. The bytes of a row are written down by hand from RFC 1035 4.1.3.
 
-ghost use Rattle.std.specs.Prelude.{IfOk};
+ghost use Rattle.std.specs.Prelude.{◌≡◌, IfOk};
 ghost use Rattle.dns_wire.specs.WireFormat.{IsShort, AreShort};
 
 use crate::zones::keeper;
