@@ -8,7 +8,9 @@ use dns_command::run::run;
 use dns_command::{Ended, HELP, Status, VERSION, after_writing};
 use dns_edges::{FileSource, Reading, SystemClock, Writing};
 use dns_io::OutOfMemory;
-use dns_journal::{CURRENT_VERSION, ClosedJournal, FileJournal, PersistenceError, RecoveryKind, shown_version};
+use dns_journal::{
+    CURRENT_VERSION, ClosedJournal, FileJournal, PersistenceError, RecoveryKind, shown_version,
+};
 use dns_keeper::{Keeper, MemoryKeeper};
 use dns_ports::SocketHub;
 use dns_words::{Action, action_of, hex_words, put_text, unread_words};
@@ -101,7 +103,10 @@ fn tell_unopened(rt: &HostRuntime, path: &str, error: &PersistenceError) {
         _ => None,
     };
     let _told = match version {
-        Some(number) => eprintln!(rt; "dns: {path}: a journal of version {number}, of which this program knows 0 to {}", CURRENT_VERSION),
+        Some(number) => eprintln!(rt;
+            "dns: {path}: a journal of version {number}, of which this program knows 0 to {}",
+            CURRENT_VERSION
+        ),
         None => eprintln!(rt; "dns: {path}: {error}"),
     };
 }

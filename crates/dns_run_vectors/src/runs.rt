@@ -25,7 +25,7 @@ sub.example.com. 3600 IN NS ns.sub.example.com.
 
 /// Runs what a line says over a keeper, which is handed back: `SERIAL WORDS: LINES`. The zone text has seven records and this serial, and the
 /// event text these lines, parted by `;`. Adds how it ended and what it wrote.
-pub fn run_line<K: Keeper>(
+pub fn run_line<K: Keeper + Drop>(
     alloc: Global,
     line: &str,
     keeper: K,
