@@ -5,7 +5,6 @@ ghost use Rattle.std.specs.Prelude.{◌≡◌, IfOk};
 use crate::runs::run_line;
 use dns_io::Octets;
 use dns_keeper::{BatchRow, Keeper, MemoryKeeper, Row};
-use dns_rows::number;
 use std::alloc::Global;
 use std::test::Fail;
 
@@ -17,7 +16,7 @@ pub fn rows(alloc: Global, given: &str) -> Result<String, Fail> {
     let mut made = made(alloc, making)?;
     told(
         alloc,
-        keeper_of(alloc, &mut made, number(cut), false)?,
+        keeper_of(alloc, &mut made, cut.parse().unwrap_or(0), false)?,
         line,
     )
 }
@@ -44,14 +43,14 @@ fn told(alloc: Global, keeper: MemoryKeeper, line: &str) -> Result<String, Fail>
 }
 
 /// The row with this id; where it is the one to be cut, without its last byte.
-fn row(alloc: Global, keeper: &mut MemoryKeeper, id: i64, cut: u64) -> Result<Row, Fail>
+fn row(alloc: Global, keeper: &mut MemoryKeeper, id: i64, cut: i64) -> Result<Row, Fail>
     ensures { IfOk result (λ row. row.id ≡ id) }
 {
     let Ok(Some(found)) = keeper.row_from(id) else {
         return Err(Fail::from("no such row"));
     };
     let mut bytes = found.bytes.into_vec();
-    if id as u64 == cut {
+    if id == cut {
         bytes.pop();
     }
     Ok(Row {
@@ -68,7 +67,7 @@ fn row(alloc: Global, keeper: &mut MemoryKeeper, id: i64, cut: u64) -> Result<Ro
 fn keeper_of(
     alloc: Global,
     made: &mut MemoryKeeper,
-    cut: u64,
+    cut: i64,
     has_nine: bool,
 ) -> Result<MemoryKeeper, Fail> {
     let mut rows = vec![in alloc;
