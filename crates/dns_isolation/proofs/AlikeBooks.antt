@@ -64,7 +64,7 @@ alike_ends keeper one a b ask xs ys _ _ _ _ _ _ (idle none) (idle nor) e f same 
 alike_ends keeper one a b ask xs ys _ _ _ _ _ _ (idle none) (journalled some held grew run later) e f same h = absurd (some_none xs ys same none some)
 alike_ends keeper one a b ask xs ys _ _ _ _ _ _ (idle none) (failed some held kept batches later rose) e f same h = absurd cc
 alike_ends keeper one a b ask xs ys _ _ _ _ _ _ (journalled some held grew run later) (idle none) e f same h = absurd (some_none ys xs (sym same) none some)
-alike_ends keeper one a b ask xs ys _ _ _ _ _ _ (journalled some held grew run later) (journalled more second grown run since) e f same h = record {
+alike_ends keeper one a b ask xs ys _ _ _ _ _ _ (journalled some held grew run later) (journalled more second grown ran since) e f same h = record {
   zone = ap (λ (z : Contents). zone_with z xs) h.zone ∙ ap (zone_with b.zone) same;
   allow_update = h.allow_update;
   row_count = ap (λ (n : ℕ). n + length xs) h.row_count ∙ ap (λ (l : List Record). b.row_count + length l) same;
