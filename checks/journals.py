@@ -54,7 +54,7 @@ def run(words, journal, events, zone=None):
     """The program over a journal: its status and its output."""
     command = [updates.PROGRAM, *words, f"--journal={journal}", *([f"--zone={zone}"] if zone else [])]
     text = "".join(map(connections.line, events)).encode()
-    done = subprocess.run(command, input=text, stdout=subprocess.PIPE, timeout=BOUND)
+    done = subprocess.run(command, input=text, stdout=subprocess.PIPE, stderr=subprocess.DEVNULL, timeout=BOUND)
     return done.returncode, done.stdout.decode(errors="replace")
 
 
