@@ -15,3 +15,6 @@ pub mod EntryBack
 pub mod Placing
 pub mod Whole
 pub mod Aliases
+pub mod Putting
+pub mod Alone
+pub mod LineByLine

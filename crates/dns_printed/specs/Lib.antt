@@ -1,5 +1,7 @@
 pub mod Printed
+pub mod Appending
 pub mod Lone
+pub mod Refusal
 pub mod Kept
 pub mod Reading
 pub mod Rows

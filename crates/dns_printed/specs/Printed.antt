@@ -1,5 +1,5 @@
 -- The records of a zone as text: a line for each, with all names absolute (RFC 1035 5.1; RFC 3597 5; RFC 4291 2.2).
-use Rattle.std.specs.Prelude.{ℕ, ◌+◌, ◌/◌, ◌%◌, ◌^◌, nat_le, Bool, ◌==◌, ◌&&◌, ◌||◌, not, if◌then◌else◌, List, [], ◌∷◌, ◌++◌, length, map}
+use Rattle.std.specs.Prelude.{ℕ, ◌+◌, ◌/◌, ◌%◌, ◌^◌, nat_le, Bool, ◌==◌, ◌&&◌, ◌||◌, not, if◌then◌else◌, List, [], ◌∷◌, ◌++◌, length, map, take, drop}
 use Rattle.std.specs.List.{flat_map}
 use Rattle.std.specs.Fmt.{decimal}
 use Rattle.std.specs.Char.{is_ascii_digit, is_ascii_lowercase}
@@ -96,6 +96,14 @@ spaced words = flat_map (λ word. 32 ∷ word) words
 abbrev pub record_line : Record → List ℕ
 record_line r = name_text r.name ++ spaced (decimal r.ttl ∷ codes "IN" ∷ type_text r.rtype ∷ data_words r.rdata)
 
--- the text of a zone with these records: each line ends with a line feed
+-- the line of a record, with the line feed at its end
+abbrev pub printed_line : Record → List ℕ
+printed_line r = record_line r ++ 10 ∷ []
+
+-- the text of a zone with these records: the line of each
 abbrev pub zone_text : List Record → List ℕ
-zone_text records = flat_map (λ r. record_line r ++ 10 ∷ []) records
+zone_text records = flat_map printed_line records
+
+-- the line of the record at a place, from 0
+abbrev pub line_at : List Record → ℕ → List ℕ
+line_at records place = zone_text (take 1 (drop place records))

@@ -1,6 +1,6 @@
 //! What the types of records keep of them, as facts that proofs can cite. The calls do nothing.
 
-ghost use Rattle.std.specs.Prelude.{◌<◌, ◌^◌};
+ghost use Rattle.std.specs.Prelude.{◌<◌, ◌^◌, map};
 ghost use Rattle.std.specs.List.{AllByRecursion};
 ghost use Rattle.dns_name.specs.Name.{IsName};
 ghost use Rattle.dns_wire.specs.Texts.{AreTexts};
@@ -13,6 +13,15 @@ use dns_wire::{Data, Record, Texts};
 /// What is kept of each record.
 pub fn kept_records(records: &[Record])
     ensures { AllByRecursion IsKept records.now }
+{
+    for one in records {
+        kept_record(one);
+    }
+}
+
+/// The same of records where they are held.
+pub fn kept_listed(records: &[&Record])
+    ensures { AllByRecursion IsKept (map (λ r. r.now) records.now) }
 {
     for one in records {
         kept_record(one);

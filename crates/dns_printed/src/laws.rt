@@ -4,7 +4,7 @@
 //! `zone_of` is the definition of reading, and what `read_zone` of dns_zone gives. `IsZone` and `IsKept` ask nothing of a caller that
 //! has a zone: `Zone::records` says the one, and `kept_records` the other.
 
-ghost use Rattle.std.specs.Prelude.{◌≡◌, ℕ, List, Ok, codes};
+ghost use Rattle.std.specs.Prelude.{◌≡◌, ◌<◌, ◌+◌, ◌++◌, ℕ, List, length, take, Ok, codes};
 ghost use Rattle.std.specs.List.{AllByRecursion};
 ghost use Rattle.dns_wire.specs.declared.record.Record.{Record};
 ghost use Rattle.dns_zone_map.specs.Zone.{IsEntry, IsZone};
@@ -12,7 +12,7 @@ ghost use Rattle.dns_presentation.specs.declared.entry.Context.{Context};
 ghost use Rattle.dns_zone.specs.ZoneText.{zone_of};
 ghost use Rattle.dns_printed.specs.Kept.{IsKept};
 ghost use Rattle.dns_printed.specs.Lone.{HasLoneAliases};
-ghost use Rattle.dns_printed.specs.Printed.{record_line, zone_text};
+ghost use Rattle.dns_printed.specs.Printed.{record_line, zone_text, line_at};
 ghost use Rattle.dns_printed.specs.Reading.{Says};
 ghost use Rattle.dns_printed.specs.Rows.{address, wide_address, host, exchange, service, start, strings, private_type, wildcard, odd_name};
 
@@ -28,6 +28,13 @@ pub fn printed_rows()
     ensures opaque { record_line private_type ≡ codes "www.example.com. 3600 IN TYPE65280 \\# 3 00ab0f" }
     ensures wildcard { record_line wildcard ≡ codes "*.example.com. 3600 IN CNAME www.example.com." }
     ensures odd { record_line odd_name ≡ codes "a\\046b\\000c.example.com. 3600 IN PTR \\064." }
+{}
+
+/// How the text of a zone's records goes on from line to line.
+pub fn printed_lines()
+    // The line at a place stands behind the text of the records before it.
+    ensures { (records : List Record) (place : ℕ) → place < length records
+        → zone_text (take (place + 1) records) ≡ zone_text (take place records) ++ line_at records place }
 {}
 
 /// What the line of a record is read as.

@@ -17,6 +17,6 @@ pub use batch::{Batch, Modified, apply, change, update};
 pub use changing::{is_ignored, is_newer, makes_change};
 pub use folding::folded_record;
 pub use replay_kind::ReplayKind;
-pub use row_change::{RowEffect, read_row};
+pub use row_change::{RowEffect, one_record, read_row};
 pub use stepping::{set_serial, step};
 pub use verdict::{Verdict, judge};

@@ -52,8 +52,8 @@ pub fn read_row(
     Ok(RowEffect::Change { one: small, serial })
 }
 
-/// The record that bytes are, from the first to the last, if they are one.
-fn one_record(alloc: Global, bytes: &[u8]) -> Result<Option<Record>, OutOfMemory>
+/// The record that bytes are, from the first to the last, if they are one (RFC 1035 4.1.3).
+pub fn one_record(alloc: Global, bytes: &[u8]) -> Result<Option<Record>, OutOfMemory>
     ensures reading { IfOk result (IsReading bytes.now) }
     ensures short { IfOk result (λ read. IfSome read IsShort) }
 {

@@ -13,3 +13,4 @@ pub mod Descending
 pub mod Looking
 pub mod Besides
 pub mod TakenRows
+pub mod AnotherType

@@ -9,3 +9,4 @@ pub mod Contexts
 pub mod Updates
 pub mod Replayed
 pub mod Replaying
+pub mod Owner

@@ -169,7 +169,8 @@ fn add_sets<'a>(
     asked: Option<&'a Name>,
     parts: &mut Vec<LentRecords<'a>>,
 ) -> Result<(), OutOfMemory>
-    ensures { OnOk result (in_parts parts.new.items ≡ in_parts parts.old.items ++ map (given (option_map (λ n. fold_of n.now) asked.entry)) (in_all sets.now)) }
+    ensures { OnOk result (in_parts parts.new.items
+        ≡ in_parts parts.old.items ++ map (given (option_map (λ n. fold_of n.now) asked.entry)) (in_all sets.now)) }
 {
     for set in sets {
         parts.push(lent_set(set, asked))?;

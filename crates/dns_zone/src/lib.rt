@@ -7,6 +7,7 @@ pub mod laws;
 mod lent;
 mod look;
 mod lookup;
+mod owner;
 mod placement;
 mod replaying;
 mod update;

@@ -47,7 +47,8 @@ impl Zone {
         question: &'a Question,
     ) -> Result<Answer<'a>, OutOfMemory>
         requires { is_at_or_below question.now.name self.now.origin ≡ true }
-        ensures is { IfOk result (λ answer. record { code = answer.code; aa = answer.aa; answers = answer.answers; authority = answer.authority }
+        ensures is { IfOk result (λ answer. record
+            { code = answer.code; aa = answer.aa; answers = answer.answers; authority = answer.authority }
             ≡ lookup_of self.now question.now.name question.now.qtype) }
         ensures code { IfOk result (λ answer. answer.code ≤ 3) }
     {
@@ -64,7 +65,8 @@ impl Zone {
         answer: &mut Answer<'a>,
     ) -> Result<(), OutOfMemory>
         requires { is_at_or_below question.now.name self.now.origin ≡ true }
-        ensures is { OnOk result (record { code = answer.new.code; aa = answer.new.aa; answers = answer.new.answers; authority = answer.new.authority }
+        ensures is { OnOk result (record
+            { code = answer.new.code; aa = answer.new.aa; answers = answer.new.answers; authority = answer.new.authority }
             ≡ lookup_of self.now question.now.name question.now.qtype) }
         ensures code { OnOk result (answer.new.code ≤ 3) }
     {

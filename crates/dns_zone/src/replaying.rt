@@ -153,7 +153,8 @@ fn take_row(alloc: Global, map: &mut ZoneMap, place: u64, row: &Row) -> Result<(
     ensures so_far { IsSoFar map.new.origin map.new.records }
     ensures settled { map.new.before ≡ None }
     ensures taken { OnOk result (RunsTo map.old.origin place map.old.records (row.now ∷ []) (Ok map.new.records)) }
-    ensures fault { IfErr result (TellsEnd (λ end. (more : List JournalRow) → RunsTo map.old.origin place map.old.records (row.now ∷ more) end)) }
+    ensures fault { IfErr result (TellsEnd (λ end. (more : List JournalRow)
+        → RunsTo map.old.origin place map.old.records (row.now ∷ more) end)) }
 {
     match read_row(alloc, map.origin(), place, row)? {
         RowEffect::Snapshot => {

@@ -1,6 +1,6 @@
 //! A zone: its origin and its records (RFC 1034 4.2).
 
-ghost use Rattle.std.specs.Prelude.{◌≡◌, length, None, IfOk};
+ghost use Rattle.std.specs.Prelude.{◌≡◌, length, map, None, IfOk};
 ghost use Rattle.std.specs.Option.{option_copied};
 ghost use Rattle.dns_name.specs.Name.{fold_of};
 ghost use Rattle.dns_wire.specs.WireFormat.{AreShort};
@@ -10,7 +10,7 @@ ghost use Rattle.dns_zone_map.specs.Zone.{set_of, serial_of, IsZone};
 
 use dns_io::OutOfMemory;
 use dns_name::Name;
-use dns_wire::Records;
+use dns_wire::{Record, Records};
 use dns_zone_map::ZoneMap;
 use std::alloc::Global;
 use std::marker::Model;
@@ -85,7 +85,15 @@ impl Zone {
         &self.map
     }
 
-    /// All records, in their order.
+    /// All records, in their order, where they are held: nothing of them is copied.
+    pub fn listed(&self, alloc: Global) -> Result<Vec<&Record>, OutOfMemory>
+        ensures records { IfOk result (λ records. map (λ r. r.now) records.items ≡ self.now.records) }
+        ensures zone { IsZone self.now.origin self.now.records }
+    {
+        self.map.listed(alloc)
+    }
+
+    /// Copies of all records, in their order.
     pub fn records(&self, alloc: Global) -> Result<Records, OutOfMemory>
         ensures records { IfOk result (λ records. records ≡ self.now.records) }
         ensures zone { IsZone self.now.origin self.now.records }

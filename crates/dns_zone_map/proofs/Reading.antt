@@ -83,6 +83,7 @@ paired_all origin es h = all_to (λ e. AreSets origin e.0.items e.1) (λ e. AreP
 pub rising_entries : (origin : List (List ℕ)) (es : List (Vec ℕ Global × List RecordSet)) → AreEntries origin es → AllByRecursion (λ e. TypesRise e.1) es
 rising_entries origin es h = all_to (λ e. AreSets origin e.0.items e.1) (λ e. TypesRise e.1) (λ e p. p.rise) es h
 
-pub records_seen : {E : Type 0} (origin : List (List ℕ)) (es : List (Vec ℕ Global × List RecordSet)) (zone : Contents) (result : Result (List Record) E) → record { origin = origin; records = list_of (in_entries es) } ≡ zone → IfOk result (λ records. records ≡ list_of (in_entries es)) → IfOk result (λ records. records ≡ zone.records)
-records_seen origin es zone (Err e) view is = tt
-records_seen origin es zone (Ok records) view is = is ∙ ap (λ z. z.records) view
+pub records_seen : {A E : Type 0} (shown : A → List Record) (origin : List (List ℕ)) (es : List (Vec ℕ Global × List RecordSet)) (zone : Contents) (result : Result A E) → record { origin = origin; records = list_of (in_entries es) } ≡ zone
+    → IfOk result (λ records. shown records ≡ list_of (in_entries es)) → IfOk result (λ records. shown records ≡ zone.records)
+records_seen shown origin es zone (Err e) view is = tt
+records_seen shown origin es zone (Ok records) view is = is ∙ ap (λ z. z.records) view

@@ -116,6 +116,7 @@ sorted_is xs ys sorted stable =
     sym (filter_same (ties (λ a b. is_lt (nat_cmp a.number b.number)) x) (tied x.number) (ties_are x) ys) ∙ stable x ∙ filter_same (ties (λ a b. is_lt (nat_cmp a.number b.number)) x) (tied x.number) (ties_are x) xs
     ∙ sym (tied_sorted x.number xs)))
 
-pub listed_is : {E : Type 0} (xs ys : List Numbered) (result : Result (List Record) E) → IsNonDecreasingBy (λ y. y.number) ys → IsStableBy (λ a b. is_lt (nat_cmp a.number b.number)) xs ys → IfOk result (λ records. records ≡ map plain ys) → IfOk result (λ records. records ≡ list_of xs)
-listed_is xs ys (Ok records) sorted stable is = is ∙ sorted_is xs ys sorted stable
-listed_is xs ys (Err e) sorted stable is = tt
+pub listed_is : {A E : Type 0} (shown : A → List Record) (xs ys : List Numbered) (result : Result A E) → IsNonDecreasingBy (λ y. y.number) ys → IsStableBy (λ a b. is_lt (nat_cmp a.number b.number)) xs ys
+    → IfOk result (λ records. shown records ≡ map plain ys) → IfOk result (λ records. shown records ≡ list_of xs)
+listed_is shown xs ys (Ok records) sorted stable is = is ∙ sorted_is xs ys sorted stable
+listed_is shown xs ys (Err e) sorted stable is = tt

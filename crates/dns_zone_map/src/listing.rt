@@ -36,22 +36,26 @@ impl<'a> Listed<'a> {
         self.number
     }
 
-    fn one(&self) -> &Record
+    fn one(&self) -> &'a Record
         ensures { result.now ≡ self.now.one }
     {
         self.one
     }
 }
 
-/// Copies of all records, in the order of their numbers.
-pub(crate) fn in_order(alloc: Global, names: &Names, count: usize) -> Result<Records, OutOfMemory>
+/// All records, in the order of their numbers.
+pub(crate) fn in_order<'a>(
+    alloc: Global,
+    names: &'a Names,
+    count: usize,
+) -> Result<Vec<&'a Record>, OutOfMemory>
     requires { AllByRecursion (λ e. ArePaired e.1) names.now }
-    ensures { IfOk result (λ records. records ≡ list_of (in_entries names.now)) }
+    ensures { IfOk result (λ records. map (λ r. r.now) records.items ≡ list_of (in_entries names.now)) }
 {
     let mut all = Vec::with_capacity(alloc, count)?;
     push_all(&mut all, names)?;
     all.sort_by_key(|listed| listed.number())?;
-    copied(alloc, &all)
+    without_numbers(alloc, &all)
 }
 
 fn push_all<'a>(all: &mut Vec<Listed<'a>>, names: &'a Names) -> Result<(), OutOfMemory>
@@ -99,12 +103,24 @@ fn push_set<'a>(all: &mut Vec<Listed<'a>>, set: &'a RecordSet) -> Result<(), Out
     Ok(())
 }
 
-fn copied(alloc: Global, all: &[Listed<'_>]) -> Result<Records, OutOfMemory>
-    ensures { IfOk result (λ records. records ≡ map plain all.now) }
+/// The records alone.
+fn without_numbers<'a>(alloc: Global, all: &[Listed<'a>]) -> Result<Vec<&'a Record>, OutOfMemory>
+    ensures { IfOk result (λ records. map (λ r. r.now) records.items ≡ map plain all.now) }
 {
-    let mut copies = Vec::with_capacity(alloc, all.len())?;
+    let mut records = Vec::with_capacity(alloc, all.len())?;
     for listed in all {
-        copies.push(listed.one().copy()?)?;
+        records.push(listed.one())?;
+    }
+    Ok(records)
+}
+
+/// Copies of records.
+pub(crate) fn copied(alloc: Global, records: &[&Record]) -> Result<Records, OutOfMemory>
+    ensures { IfOk result (λ copies. copies ≡ map (λ r. r.now) records.now) }
+{
+    let mut copies = Vec::with_capacity(alloc, records.len())?;
+    for one in records {
+        copies.push(one.copy()?)?;
     }
     Ok(Records::from_vec(copies))
 }

@@ -1,6 +1,6 @@
 //! The map of a zone: from names to their sets of records.
 
-ghost use Rattle.std.specs.Prelude.{◌≡◌, ◌&&◌, ◌+◌, ◌<◌, ◌≤◌, ◌^◌, [], length, take, drop, filter, not, None, IfOk, IfSome, OnOk, OnErr};
+ghost use Rattle.std.specs.Prelude.{◌≡◌, ◌&&◌, ◌+◌, ◌<◌, ◌≤◌, ◌^◌, [], length, map, take, drop, filter, not, None, IfOk, IfSome, OnOk, OnErr};
 ghost use Rattle.std.specs.Option.{option_copied, IsSome};
 ghost use Rattle.std.specs.Map.{lookup};
 ghost use Rattle.std.specs.List.{list_any, starts_with, AllByRecursion};
@@ -20,7 +20,7 @@ ghost use Rattle.dns_zone_map.specs.Insertion.{PutUnder};
 
 use crate::former::{Undoing, keep_former, put_all_back, sweep, sweep_unless};
 use crate::key::{ZoneKey, write_key, write_star};
-use crate::listing::in_order;
+use crate::listing::{copied, in_order};
 use crate::names::Names;
 use crate::presence::Presence;
 use crate::sets::{OwnerSets, RecordSet, is_kept_type};
@@ -140,11 +140,18 @@ impl ZoneMap {
         self.count
     }
 
+    /// All records, in their order, where they are held: nothing of them is copied.
+    pub fn listed(&self, alloc: Global) -> Result<Vec<&Record>, OutOfMemory>
+        ensures { IfOk result (λ records. map (λ r. r.now) records.items ≡ self.now.records) }
+    {
+        in_order(alloc, &self.names, self.count)
+    }
+
     /// Copies of all records, in their order.
     pub fn records(&self, alloc: Global) -> Result<Records, OutOfMemory>
         ensures { IfOk result (λ records. records ≡ self.now.records) }
     {
-        in_order(alloc, &self.names, self.count)
+        copied(alloc, &self.listed(alloc)?)
     }
 
     /// The serial of the zone (RFC 1035 3.3.13); 0 where there is no SOA.

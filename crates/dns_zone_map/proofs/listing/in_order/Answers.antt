@@ -9,8 +9,8 @@ use Rattle.dns_zone_map.proofs.listing.in_order.Goals as goal
 pub returns : goal.returns
 returns c =
     let all : c.push_all.new.all.items ≡ in_entries c.args.names.now = c.in_ok-push_all.ensures ∙ ap (λ (xs : List Numbered). xs ++ in_entries c.args.names.now) c.in_ok-all.ensures.items in
-    subst (λ (xs : List Numbered). IfOk c.copied.result (λ records. records ≡ list_of xs)) all
-    (listed_is c.push_all.new.all.items c.sort_by_key.new.self.items c.copied.result
+    subst (λ (xs : List Numbered). IfOk c.without_numbers.result (λ records. map (λ r. r.now) records.items ≡ list_of xs)) all
+    (listed_is (λ records. map (λ r. r.now) records.items) c.push_all.new.all.items c.sort_by_key.new.self.items c.without_numbers.result
     (IsNonDecreasingBy-from_sort_by_key (λ (y : Numbered). y.number) c.sort_by_key.new.self.items c.in_ok-sort_by_key.ensures.sorted (λ a r q k. search rules))
     (c.in_ok-sort_by_key.ensures.stable (λ (y : Numbered). y.number) (always_returns_same _ _ _ (λ a r q k. search rules)))
-    (subst (λ (xs : List Numbered). IfOk c.copied.result (λ records. records ≡ map plain xs)) c.deref.ensures.value c.copied.ensures))
+    (subst (λ (xs : List Numbered). IfOk c.without_numbers.result (λ records. map (λ r. r.now) records.items ≡ map plain xs)) c.deref.ensures.value c.without_numbers.ensures))
