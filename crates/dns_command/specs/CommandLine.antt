@@ -12,16 +12,12 @@ use Rattle.dns_command.specs.NetworkText.{network_of}
 use Rattle.dns_command.specs.declared.command_line.Options.{Options}
 use Rattle.dns_command.specs.declared.command_line.Drawn.{Drawn}
 use Rattle.dns_words.specs.Values.{decimal_of}
-use Rattle.dns_words.specs.Keys.{behind, first_behind}
+use Rattle.dns_words.specs.Keys.{behind, first_behind, is_path_word}
 use Rattle.dns_generator.specs.Requests.{origin_name}
 
 -- the path that a key names: what follows it in the first word behind the command and the origin that begins with it
 abbrev pub path_of : List ℕ → List (List ℕ) → Option (List ℕ)
 path_of key words = first_behind key (drop 2 words)
-
--- a key and a path that isn't empty
-abbrev pub is_path_word : List ℕ → List ℕ → Bool
-is_path_word key word = option_map_or (λ path. nat_lt 0 (length path)) (behind key word) false
 
 -- `--update`
 abbrev pub is_update_word : List ℕ → Bool

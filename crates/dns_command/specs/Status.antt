@@ -1,10 +1,9 @@
 -- How a run of the program ends, and the line that a refusal writes.
 use Rattle.std.specs.Prelude.{ℕ, ◌++◌, List, [], codes}
-use Rattle.std.specs.Fmt.{decimal, signed_decimal}
+use Rattle.std.specs.Fmt.{decimal}
 use Rattle.dns_zone.specs.declared.zone_text.ZoneTextKind.{ZoneTextKind}
 use Rattle.dns_zone.specs.declared.zone_text.ZoneTextKind.TheVariants as zone
-use Rattle.dns_update.specs.declared.replay_kind.ReplayKind.{ReplayKind}
-use Rattle.dns_update.specs.declared.replay_kind.ReplayKind.TheVariants as replay
+use Rattle.dns_store.specs.RecoveryText.{recovery_line}
 use Rattle.dns_edges.specs.declared.to_end.ReadFault.{ReadFault}
 use Rattle.dns_edges.specs.declared.to_end.ReadFault.TheVariants as read
 use Rattle.dns_command.specs.declared.status.Status.{Status}
@@ -38,13 +37,6 @@ zone_kind_text zone.OutOfZone = codes "OutOfZone"
 zone_kind_text zone.NotOneSoa = codes "NotOneSoa"
 zone_kind_text zone.AliasBesideOther = codes "AliasBesideOther"
 
--- why the rows of a journal are refused
-abbrev pub replay_kind_text : ReplayKind → List ℕ
-replay_kind_text replay.NoRecord = codes "row is no record"
-replay_kind_text replay.OutOfPlace = codes "row out of place"
-replay_kind_text replay.NotOneSoa = codes "not one SOA"
-replay_kind_text replay.BatchOutOfPlace = codes "batch out of place"
-
 -- the line that a run which ends so writes in place of its output; none after a fault of the output or want of memory
 abbrev pub refusal_line : Status → List ℕ
 refusal_line status.Ok = []
@@ -52,7 +44,7 @@ refusal_line status.Usage = codes "usage\n"
 refusal_line (status.ZoneText line kind) = codes "zone text line " ++ (decimal line ++ (codes ": " ++ (zone_kind_text kind ++ codes "\n")))
 refusal_line (status.EventLine line) = codes "event line " ++ (decimal line ++ codes "\n")
 refusal_line status.NotValid = codes "not valid\n"
-refusal_line (status.Recovery row kind) = codes "journal row " ++ (signed_decimal row ++ (codes ": " ++ (replay_kind_text kind ++ codes "\n")))
+refusal_line (status.Recovery row kind) = recovery_line row kind
 refusal_line status.ReadFault = codes "read fault\n"
 refusal_line status.WriteFault = []
 refusal_line status.KeeperFault = codes "keeper fault\n"

@@ -5,7 +5,8 @@ ghost use Rattle.std.specs.List.{list_all, list_any};
 ghost use Rattle.std.specs.Option.{option_map};
 ghost use Rattle.dns_name.specs.Name.{fold_of};
 ghost use Rattle.dns_name.specs.NameText.{name_of};
-ghost use Rattle.dns_command.specs.CommandLine.{path_of, is_path_word, is_update_word, net_behind, nets_behind, is_option, has_no_double, are_options, options_for, options_behind, drawn_by, load_options, options_of};
+ghost use Rattle.dns_words.specs.Keys.{is_path_word};
+ghost use Rattle.dns_command.specs.CommandLine.{path_of, is_update_word, net_behind, nets_behind, is_option, has_no_double, are_options, options_for, options_behind, drawn_by, load_options, options_of};
 
 use crate::network_text::network_of;
 use dns_book::IpNet;
@@ -13,7 +14,7 @@ use dns_generator::origin_name;
 use dns_io::OutOfMemory;
 use dns_name::name_laws::folded_names;
 use dns_name::{Name, ProtoError};
-use dns_words::{behind, decimal_of, first_behind};
+use dns_words::{behind, decimal_of, first_behind, is_path_word};
 use std::alloc::Global;
 use std::marker::Model;
 
@@ -290,15 +291,6 @@ fn is_update_word(word: &str) -> bool
     ensures { result ≡ is_update_word word.now }
 {
     word == UPDATE
-}
-
-fn is_path_word(word: &str, key: &str) -> bool
-    ensures { result ≡ is_path_word key.now word.now }
-{
-    match behind(word, key) {
-        Some(path) => path.len() > 0,
-        None => false,
-    }
 }
 
 fn nets_behind(alloc: Global, words: &[String], key: &str) -> Result<Networks, OutOfMemory>

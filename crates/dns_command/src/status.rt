@@ -2,11 +2,12 @@
 
 ghost use Rattle.std.specs.Prelude.{◌≡◌, IfOk, string_bytes};
 ghost use Rattle.std.specs.Process.{exit_status};
-ghost use Rattle.dns_command.specs.Status.{status_number, zone_kind_text, replay_kind_text, refusal_line, read_status};
+ghost use Rattle.dns_command.specs.Status.{status_number, zone_kind_text, refusal_line, read_status};
 ghost use Rattle.dns_command.specs.Writing.{after_writing};
 
 use dns_edges::ReadFault;
 use dns_io::{IoFault, OutOfMemory};
+use dns_store::recovery_line;
 use dns_zone::{ReplayKind, ZoneTextKind};
 use std::alloc::Global;
 use std::process::ExitCode;
@@ -129,10 +130,7 @@ pub fn refusal_line(alloc: Global, status: &Status) -> Result<String, OutOfMemor
         }
         Status::EventLine { line } => format!(in alloc; "event line {line}\n")?,
         Status::NotValid => String::from_str(alloc, "not valid\n")?,
-        Status::Recovery { row, kind } => {
-            let kind = replay_kind_text(*kind);
-            format!(in alloc; "journal row {row}: {kind}\n")?
-        }
+        Status::Recovery { row, kind } => recovery_line(alloc, *row, *kind)?,
         Status::ReadFault => String::from_str(alloc, "read fault\n")?,
         Status::KeeperFault => String::from_str(alloc, "keeper fault\n")?,
         Status::TooLong => String::from_str(alloc, "too long\n")?,
@@ -155,16 +153,5 @@ fn zone_kind_text(kind: ZoneTextKind) -> &'static str
         ZoneTextKind::OutOfZone => "OutOfZone",
         ZoneTextKind::NotOneSoa => "NotOneSoa",
         ZoneTextKind::AliasBesideOther => "AliasBesideOther",
-    }
-}
-
-fn replay_kind_text(kind: ReplayKind) -> &'static str
-    ensures { result.now ≡ replay_kind_text kind }
-{
-    match kind {
-        ReplayKind::NoRecord => "row is no record",
-        ReplayKind::OutOfPlace => "row out of place",
-        ReplayKind::NotOneSoa => "not one SOA",
-        ReplayKind::BatchOutOfPlace => "batch out of place",
     }
 }

@@ -6,6 +6,7 @@ ghost use Rattle.dns_journal.specs.Opening.{IsOpenFault};
 
 use crate::error::{PersistenceError, RecoveryKind};
 use crate::journal::{Journal, refusal_of};
+use dns_sqlite::CURRENT_VERSION;
 use sqlite::{Connection, File, FileStore};
 use std::rt::HostRuntime;
 
@@ -23,9 +24,25 @@ fn opened(rt: &HostRuntime, path: &str) -> Result<Journal<HostStore>, Persistenc
     }
 }
 
+/// Tells a person on standard error why the journal at a path could not be opened: what a program writes to standard output is another line.
+/// That this one itself could not be written changes nothing.
+pub fn tell_unopened(rt: &HostRuntime, program: &str, path: &str, error: &PersistenceError) {
+    let version = match error {
+        PersistenceError::Recovery(RecoveryKind::SchemaVersion) => shown_version(rt, path),
+        _ => None,
+    };
+    let _told = match version {
+        Some(number) => eprintln!(rt;
+            "{program}: {path}: a journal of version {number}, of which this program knows 0 to {}",
+            CURRENT_VERSION
+        ),
+        None => eprintln!(rt; "{program}: {path}: {error}"),
+    };
+}
+
 /// The number in the table of the version of the file at a path, whatever it is; none where the file shows not one. It is for a person who
 /// is told that a file was refused: no clause ties a file to its path. It changes nothing.
-pub fn shown_version(rt: &HostRuntime, path: &str) -> Option<i64> {
+fn shown_version(rt: &HostRuntime, path: &str) -> Option<i64> {
     let Ok(mut conn) = Connection::open(rt, path) else {
         return None;
     };

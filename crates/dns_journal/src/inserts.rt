@@ -234,7 +234,8 @@ impl<S: Alter> Journal<S> {
 
     /// Makes a page of the batches that were read from a first id on, and takes the first of them.
     fn first_batch_of(&mut self, first: i64, batches: Vec<BatchRow>) -> Option<BatchRow>
-        requires { HasCleanDisk (state S.Store self.old.conn) → AreBatchesIn first ((state S.Store self.old.conn).now.trees 2) batches.items }
+        requires { HasCleanDisk (state S.Store self.old.conn)
+            → AreBatchesIn first ((state S.Store self.old.conn).now.trees 2) batches.items }
         ensures stored { IsBatchStoredIn first (state S.Store self.new.conn) result }
         ensures kept { self.new ≡ self.old }
     {

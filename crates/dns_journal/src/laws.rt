@@ -14,7 +14,8 @@ use sqlite::Alter;
 /// Between calls a crash may leave the rows and the batches that the journal tells, and while its calls go to an open connection nothing
 /// else.
 pub fn left_by_a_crash<S: Alter>(journal: &Journal<S>)
-    ensures left { (kept : Kept) → AreTold ((journal_keeper S.Store).told journal.now) kept → MayLeave (state S.Store journal.now.conn) kept }
+    ensures left { (kept : Kept) → AreTold ((journal_keeper S.Store).told journal.now) kept
+        → MayLeave (state S.Store journal.now.conn) kept }
     ensures shown { IsServing S.Store journal.now → LeavesShown (state S.Store journal.now.conn) }
     ensures settled { IsServing S.Store journal.now → LeavesItsOwn S.Store journal.now }
 {

@@ -19,7 +19,7 @@ pub use closed_journal::ClosedJournal;
 pub use dns_keeper::{BatchRow, KeepFault, Keeper, MemoryKeeper, Row};
 pub use dns_sqlite::CURRENT_VERSION;
 pub use error::{PersistenceError, RecoveryKind};
-pub use file::{HostStore, shown_version};
+pub use file::{HostStore, tell_unopened};
 pub use file_journal::FileJournal;
 pub use iter::JournalIter;
 pub use journal::{Journal, select_schema_version};

@@ -7,9 +7,8 @@ use crate::link::{Incoming, Outgoing, connection};
 use dns_edges::{FileSource, Reading, Sink, Writing};
 use dns_io::OutOfMemory;
 use dns_update_client::{HELP, UpdateStatus, VERSION, after_writing, nsupdate, settings_of};
-use dns_words::{Action, action_of, hex_words, put_text, unread_words};
+use dns_words::{Action, action_of, command_words, hex_words, put_text};
 use std::cell::RefCell;
-use std::env;
 use std::io::{self, BufWriter, Cursor, Read};
 use std::net::TcpStream;
 use std::process::ExitCode;
@@ -37,15 +36,7 @@ fn main(rt: HostRuntime) -> ExitCode {
 
 /// The words of the command line, without the program's name, with their addresses in hex digits.
 fn words_in(rt: &HostRuntime) -> Result<Vec<String>, OutOfMemory> {
-    let all = match env::args(rt) {
-        Ok(all) => all,
-        Err(error) => return unread_words(rt.alloc(), error.kind()),
-    };
-    let mut words = Vec::new(rt.alloc());
-    for word in all.skip(1) {
-        words.push(word)?;
-    }
-    hex_words(rt.alloc(), words)
+    hex_words(rt.alloc(), command_words(rt)?)
 }
 
 /// Sends what standard input says to the server that the words name. The connection is made when the script was read, so that the

@@ -8,19 +8,17 @@ use dns_command::run::run;
 use dns_command::{Ended, HELP, Status, VERSION, after_writing};
 use dns_edges::{FileSource, Reading, SystemClock, Writing};
 use dns_io::OutOfMemory;
-use dns_journal::{
-    CURRENT_VERSION, ClosedJournal, FileJournal, PersistenceError, RecoveryKind, shown_version,
-};
+use dns_journal::{ClosedJournal, FileJournal, PersistenceError, tell_unopened};
 use dns_keeper::{Keeper, MemoryKeeper};
 use dns_ports::SocketHub;
-use dns_words::{Action, action_of, hex_words, put_text, unread_words};
+use dns_words::{Action, action_of, command_words, hex_words, put_text};
 use std::fs::{self, File};
 use std::io::{self, BufWriter, Write};
 use std::net::{Net, TcpListener, TcpStream};
 use std::process::ExitCode;
+use std::rt;
 use std::sync::Wait;
 use std::thread::Threads;
-use std::{env, rt};
 
 /// What the words of the command line ask for, with the keeper of the journal that they name.
 enum Task {
@@ -55,15 +53,7 @@ fn main(rt: HostRuntime) -> ExitCode {
 
 /// The words of the command line, without the program's name, with their addresses in hex digits.
 fn words_in(rt: &HostRuntime) -> Result<Vec<String>, OutOfMemory> {
-    let all = match env::args(rt) {
-        Ok(all) => all,
-        Err(error) => return unread_words(rt.alloc(), error.kind()),
-    };
-    let mut words = Vec::new(rt.alloc());
-    for word in all.skip(1) {
-        words.push(word)?;
-    }
-    hex_words(rt.alloc(), words)
+    hex_words(rt.alloc(), command_words(rt)?)
 }
 
 /// What the words ask for. The journal's file is opened, or made.
@@ -89,26 +79,10 @@ fn file_task(rt: &HostRuntime, path: &str) -> Task {
     match FileJournal::open(rt, path) {
         Ok(journal) => Task::InFile(journal),
         Err(error) => {
-            tell_unopened(rt, path, &error);
+            tell_unopened(rt, "dns", path, &error);
             Task::Closed(ClosedJournal::after(&error))
         }
     }
-}
-
-/// Tells a person on standard error why the journal at a path could not be opened: what goes to standard output is the status's line. That
-/// this line itself could not be written changes nothing.
-fn tell_unopened(rt: &HostRuntime, path: &str, error: &PersistenceError) {
-    let version = match error {
-        PersistenceError::Recovery(RecoveryKind::SchemaVersion) => shown_version(rt, path),
-        _ => None,
-    };
-    let _told = match version {
-        Some(number) => eprintln!(rt;
-            "dns: {path}: a journal of version {number}, of which this program knows 0 to {}",
-            CURRENT_VERSION
-        ),
-        None => eprintln!(rt; "dns: {path}: {error}"),
-    };
 }
 
 /// Runs the command over this journal, the zone file that the words name, standard input, the system's clock and sockets.

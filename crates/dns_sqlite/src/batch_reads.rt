@@ -10,8 +10,8 @@ ghost use Rattle.dns_sqlite.specs.Tables.{shown_batch, HasBatchesFrom};
 ghost use Rattle.dns_sqlite.specs.Statements.{HasTables};
 ghost use Rattle.dns_sqlite.specs.Reads.{WasAsked, StaysAs, StaysOrIsUndone, AreFrontOf, ShowsBatches};
 
+use crate::row::number_in;
 use dns_keeper::BatchRow;
-use sqlite::types::Value;
 use sqlite::{Alter, Connection, Error, ErrorCode, Row, params};
 use std::alloc::Global;
 
@@ -29,16 +29,6 @@ fn select_batches<S: Alter>(conn: &mut Connection<S>, first: i64) -> Result<Vec<
         "SELECT first, count FROM batches WHERE first >= ?1 ORDER BY first LIMIT 128",
         params![first],
     )
-}
-
-/// The number in a column; an error where it holds something else.
-fn number_in(row: &Row, at: usize) -> Result<i64, Error>
-    ensures { IfOk result (λ n. column row.now at ≡ Int n) }
-{
-    match row.get::<Value>(at) {
-        Ok(Value::Int(number)) => Ok(number),
-        _ => Err(Error::InvalidColumnIndex(at)),
-    }
 }
 
 /// The batch that a row shows; an error where a column is no number.

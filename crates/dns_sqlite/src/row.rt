@@ -12,7 +12,7 @@ use sqlite::{Error, ErrorCode};
 use std::alloc::Global;
 
 /// The number in a column; an error where it holds something else.
-fn number_in(row: &sqlite::Row, at: usize) -> Result<i64, Error>
+pub(crate) fn number_in(row: &sqlite::Row, at: usize) -> Result<i64, Error>
     ensures { IfOk result (λ n. column row.now at ≡ Int n) }
 {
     match row.get_ref(at) {

@@ -88,7 +88,8 @@ fn make_version_one<S: Alter>(tx: &mut Transaction<'_, S>) -> Result<usize, Erro
 /// Makes the table of the batches.
 fn create_batch_table<S: Alter>(tx: &mut Transaction<'_, S>) -> Result<usize, Error>
     ensures same_reference { tx.new.conn.ghost_name ≡ tx.old.conn.ghost_name }
-    ensures done { Statement S.Store IsVersionRows (λ old. HasMade (HasBatches version_rows (old.now.trees 1) [])) tx.old.conn.now tx.new.conn.now result }
+    ensures done { Statement S.Store IsVersionRows
+        (λ old. HasMade (HasBatches version_rows (old.now.trees 1) [])) tx.old.conn.now tx.new.conn.now result }
 {
     tx.execute(
         "CREATE TABLE batches(first INTEGER PRIMARY KEY, count INTEGER NOT NULL)",
@@ -103,7 +104,8 @@ pub(crate) fn insert_run<S: Alter>(
     count: i64,
 ) -> Result<usize, Error>
     ensures same_reference { tx.new.conn.ghost_name ≡ tx.old.conn.ghost_name }
-    ensures done { Statement S.Store HasTables (PutsBatch (record { first = first; count = count })) tx.old.conn.now tx.new.conn.now result }
+    ensures done { Statement S.Store HasTables
+        (PutsBatch (record { first = first; count = count })) tx.old.conn.now tx.new.conn.now result }
 {
     tx.execute(
         "INSERT INTO batches(first, count) VALUES (?1, ?2)",
@@ -144,7 +146,8 @@ fn raise_to_two<S: Alter>(tx: &mut Transaction<'_, S>) -> Result<usize, Error>
 /// Fills the new table with these batches, and raises the version.
 fn fill_batches<S: Alter>(tx: &mut Transaction<'_, S>, batches: &[BatchRow]) -> Result<usize, Error>
     ensures same_reference { tx.new.conn.ghost_name ≡ tx.old.conn.ghost_name }
-    ensures done { Statement S.Store HasBatchTable (λ old. HasMade (HasBatches current_version (old.now.trees 1) batches.now)) tx.old.conn.now tx.new.conn.now result }
+    ensures done { Statement S.Store HasBatchTable
+        (λ old. HasMade (HasBatches current_version (old.now.trees 1) batches.now)) tx.old.conn.now tx.new.conn.now result }
 {
     insert_batch_rows(tx, batches)?;
     raise_to_two(tx)
@@ -156,7 +159,8 @@ fn make_version_two<S: Alter>(
     batches: &[BatchRow],
 ) -> Result<usize, Error>
     ensures same_reference { tx.new.conn.ghost_name ≡ tx.old.conn.ghost_name }
-    ensures done { Statement S.Store IsVersionRows (λ old. HasMade (HasBatches current_version (old.now.trees 1) batches.now)) tx.old.conn.now tx.new.conn.now result }
+    ensures done { Statement S.Store IsVersionRows
+        (λ old. HasMade (HasBatches current_version (old.now.trees 1) batches.now)) tx.old.conn.now tx.new.conn.now result }
 {
     let _made = create_batch_table(tx)?;
     fill_batches(tx, batches)
@@ -170,7 +174,8 @@ fn make_all_but_one<S: Alter>(
     batches: &[BatchRow],
 ) -> Result<usize, Error>
     ensures same_reference { tx.new.conn.ghost_name ≡ tx.old.conn.ghost_name }
-    ensures done { Statement S.Store IsVersionAlone (λ _. HasMade (HasBatches current_version [] batches.now)) tx.old.conn.now tx.new.conn.now result }
+    ensures done { Statement S.Store IsVersionAlone
+        (λ _. HasMade (HasBatches current_version [] batches.now)) tx.old.conn.now tx.new.conn.now result }
 {
     let _made = make_version_one(tx)?;
     make_version_two(tx, batches)
@@ -179,7 +184,8 @@ fn make_all_but_one<S: Alter>(
 /// From no table to the current version, inside a transaction.
 fn make_all<S: Alter>(tx: &mut Transaction<'_, S>, batches: &[BatchRow]) -> Result<usize, Error>
     ensures same_reference { tx.new.conn.ghost_name ≡ tx.old.conn.ghost_name }
-    ensures done { Statement S.Store (HasSchema empty_schema) (λ _. HasMade (HasBatches current_version [] batches.now)) tx.old.conn.now tx.new.conn.now result }
+    ensures done { Statement S.Store (HasSchema empty_schema)
+        (λ _. HasMade (HasBatches current_version [] batches.now)) tx.old.conn.now tx.new.conn.now result }
 {
     let _made = make_version_zero(tx)?;
     make_all_but_one(tx, batches)
@@ -192,7 +198,8 @@ fn make_current<S: Alter>(
     batches: &[BatchRow],
 ) -> Result<usize, Error>
     ensures same_reference { tx.new.conn.ghost_name ≡ tx.old.conn.ghost_name }
-    ensures done { Statement S.Store (IsBefore start) (λ old. HasMade (HasBatches current_version (rows_before start old.now) batches.now)) tx.old.conn.now tx.new.conn.now result }
+    ensures done { Statement S.Store (IsBefore start)
+        (λ old. HasMade (HasBatches current_version (rows_before start old.now) batches.now)) tx.old.conn.now tx.new.conn.now result }
 {
     match start {
         Start::NoTable => make_all(tx, batches),

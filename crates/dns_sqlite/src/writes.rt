@@ -71,7 +71,8 @@ fn insert_some_rows<S: Alter>(
     more: &[Octets],
 ) -> Result<i64, Error>
     ensures same_reference { tx.new.conn.ghost_name ≡ tx.old.conn.ghost_name }
-    ensures done { Statements S.Store HasTables (PutsAll client serial stamp.now (first.now ∷ more.now)) tx.old.conn.now tx.new.conn.now result }
+    ensures done { Statements S.Store HasTables
+        (PutsAll client serial stamp.now (first.now ∷ more.now)) tx.old.conn.now tx.new.conn.now result }
     ensures fits { IfOk result (λ id. FitsSigned w64 id) }
     ensures named { NamesFirst S.Store tx.old.conn.now tx.new.conn.now result }
 {
@@ -98,7 +99,8 @@ fn insert_whole<S: Alter>(
     more: &[Octets],
 ) -> Result<usize, Error>
     ensures same_reference { tx.new.conn.ghost_name ≡ tx.old.conn.ghost_name }
-    ensures done { Statement S.Store HasTables (PutsWhole client serial stamp.now (first.now ∷ more.now)) tx.old.conn.now tx.new.conn.now result }
+    ensures done { Statement S.Store HasTables
+        (PutsWhole client serial stamp.now (first.now ∷ more.now)) tx.old.conn.now tx.new.conn.now result }
 {
     let count = count_of(more);
     let id = insert_some_rows(tx, client, serial, stamp, first, more)?;

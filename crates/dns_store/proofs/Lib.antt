@@ -5,3 +5,6 @@ pub mod Growing
 pub mod Opened
 pub mod LeavingOn
 pub mod Migrated
+mod FrontRows
+mod ListedBatches
+mod SoundJournals

@@ -38,13 +38,13 @@ length-rows_of id client serial stamp (r ∷ rs) = ap suc (length-rows_of (id +�
 begun_as : (before after : List Row) (client serial : ℕ) (stamp : List ℕ) (records : List Record) → before ≡ [] → after ≡ appended before client serial stamp records → after ≡ appended [] client serial stamp records
 begun_as before after client serial stamp records none is = is ∙ ap (λ (rows : List Row). appended rows client serial stamp records) none
 
-HasRows-begun : (before after : Option (List Row)) (client serial moment : ℕ) (records : List Record) (n : ℕ) → HadNoRow before before → GrowsByBatch before after client serial moment records → n ≡ length records → HasRows after n
+pub HasRows-begun : (before after : Option (List Row)) (client serial moment : ℕ) (records : List Record) (n : ℕ) → HadNoRow before before → GrowsByBatch before after client serial moment records → n ≡ length records → HasRows after n
 HasRows-begun before None client serial moment records n empty grown e = tt
 HasRows-begun None (Some after) client serial moment records n empty grown e = absurd grown
 HasRows-begun (Some before) (Some after) client serial moment records n empty grown e =
     ap length (begun_as before after client serial grown.stamp records empty grown.is) ∙ length-rows_of _ client serial grown.stamp records ∙ sym e
 
-StandFor-begun : (before after : Option (List Row)) (client serial moment : ℕ) (zone : Contents) (records : List Record) → HadNoRow before before → GrowsByBatch before after client serial moment records
+pub StandFor-begun : (before after : Option (List Row)) (client serial moment : ℕ) (zone : Contents) (records : List Record) → HadNoRow before before → GrowsByBatch before after client serial moment records
     → ((stamp : List ℕ) → Replays zone.origin (appended [] client serial stamp records) (Ok zone.records)) → StandFor after zone
 StandFor-begun before None client serial moment zone records empty grown replay = tt
 StandFor-begun None (Some after) client serial moment zone records empty grown replay = absurd grown
@@ -91,7 +91,7 @@ begins keeper before zone moment serial records store empty grown run uncounted 
 }
 
 -- what holds since content was kept holds since before
-since : (R : List Row → List Row → Type 0) (before between now : Option (List Row)) → Keeps before between → Told R between now → Told R before now
+pub since : (R : List Row → List Row → Type 0) (before between now : Option (List Row)) → Keeps before between → Told R between now → Told R before now
 since R before between None kept told = tt
 since R before None (Some rows) kept told = absurd told
 since R None (Some middle) (Some rows) kept told = absurd kept
@@ -103,7 +103,7 @@ none_seen None seen = tt
 none_seen (Some []) seen = refl
 none_seen (Some (row ∷ rows)) seen = absurd (let none = seen in cc)
 
-some_is : (row : Row) (rows : List Row) → Some row ≡ first_of rows → rows ≢ []
+pub some_is : (row : Row) (rows : List Row) → Some row ≡ first_of rows → rows ≢ []
 some_is row [] seen none = absurd (let some = seen in cc)
 some_is row (first ∷ rows) seen none = absurd (let some = none in cc)
 
@@ -197,7 +197,7 @@ opens_recovered keeper before between origin given moment store row kept batches
     recovered (some_seen before.rows between.rows (keeper.told store.keeper).rows row kept seen done.kept) (recovers_since keeper before between origin store kept batches same done)
 
 -- why it was not read back is why it was not opened
-unfound_by : (before between now : KeeperTold) (origin : List (List ℕ)) (given : Option Contents) (id : ℤ) (why : ReplayKind) → Keeps before.rows between.rows → KeepsBatches before between
+pub unfound_by : (before between now : KeeperTold) (origin : List (List ℕ)) (given : Option Contents) (id : ℤ) (why : ReplayKind) → Keeps before.rows between.rows → KeepsBatches before between
     → HadRows before.rows now.rows → IsUnread between now origin (Recovery id why) → IsUnfound before now origin given (Recovery id why)
 unfound_by before between now origin given id why kept batches some (inl refused) =
     inl (some, since (λ old new. Replays (fold_of origin) old (Err (record { row = id; kind = why }))) before.rows between.rows now.rows kept refused)
@@ -247,7 +247,7 @@ appends_not before now f kind is kept batches cause =
 pub appends_wanting : (told : KeeperTold) → AppendsNot told told OutOfMemory
 appends_wanting told = record { keepers = tt; unopened = record { kept = Keeps-same told.rows; batches = batches_same told; later = omega arith; counts = refl } }
 
-stray : (b n : Option (List Row)) (batches : List BatchRow) (place : ℤ) (kind : ReplayKind) → HadNoRow b b
+pub stray : (b n : Option (List Row)) (batches : List BatchRow) (place : ℤ) (kind : ReplayKind) → HadNoRow b b
     → Told (λ (o : List Row) (s : List Row). (kind ≡ BatchOutOfPlace) × (uncovered (pos 1) o batches ≡ Some place)) b n
     → Told (λ (o : List Row) (s : List Row). AreNone o × (kind ≡ BatchOutOfPlace) × (uncovered (pos 1) o batches ≡ Some place)) b n
 stray b None batches place kind none is = tt

@@ -1,5 +1,5 @@
 -- Batches that are read one by one, and how far they cover rows.
-use Rattle.std.proofs.Common.{◌≡◌, ◌+ℤ◌, ◌++◌, ℕ, ℤ, pos, List, [], ◌∷◌, Option, Some, None, true, false, refl, sym, ap, ◌∙◌, subst, arith, append_assoc}
+use Rattle.std.proofs.Common.{◌≡◌, ◌+ℤ◌, ◌++◌, ℤ, pos, List, [], ◌∷◌, Option, Some, None, true, false, refl, sym, ap, ◌∙◌, subst, arith, append_assoc}
 use Rattle.std.specs.Prelude.{IfSome, Ok, Err}
 use Rattle.std.specs.Int.Signed.{le_z}
 use Rattle.std.proofs.lemmas.Int.{ints}
@@ -63,7 +63,7 @@ begins_below b (d ∷ front) c rest by_first =
     grind (arith, ints)
 
 -- the first batch with a greater first than a batch is the one behind it
-next_behind : (front : List BatchRow) (b : BatchRow) (rest : List BatchRow) → is_by_first (front ++ b ∷ rest) ≡ true → batch_from (b.first +ℤ pos 1) (front ++ b ∷ rest) ≡ first_batch rest
+pub next_behind : (front : List BatchRow) (b : BatchRow) (rest : List BatchRow) → is_by_first (front ++ b ∷ rest) ≡ true → batch_from (b.first +ℤ pos 1) (front ++ b ∷ rest) ≡ first_batch rest
 next_behind [] b [] by_first =
     let past : le_z (b.first +ℤ pos 1) b.first ≡ false = grind (arith, ints) in
     rw past refl

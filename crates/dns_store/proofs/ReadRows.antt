@@ -14,7 +14,7 @@ use Rattle.dns_keeper.specs.Rows.{first_of, first_from, is_ascending, AreAscendi
 use Rattle.dns_keeper.specs.declared.keeper.KeepFault.{KeepFault}
 use Rattle.dns_keeper.specs.declared.keeper.KeepFault.TheVariants as keep
 use Rattle.dns_keeper.specs.RunsSoFar.{RunsSoFar, AreRunsOf}
-use Rattle.dns_keeper.specs.Keeping.{KeeperTold, KeeperOf, IsRowFrom, IsFirstRow, TellsAscending, KeepsBatches}
+use Rattle.dns_keeper.specs.Keeping.{KeeperOf, IsRowFrom, IsFirstRow, TellsAscending, KeepsBatches}
 use Rattle.dns_keeper.specs.Calls.{ReadsRow}
 use Rattle.dns_keeper.specs.Crash.{LeavesNoOther}
 use Rattle.dns_zone.specs.declared.replaying.ReplayFault.{ReplayFault}
@@ -40,7 +40,7 @@ is_below r (s ∷ front) row rest ascending =
     grind (arith, ints)
 
 -- the first row with a greater id than a row is the one behind it
-first_behind : (front : List Row) (row : Row) (rest : List Row) → is_ascending (front ++ row ∷ rest) ≡ true → first_from (row.id +ℤ pos 1) (front ++ row ∷ rest) ≡ first_of rest
+pub first_behind : (front : List Row) (row : Row) (rest : List Row) → is_ascending (front ++ row ∷ rest) ≡ true → first_from (row.id +ℤ pos 1) (front ++ row ∷ rest) ≡ first_of rest
 first_behind [] row [] ascending =
     let past : le_z (row.id +ℤ pos 1) row.id ≡ false = grind (arith, ints) in
     rw past refl

@@ -1,5 +1,5 @@
 -- The batches that a keeper tells, over calls that keep its rows or add to them.
-use Rattle.std.proofs.Common.{◌≡◌, ◌+ℤ◌, ℕ, ℤ, pos, List, [], ◌∷◌, length, Option, Some, None, Ok, inl, inr, refl, sym, ap, ◌∙◌, subst}
+use Rattle.std.proofs.Common.{◌≡◌, ◌+ℤ◌, ℕ, pos, List, [], length, Option, Some, None, inl, inr, refl, sym, subst}
 use Rattle.std.specs.Prelude.{IfSome, IsSomeAnd}
 use Rattle.dns_io.specs.Told.{Keeps, Told}
 use Rattle.dns_wire.specs.declared.record.Record.{Record}
@@ -8,7 +8,7 @@ use Rattle.dns_keeper.specs.declared.batch_row.BatchRow.{BatchRow}
 use Rattle.dns_keeper.specs.Rows.{last_id, appended}
 use Rattle.dns_keeper.specs.Batches.{Covers, batches_with}
 use Rattle.dns_keeper.specs.Keeping.{KeeperTold, Kept, GrowsByBatch, GrowsByRun, KeepsBatches}
-use Rattle.dns_keeper.specs.Crash.{HasWhole, IsGrownFrom, LeavesNoOther, LeavesWhole}
+use Rattle.dns_keeper.specs.Crash.{HasWhole, LeavesNoOther, LeavesWhole}
 use Rattle.dns_keeper.proofs.CoversGrow.{covers_appended}
 use Rattle.dns_zone_map.specs.Zone.{Contents}
 use Rattle.dns_update.proofs.Replayed.{last_replayed}
@@ -71,7 +71,7 @@ last_none : (rows : Option (List Row)) (batches : List BatchRow) → Told (λ (o
 last_none None batches empty = tt
 last_none (Some rows) batches empty = rw empty.0 refl
 
-covered_none : (rows : Option (List Row)) (batches : List BatchRow) → Told (λ (o : List Row) (s : List Row). (o ≡ []) × (batches ≡ [])) rows rows → IfSome rows (λ l. Covers (pos 1) l batches)
+pub covered_none : (rows : Option (List Row)) (batches : List BatchRow) → Told (λ (o : List Row) (s : List Row). (o ≡ []) × (batches ≡ [])) rows rows → IfSome rows (λ l. Covers (pos 1) l batches)
 covered_none None batches empty = tt
 covered_none (Some rows) batches empty = rw (empty.0, empty.1) refl
 

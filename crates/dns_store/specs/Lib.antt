@@ -5,3 +5,6 @@ pub mod Crash
 pub mod Covered
 pub mod Covering
 pub mod Migrated
+pub mod Front
+pub mod Listing
+pub mod RecoveryText

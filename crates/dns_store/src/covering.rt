@@ -88,7 +88,7 @@ fn out_of_place(place: i64) -> OpenKind
 }
 
 /// The first batch of a keeper, if it has any.
-fn first_batch<K: Keeper>(keeper: &mut K) -> Result<Option<BatchRow>, OpenKind>
+pub(crate) fn first_batch<K: Keeper>(keeper: &mut K) -> Result<Option<BatchRow>, OpenKind>
     ensures found { IfOk result (λ found. HasBatches (K.keeper.told keeper.new) (IsFirstOf found)) }
     ensures err { IfErr result IsKeepers }
     ensures reads { ReadsRows K.keeper keeper.old keeper.new result }
@@ -100,7 +100,10 @@ fn first_batch<K: Keeper>(keeper: &mut K) -> Result<Option<BatchRow>, OpenKind>
 }
 
 /// The batch of a keeper that comes next behind a batch, if there is one.
-fn batch_behind<K: Keeper>(keeper: &mut K, batch: &BatchRow) -> Result<Option<BatchRow>, OpenKind>
+pub(crate) fn batch_behind<K: Keeper>(
+    keeper: &mut K,
+    batch: &BatchRow,
+) -> Result<Option<BatchRow>, OpenKind>
     ensures found { IfOk result (λ found. HasBatches (K.keeper.told keeper.new) (IsFirstOn (batch.now.first +ℤ pos 1) found)) }
     ensures err { IfErr result IsKeepers }
     ensures reads { ReadsRows K.keeper keeper.old keeper.new result }

@@ -3,12 +3,20 @@
 #![tactic(auto)]
 
 mod covering;
+mod front;
 mod kept_records;
 pub mod laws;
+mod listing;
 mod opening;
 mod opening_records;
 mod recovering;
+mod recovery_text;
 mod store;
 
+pub use front::{Front, replay_front};
+pub use listing::{ListedBatch, list_batches};
 pub use opening::{OpenFault, OpenKind};
+pub use opening_records::opening_of;
+pub use recovering::replay_journal;
+pub use recovery_text::{recovery_line, replay_kind_text};
 pub use store::Store;

@@ -17,7 +17,7 @@ use dns_zone::Zone;
 use std::alloc::Global;
 
 /// The records that a journal of this zone begins with: a snapshot record, and those of the zone in their order.
-pub(crate) fn opening_of(alloc: Global, zone: &Zone) -> Result<Records, OutOfMemory>
+pub fn opening_of(alloc: Global, zone: &Zone) -> Result<Records, OutOfMemory>
     ensures records { IfOk result (λ records. records ≡ opening_of zone.now) }
     ensures short { IfOk result AreShort }
     ensures replay { IfOk result (λ records. (client : ℕ) (stamp : List ℕ)

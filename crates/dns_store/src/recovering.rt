@@ -65,6 +65,22 @@ pub(crate) fn read_back<K: Keeper>(
     Ok(back)
 }
 
+/// Reads all rows of a keeper back, from the least id on: the zone of this origin, in whatever case, that they stand for. Batches are not
+/// looked at. Rows and batches stay as they are.
+pub fn replay_journal<K: Keeper>(
+    alloc: Global,
+    keeper: &mut K,
+    origin: &Name,
+) -> Result<Zone, OpenKind>
+    ensures origin { IfOk result (λ zone. zone.origin ≡ fold_of origin.now) }
+    ensures zone { IfOk result (StandFor (K.keeper.told keeper.new).rows) }
+    ensures err { IfErr result (AreUnread (K.keeper.told keeper.old).rows (K.keeper.told keeper.new).rows origin.now) }
+    ensures reads { ReadsRows K.keeper keeper.old keeper.new result }
+{
+    let Replay { back, runs: _ } = replay_rows(alloc, keeper, origin)?;
+    Ok(back.zone)
+}
+
 /// Reads all rows of a keeper back, from the least id on: the zone of this origin that they stand for, and their runs.
 fn replay_rows<K: Keeper>(alloc: Global, keeper: &mut K, origin: &Name) -> Result<Replay, OpenKind>
     ensures origin { IfOk result (λ replay. replay.back.zone.origin ≡ fold_of origin.now) }
@@ -152,7 +168,7 @@ fn count_row(runs: &mut RowRuns, row: &Row) -> Result<(), OpenKind>
 }
 
 /// The first row of a keeper, if it has any.
-fn first_row<K: Keeper>(keeper: &mut K) -> Result<Option<Row>, OpenKind>
+pub(crate) fn first_row<K: Keeper>(keeper: &mut K) -> Result<Option<Row>, OpenKind>
     ensures found { IfOk result (λ found. IfSome (K.keeper.told keeper.new).rows (IsFirst found)) }
     ensures err { IfErr result IsKeepers }
     ensures reads { ReadsRows K.keeper keeper.old keeper.new result }
@@ -164,7 +180,7 @@ fn first_row<K: Keeper>(keeper: &mut K) -> Result<Option<Row>, OpenKind>
 }
 
 /// The row of a keeper that comes next behind a row, if there is one.
-fn row_behind<K: Keeper>(keeper: &mut K, row: &Row) -> Result<Option<Row>, OpenKind>
+pub(crate) fn row_behind<K: Keeper>(keeper: &mut K, row: &Row) -> Result<Option<Row>, OpenKind>
     ensures found { IfOk result (λ found. IfSome (K.keeper.told keeper.new).rows (IsFirstFrom (row.now.id +ℤ pos 1) found)) }
     ensures err { IfErr result IsKeepers }
     ensures reads { ReadsRows K.keeper keeper.old keeper.new result }
@@ -192,7 +208,7 @@ fn id_behind(row: &Row) -> Option<i64>
 }
 
 /// Why a store is not opened, where rows are refused.
-fn kind_of(fault: ReplayFault) -> OpenKind
+pub(crate) fn kind_of(fault: ReplayFault) -> OpenKind
     ensures { result ≡ kind_of fault }
 {
     match fault {

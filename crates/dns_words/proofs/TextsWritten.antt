@@ -1,11 +1,12 @@
 -- Texts that are written one after another.
 use Rattle.std.proofs.Common.{◌≡◌, ℕ, List, [], ◌++◌, Result, Ok, Err, OnOk, refl, sym, ap, ◌∙◌, append_assoc, append-nil, arith}
 use Rattle.dns_io.specs.declared.io_fault.IoFault.{IoFault}
-use Rattle.dns_io.specs.declared.io_fault.IoFault.TheVariants.{OutOfMemory}
-use Rattle.dns_io.specs.Told.{Keeps, IsHandedOn}
+use Rattle.dns_io.specs.declared.io_fault.IoFault.TheVariants.{Failed, OutOfMemory}
+use Rattle.std.specs.Result.{IsErrOf}
+use Rattle.dns_io.specs.Told.{Keeps, IsHandedOn, BreaksOff}
 use Rattle.dns_io.proofs.ToldContents.{Grows-nothing, Grows-more, Grows-Keeps, Grows-GrowsByPrefix}
-use Rattle.dns_edges.specs.Edges.{Around, HasCause, SinkTold}
-use Rattle.dns_words.specs.Writing.{Writes, WritesWhole}
+use Rattle.dns_edges.specs.Edges.{Around, HasCause, SinkOf, SinkTold}
+use Rattle.dns_words.specs.Writing.{Writes, WritesWhole, WantedMemory, in_write}
 
 -- a sink before and after
 abbrev pub sink_of : SinkTold → SinkTold → Around SinkTold
@@ -78,3 +79,9 @@ Whole-flush a b c text (Err fault) first kept all cause = record {
   };
   flushed = tt;
 }
+
+-- a write that broke off for want of memory wanted it
+pub wanted_write : {O : Type 0} (sink : SinkOf O) (before : O) (text : List ℕ) (f : IoFault) (after : O) → BreaksOff sink.writes before text f after
+    → IsErrOf {T = Unit {0}} (Err f) OutOfMemory → WantedMemory sink before text after
+wanted_write sink before text Failed after broke is = absurd cc
+wanted_write sink before text OutOfMemory after broke is = in_write broke

@@ -1,12 +1,18 @@
 -- What was done to objects that were handed in, and writing texts.
-use Rattle.std.specs.Prelude.{◌≡◌, ℕ, List, Result, OnOk, OnErr}
-use Rattle.dns_io.specs.Told.{Grows, GrowsByPrefix, IsHandedOn}
+use Rattle.std.specs.Prelude.{◌≡◌, ℕ, List, Option, Some, None, Result, Ok, Err, OnOk, OnErr}
+use Rattle.dns_io.specs.Told.{Grows, GrowsByPrefix, IsHandedOn, BreaksOff}
 use Rattle.dns_io.specs.declared.io_fault.IoFault.{IoFault}
-use Rattle.dns_edges.specs.Edges.{Around, HasCause, SinkTold}
+use Rattle.dns_io.specs.declared.io_fault.IoFault.TheVariants.{Failed, OutOfMemory}
+use Rattle.dns_edges.specs.Edges.{Around, HasCause, SinkOf, SinkTold, ClockOf}
 
 -- an object was not used: it tells what it told
 abbrev pub IsUntouched : {T : Type 0} → Around T → Type 0
 IsUntouched object = object.after ≡ object.before
+
+-- the clock was asked once, and this was its reading; or it was not asked
+abbrev pub IsAsked : {C : Type 0} → ClockOf C → C → C → Option ℕ → Type 0
+IsAsked clock before after None = after ≡ before
+IsAsked clock before after (Some moment) = clock.ticks before moment after × (moment ≡ clock.last after)
 
 -- the output took this text, handed on all that it took, and no call of it failed
 pub record IsWritten (output : Around SinkTold) (text : List ℕ) : Type 0 where
@@ -25,3 +31,15 @@ pub record Writes (output : Around SinkTold) (text : List ℕ) (result : Result 
 pub record WritesWhole (output : Around SinkTold) (text : List ℕ) (result : Result (Unit {0}) IoFault) : Type 0 where
   pub written : Writes output text result
   pub flushed : OnOk result (IsHandedOn output.after.taken output.after.flushed)
+
+-- a text was cut by a sink for want of memory: a write that was handed all bytes of it that were not taken yet wanted memory; or it was
+-- taken whole, and not handed on
+pub data WantedMemory {S : Type 0} (sink : SinkOf S) (before : S) (text : List ℕ) (after : S) : Type 0 where
+  in_write : BreaksOff sink.writes before text OutOfMemory after → WantedMemory sink before text after
+  in_flush : Grows (sink.told before).taken (sink.told after).taken text → WantedMemory sink before text after
+
+-- the status that was meant, where a text was written to its end; else that of a failed output, or that of want of memory
+abbrev pub ended : {S : Type 0} → S → S → S → Result (Unit {0}) IoFault → S
+ended meant failed wanting (Ok done) = meant
+ended meant failed wanting (Err Failed) = failed
+ended meant failed wanting (Err OutOfMemory) = wanting

@@ -5,7 +5,23 @@ ghost use Rattle.dns_words.specs.Actions.{action_of_word, action_of};
 
 use dns_io::OutOfMemory;
 use std::alloc::Global;
+use std::env;
 use std::io::ErrorKind;
+use std::rt::HostRuntime;
+
+/// The words of the command line with which the program was started, without its name; none where they could not be read, as [`unread_words`]
+/// says.
+pub fn command_words(rt: &HostRuntime) -> Result<Vec<String>, OutOfMemory> {
+    let all = match env::args(rt) {
+        Ok(all) => all,
+        Err(error) => return unread_words(rt.alloc(), error.kind()),
+    };
+    let mut words = Vec::new(rt.alloc());
+    for word in all.skip(1) {
+        words.push(word)?;
+    }
+    Ok(words)
+}
 
 /// The words of a command line that could not be read, for this kind of error: where one of them is not UTF-8 there is no
 /// command, as where there is no word.

@@ -2,7 +2,7 @@
 
 ghost use Rattle.std.specs.Prelude.{◌≡◌, map, string_bytes};
 ghost use Rattle.std.specs.Option.{option_map};
-ghost use Rattle.dns_words.specs.Keys.{behind, first_behind};
+ghost use Rattle.dns_words.specs.Keys.{behind, first_behind, is_path_word};
 
 /// What follows a key in the first word that begins with it.
 pub fn first_behind<'a>(words: &'a [String], key: &str) -> Option<&'a str>
@@ -21,4 +21,14 @@ pub fn behind<'a>(word: &'a str, key: &str) -> Option<&'a str>
     ensures { option_map (λ rest. rest.now) result ≡ behind key.now word.now }
 {
     word.strip_prefix(key)
+}
+
+/// Whether a word is this key and a path, which is not empty.
+pub fn is_path_word(word: &str, key: &str) -> bool
+    ensures { result ≡ is_path_word key.now word.now }
+{
+    match behind(word, key) {
+        Some(path) => path.len() > 0,
+        None => false,
+    }
 }

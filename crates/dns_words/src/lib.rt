@@ -1,4 +1,4 @@
-//! What several programs have in common: what the words of a command line and of a text's lines mean, as numbers, bytes,
+//! What several programs have in common: the words of the command line, what they and those of a text's lines mean, as numbers, bytes,
 //! addresses and what follows a key, and writing a text.
 #![tactic(auto)]
 
@@ -8,8 +8,8 @@ mod texts;
 mod values;
 mod written;
 
-pub use actions::{Action, action_of, unread_words};
-pub use keys::{behind, first_behind};
-pub use texts::{put_line, put_text};
+pub use actions::{Action, action_of, command_words, unread_words};
+pub use keys::{behind, first_behind, is_path_word};
+pub use texts::{ended, put_line, put_text, put_whole};
 pub use values::{address_of, bytes_of, decimal_of, digits_below, first_place, ip_of, peer_of};
 pub use written::{hex_word, hex_words};

@@ -1,7 +1,7 @@
 -- Those counted and those of the words that are left are all.
 use Rattle.std.proofs.Common.{◌≡◌, ◌+◌, ◌≤◌, map, drop, string_bytes}
 use Rattle.std.specs.Prelude.{count_by}
-use Rattle.dns_command.specs.CommandLine.{is_path_word}
+use Rattle.dns_words.specs.Keys.{is_path_word}
 use Rattle.dns_command.proofs.command_line.path_words.Given as goal
 
 abbrev pub invariant-loop-word : goal.invariant-loop-word
