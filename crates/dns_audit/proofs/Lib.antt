@@ -1,0 +1,9 @@
+mod Due
+mod Endings
+mod ReadJournals
+mod Compacted
+mod BatchLines
+mod RefusalLines
+mod PartsEnd
+mod AnsweredZones
+mod OneDue

@@ -1,0 +1,8 @@
+use Rattle.std.proofs.lemmas.Result.{err_from_is_err_and}
+use Rattle.dns_words.proofs.TextsWritten.{Writes-nothing, Whole-stop}
+use Rattle.dns_audit.proofs.output.put_short.Goals as goal
+
+pub returns-in_err-line : goal.returns-in_err-line
+returns-in_err-line g c =
+    let p = err_from_is_err_and c.from_residual.result c.from_residual.ensures.1 in
+    rw (p.1, p.2) (Whole-stop _ _ _ (Writes-nothing _ _))

@@ -1,0 +1,15 @@
+pub mod Faults
+pub mod Commands
+pub mod Reading
+pub mod Compacting
+pub mod Listed
+pub mod Printing
+pub mod Lines
+pub mod Status
+pub mod World
+pub mod Writing
+pub mod Steps
+pub mod Ends
+pub mod Counts
+pub mod Completeness
+pub mod Parts
