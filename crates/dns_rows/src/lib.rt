@@ -91,6 +91,27 @@ pub fn numbers_of(alloc: Global, text: &str) -> Result<Vec<u64>, Fail> {
     Ok(numbers)
 }
 
+/// The words of a line, about single blanks.
+pub fn words_of(alloc: Global, line: &str) -> Result<Vec<String>, Fail> {
+    let mut words = Vec::new(alloc);
+    for word in line.split(' ') {
+        words.push(word.to_string(alloc)?)?;
+    }
+    Ok(words)
+}
+
+/// The lines about `;`, with a line end behind each.
+pub fn text_of(alloc: Global, lines: &str) -> Result<String, Fail> {
+    let mut text = String::new(alloc);
+    if !lines.is_empty() {
+        for line in lines.split(';') {
+            text.push_str(line)?;
+            text.push('\n')?;
+        }
+    }
+    Ok(text)
+}
+
 /// Adds an answer to those before it.
 pub fn put_answer(answers: &mut String, answer: &str) -> Result<(), Fail> {
     if !answers.is_empty() {

@@ -44,7 +44,7 @@ fn put_refusal(journal: &mut Journal<MemStore>, answers: &mut String) -> Result<
 }
 
 /// A journal over a new connection in memory, at the current version.
-fn empty_journal(alloc: Global) -> Result<Journal<MemStore>, Fail> {
+pub fn empty_journal(alloc: Global) -> Result<Journal<MemStore>, Fail> {
     match Connection::open_in_memory(alloc) {
         Ok(conn) => journal_over(alloc, conn),
         Err(_) => Err(Fail::from("no connection")),

@@ -5,27 +5,34 @@ ghost use Rattle.std.specs.Prelude.{◌≡◌, IfOk};
 use crate::runs::run_line;
 use dns_io::Octets;
 use dns_keeper::{BatchRow, Keeper, MemoryKeeper, Row};
+use dns_rows::first_call;
 use std::alloc::Global;
 use std::test::Fail;
 
 /// What comes of a run over a keeper that has eight rows, of which one may lack its last byte: `ROW / MAKING / RUN`, where ROW is the id of
 /// the row, MAKING the line of the run that makes the rows, and RUN the one that is told.
 pub fn rows(alloc: Global, given: &str) -> Result<String, Fail> {
-    let (cut, lines) = given.split_once(" / ").unwrap_or((given, ""));
-    let (making, line) = lines.split_once(" / ").unwrap_or((lines, ""));
-    let mut made = made(alloc, making)?;
-    told(
-        alloc,
-        keeper_of(alloc, &mut made, cut.parse().unwrap_or(0), false)?,
-        line,
-    )
+    let (cut, lines) = first_call(given);
+    let (making, line) = first_call(lines);
+    told(alloc, eight_rows(alloc, making, cut)?, line)
 }
 
 /// What comes of a run over a keeper that has nine rows, with a batch of the first eight, and one behind the last: `MAKING / RUN`.
 pub fn parts(alloc: Global, given: &str) -> Result<String, Fail> {
-    let (making, line) = given.split_once(" / ").unwrap_or((given, ""));
+    let (making, line) = first_call(given);
+    told(alloc, nine_rows(alloc, making)?, line)
+}
+
+/// A keeper of the first eight rows that a run makes, of which the one with this id lacks its last byte.
+pub fn eight_rows(alloc: Global, making: &str, cut: &str) -> Result<MemoryKeeper, Fail> {
     let mut made = made(alloc, making)?;
-    told(alloc, keeper_of(alloc, &mut made, 0, true)?, line)
+    keeper_of(alloc, &mut made, cut.parse().unwrap_or(0), false)
+}
+
+/// A keeper of the nine rows that a run makes, with a batch of the first eight, and one behind the last.
+pub fn nine_rows(alloc: Global, making: &str) -> Result<MemoryKeeper, Fail> {
+    let mut made = made(alloc, making)?;
+    keeper_of(alloc, &mut made, 0, true)
 }
 
 /// A keeper after the run that makes its rows.

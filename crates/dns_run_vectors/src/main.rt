@@ -1,8 +1,11 @@
-//! Rows from the specifications, each tried on the compiled libraries: the commands over a list of events, on journals that are not in a file.
+//! Rows from the specifications, each tried on the compiled libraries: the commands over a list of events, and audits, on journals that are
+//! not in a file.
+//!
 //! A row is a line of standard input, `KIND|GIVEN|WANTED`: what is called, what it is given, and the answer that is due. A row with another
 //! answer is written with that answer, and at the end the number of rows. A line that begins with `#` says what the rows below it show.
 #![tactic(auto)]
 
+mod audits;
 mod journals;
 mod keepers;
 mod runs;
@@ -41,6 +44,9 @@ fn answer_to(alloc: Global, kind: &str, given: &str) -> Result<String, Fail> {
         "journal" => journals::journal(alloc, given),
         "rows" => keepers::rows(alloc, given),
         "parts" => keepers::parts(alloc, given),
+        "audit" => audits::audit_journal(alloc, given),
+        "audit_rows" => audits::audit_rows(alloc, given),
+        "audit_parts" => audits::audit_parts(alloc, given),
         _ => Ok("no such kind".to_string(alloc)?),
     }
 }

@@ -5,7 +5,7 @@ use dns_command::run_list::run_list;
 use dns_edges::{MemoryClock, MemorySink, MemorySource};
 use dns_io::Octets;
 use dns_keeper::Keeper;
-use dns_rows::quoted;
+use dns_rows::{quoted, text_of, words_of};
 use std::alloc::Global;
 use std::test::Fail;
 
@@ -53,27 +53,6 @@ pub fn run_line<K: Keeper + Drop>(
         Some(keeper) => Ok(keeper),
         None => Err(Fail::from("no keeper")),
     }
-}
-
-/// The words of a line.
-fn words_of(alloc: Global, line: &str) -> Result<Vec<String>, Fail> {
-    let mut words = Vec::new(alloc);
-    for word in line.split(' ') {
-        words.push(word.to_string(alloc)?)?;
-    }
-    Ok(words)
-}
-
-/// The lines about `;`, with a line end behind each.
-fn text_of(alloc: Global, lines: &str) -> Result<String, Fail> {
-    let mut text = String::new(alloc);
-    if !lines.is_empty() {
-        for line in lines.split(';') {
-            text.push_str(line)?;
-            text.push('\n')?;
-        }
-    }
-    Ok(text)
 }
 
 /// A source of this text.

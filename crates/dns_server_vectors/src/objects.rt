@@ -3,7 +3,7 @@
 use crate::zones::SEVEN;
 use dns_edges::{MemorySink, MemorySource, Source};
 use dns_io::Octets;
-use dns_rows::{numbers_of, quoted, two};
+use dns_rows::{numbers_of, quoted, text_of, two, words_of};
 use std::alloc::Global;
 use std::test::Fail;
 
@@ -31,31 +31,10 @@ pub fn made(alloc: Global, given: &str) -> Result<Objects, Fail> {
     })
 }
 
-/// The words of a line.
-fn words_of(alloc: Global, line: &str) -> Result<Vec<String>, Fail> {
-    let mut words = Vec::new(alloc);
-    for word in line.split(' ') {
-        words.push(word.to_string(alloc)?)?;
-    }
-    Ok(words)
-}
-
 /// A source of this text, 50 bytes in a read; these reads fail.
 fn source(alloc: Global, text: &[u8], reads: &str) -> Result<MemorySource, Fail> {
     let bytes = Octets::from_slice(alloc, text)?;
     Ok(MemorySource::new(bytes, 50, numbers_of(alloc, reads)?))
-}
-
-/// The lines about `;`, with a line end behind each.
-fn text_of(alloc: Global, lines: &str) -> Result<String, Fail> {
-    let mut text = String::new(alloc);
-    if !lines.is_empty() {
-        for line in lines.split(';') {
-            text.push_str(line)?;
-            text.push('\n')?;
-        }
-    }
-    Ok(text)
 }
 
 /// What was `taken`, or what was flushed.
