@@ -42,7 +42,8 @@ impl CachedReply {
         appended: &Appended,
         out: &[u8],
     ) -> Result<CachedReply, OutOfMemory>
-        requires written { (framed : Bool) × (before : List ℕ) × Appends reply.now (limit_of request.now.protocol reply.now.edns) framed before out.now appended.now }
+        requires written { (framed : Bool) × (before : List ℕ)
+            × Appends reply.now (limit_of request.now.protocol reply.now.edns) framed before out.now appended.now }
         requires short { appended.now.len ≤ 512 }
         ensures request { IfOk result (λ kept. kept.request ≡ request.now) }
         ensures question { IfOk result (λ kept. Some kept.question ≡ reply.now.question) }

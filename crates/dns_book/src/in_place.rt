@@ -69,7 +69,8 @@ impl InPlace {
         is_framed: bool,
     ) -> Result<bool, OutOfMemory>
         requires { AreOf zone.now self.old.replies }
-        ensures ok { (allow_update : Bool) → IfOk result (λ is_done. IsTrue is_done → IsAnswered zone.now allow_update access.now ask.now is_framed out.old.items out.new.items counts.old counts.new) }
+        ensures ok { (allow_update : Bool) → IfOk result (λ is_done. IsTrue is_done
+            → IsAnswered zone.now allow_update access.now ask.now is_framed out.old.items out.new.items counts.old counts.new) }
         ensures left { IfOk result (λ is_done. is_done ≡ false → (out.new.items ≡ out.old.items) × (counts.new ≡ counts.old)) }
         ensures err { OnErr result (counts.new ≡ counts.old) }
         ensures kept { AreOf zone.now self.new.replies }
@@ -103,7 +104,8 @@ impl InPlace {
     ) -> Result<(), OutOfMemory>
         requires own { is_foreign zone.now self.old.question ≡ false }
         requires kept { AreOf zone.now self.old.replies }
-        ensures ok { (allow_update : Bool) → OnOk result (IsAnsweredBy zone.now allow_update request.now.protocol (record { request = request.now; case = Asks self.old.question }) is_framed out.old.items out.new.items counts.old counts.new) }
+        ensures ok { (allow_update : Bool) → OnOk result (IsAnsweredBy zone.now allow_update request.now.protocol
+            (record { request = request.now; case = Asks self.old.question }) is_framed out.old.items out.new.items counts.old counts.new) }
         ensures err { OnErr result (counts.new ≡ counts.old) }
         ensures kept { AreOf zone.now self.new.replies }
     {
@@ -193,7 +195,8 @@ fn put_lent(
 ) -> Result<Appended, OutOfMemory>
     requires { HasRoom reply.now }
     ensures appends { IfOk result (Appends reply.now (limit_of request.now.protocol reply.now.edns) is_framed out.old.items out.new.items) }
-    ensures ok { OnOk result (IsPut request.now.protocol (asked_of (record { request = request.now; case = Asks question.now })) reply.now is_framed out.old.items out.new.items counts.old counts.new) }
+    ensures ok { OnOk result (IsPut request.now.protocol
+        (asked_of (record { request = request.now; case = Asks question.now })) reply.now is_framed out.old.items out.new.items counts.old counts.new) }
     ensures err { OnErr result (counts.new ≡ counts.old) }
 {
     let appended = reply.append(out, limit_of(request.protocol, reply.edns), is_framed)?;

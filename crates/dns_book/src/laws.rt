@@ -24,11 +24,15 @@ use dns_wire::laws::{standing_messages, written_replies};
 /// What holds of the bytes that a message is owed.
 pub fn owed_replies()
     // One case is decided of a message, and it is owed one reply, or none, in one written form.
-    ensures decided { (zone : Contents) (access : Access) (ask : Asked) (a b : Option Decided) → Decides zone access ask a → Decides zone access ask b → a ≡ b }
-    ensures reply { (grounds : Grounds) (access : Access) (ask : Asked) (a b : Option Replied) → Owes grounds access ask a → Owes grounds access ask b → a ≡ b }
-    ensures one { (grounds : Grounds) (access : Access) (ask : Asked) (a b : Option (List ℕ)) → OwesBytes grounds access ask a → OwesBytes grounds access ask b → a ≡ b }
+    ensures decided { (zone : Contents) (access : Access) (ask : Asked) (a b : Option Decided)
+        → Decides zone access ask a → Decides zone access ask b → a ≡ b }
+    ensures reply { (grounds : Grounds) (access : Access) (ask : Asked) (a b : Option Replied)
+        → Owes grounds access ask a → Owes grounds access ask b → a ≡ b }
+    ensures one { (grounds : Grounds) (access : Access) (ask : Asked) (a b : Option (List ℕ))
+        → OwesBytes grounds access ask a → OwesBytes grounds access ask b → a ≡ b }
     // A reply says that it is one, and has the request's id, or 0 over QUIC.
-    ensures header { (grounds : Grounds) (access : Access) (ask : Asked) (h : Header) (bytes : List ℕ) → header_of ask.bytes ≡ Some h → h.id < 2 ^ 16
+    ensures header { (grounds : Grounds) (access : Access) (ask : Asked) (h : Header) (bytes : List ℕ)
+        → header_of ask.bytes ≡ Some h → h.id < 2 ^ 16
         → OwesBytes grounds access ask (Some bytes) → IsSomeAnd (header_of bytes) (λ r. (r.id ≡ id_for ask.protocol h.id) × (r.qr ≡ true)) }
     // It is within the limit that the request sets: over UDP 512 bytes, or what its OPT says where that is more.
     ensures limit { (grounds : Grounds) (access : Access) (ask : Asked) (m : Read) (bytes : List ℕ) → MessageAt ask.bytes m
@@ -43,7 +47,8 @@ pub fn owed_replies()
     ensures refused { (grounds : Grounds) (access : Access) (ask : Asked) (reply : Replied) → lets_in access ask.source.ip ≡ false
         → Owes grounds access ask (Some reply) → (reply.code ≡ 5) × (reply.answers ≡ []) × (reply.edns ≡ None) }
     // A reply that is sent back is owed none.
-    ensures silent { (grounds other : Grounds) (access others : Access) (ask again : Asked) (h : Header) (bytes : List ℕ) (reply : Option (List ℕ)) → header_of ask.bytes ≡ Some h → h.id < 2 ^ 16
+    ensures silent { (grounds other : Grounds) (access others : Access) (ask again : Asked) (h : Header) (bytes : List ℕ)
+        (reply : Option (List ℕ)) → header_of ask.bytes ≡ Some h → h.id < 2 ^ 16
         → OwesBytes grounds access ask (Some bytes) → again.bytes ≡ bytes → OwesBytes other others again reply → reply ≡ None }
 {
     standing_messages();
@@ -79,5 +84,6 @@ pub fn networks()
     ensures bits { (at : Address) (prefix : ℕ) (net : Network) → net_of at prefix ≡ Some net
         → address_bits net.ip ≡ take prefix (address_bits at) ++ replicate (length (address_bits at) - prefix) 0 }
     // The addresses that lie in it are those of the address's family whose first bits are its first bits.
-    ensures inside { (at ip : Address) (prefix : ℕ) (net : Network) → net_of at prefix ≡ Some net → lies_in ip net ≡ share_front prefix ip at }
+    ensures inside { (at ip : Address) (prefix : ℕ) (net : Network)
+        → net_of at prefix ≡ Some net → lies_in ip net ≡ share_front prefix ip at }
 {}

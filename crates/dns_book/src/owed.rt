@@ -36,11 +36,13 @@ pub(crate) fn owed_by(
     decision: Decision,
 ) -> Result<Owed, OutOfMemory>
     requires { IsFit zone.now decision.case }
-    ensures reply { IfOk result (λ owed. owed.reply ≡ reply_of (record { zone = zone.now; allow_update = allow_update; failed = false }) decision) }
+    ensures reply { IfOk result (λ owed. owed.reply
+        ≡ reply_of (record { zone = zone.now; allow_update = allow_update; failed = false }) decision) }
     ensures fits { IfOk result (λ owed. HasRoom owed.reply) }
     ensures batch { IfOk result (λ owed. batch_in zone.now owed.updates ≡ case_batch zone.now allow_update decision.case) }
     ensures passing { IfOk result (λ owed. ArePassing zone.now owed.updates) }
-    ensures failed { IfOk result (λ owed. FailsBy owed.updates owed.reply (reply_of (record { zone = zone.now; allow_update = allow_update; failed = true }) decision)) }
+    ensures failed { IfOk result (λ owed. FailsBy owed.updates owed.reply
+        (reply_of (record { zone = zone.now; allow_update = allow_update; failed = true }) decision)) }
 {
     let request = decision.request;
     match decision.case {
@@ -79,11 +81,13 @@ fn owed_update(
     message: Message,
 ) -> Result<Owed, OutOfMemory>
     requires { IsFit zone.now (Update message) }
-    ensures reply { IfOk result (λ owed. owed.reply ≡ update_reply (record { zone = zone.now; allow_update = allow_update; failed = false }) request.now message) }
+    ensures reply { IfOk result (λ owed. owed.reply
+        ≡ update_reply (record { zone = zone.now; allow_update = allow_update; failed = false }) request.now message) }
     ensures fits { IfOk result (λ owed. HasRoom owed.reply) }
     ensures batch { IfOk result (λ owed. batch_in zone.now owed.updates ≡ case_batch zone.now allow_update (Update message)) }
     ensures passing { IfOk result (λ owed. ArePassing zone.now owed.updates) }
-    ensures failed { IfOk result (λ owed. FailsBy owed.updates owed.reply (update_reply (record { zone = zone.now; allow_update = allow_update; failed = true }) request.now message)) }
+    ensures failed { IfOk result (λ owed. FailsBy owed.updates owed.reply
+        (update_reply (record { zone = zone.now; allow_update = allow_update; failed = true }) request.now message)) }
 {
     match zone.judge(alloc, &message, allow_update)? {
         Verdict::Fails(code) => {

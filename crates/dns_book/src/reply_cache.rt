@@ -120,8 +120,10 @@ impl ReplyCache {
         appended: &Appended,
         out: &[u8],
     )
-        requires { (framed : Bool) × (before : List ℕ) × Appends reply.now (limit_of request.now.protocol reply.now.edns) framed before out.now appended.now }
-        ensures { (zone : Contents) (question : Question) → AreOf zone self.old → is_foreign zone question ≡ false → reply.now ≡ looked_for zone request.now question → AreOf zone self.new }
+        requires { (framed : Bool) × (before : List ℕ)
+            × Appends reply.now (limit_of request.now.protocol reply.now.edns) framed before out.now appended.now }
+        ensures { (zone : Contents) (question : Question) → AreOf zone self.old → is_foreign zone question ≡ false
+            → reply.now ≡ looked_for zone request.now question → AreOf zone self.new }
     {
         self.make(records);
         if appended.len > LONGEST || !self.gives_way_to(hash) {
@@ -185,7 +187,8 @@ impl ReplyCache {
 
 /// The reply at a place.
 fn kept_at(place: &Place) -> Option<&CachedReply>
-    ensures { (zone : Contents) (version : ℕ) → IsPlaceOf zone version place.now → place.now.version ≡ version → IfSome result (λ kept. IsOf zone kept.now) }
+    ensures { (zone : Contents) (version : ℕ) → IsPlaceOf zone version place.now
+        → place.now.version ≡ version → IfSome result (λ kept. IsOf zone kept.now) }
 {
     match &place.reply {
         None => None,

@@ -106,7 +106,8 @@ impl<K: Keeper> Book<K> {
 
 /// Counts a change of the zone, which then has so many records.
 fn count_change(counts: &mut Counts, modified: Modified, records: u64)
-    ensures { counts.new ≡ changed (record { added = modified.added; deleted = modified.deleted; updated = modified.updated; records = records }) counts.old }
+    ensures { counts.new ≡ changed
+        (record { added = modified.added; deleted = modified.deleted; updated = modified.updated; records = records }) counts.old }
 {
     counts.changed(modified.added, modified.deleted, modified.updated, records);
 }

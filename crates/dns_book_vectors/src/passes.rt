@@ -10,7 +10,8 @@ use dns_ticket_lock::{Pass, TicketBook};
 pub fn last_of(book: &TicketBook<MemoryKeeper>, passes: &mut Vec<Pass>) -> Option<Pass>
     requires { InOrder book.now.id passes.old.items }
     ensures left { InOrder book.now.id passes.new.items }
-    ensures last { IfSome result (λ p. (p.book ≡ book.now.id) × (p.number ≡ length passes.new.items + 1) × (length passes.old.items ≡ length passes.new.items + 1)) }
+    ensures last { IfSome result (λ p. (p.book ≡ book.now.id) × (p.number ≡ length passes.new.items + 1)
+        × (length passes.old.items ≡ length passes.new.items + 1)) }
 {
     passes.pop()
 }

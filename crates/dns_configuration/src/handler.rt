@@ -103,11 +103,13 @@ impl FileZoneHandler {
         config: &FileConfig,
         files: &mut F,
     ) -> Result<FileZoneHandler, LoadFault>
-        ensures zone { IfOk result (λ handler. Means (F.files files.new) (path_from (option_copied root_dir.entry) config.now.zone_path) (fold_of origin) (Ok handler.zone.records)) }
+        ensures zone { IfOk result (λ handler. Means (F.files files.new)
+            (path_from (option_copied root_dir.entry) config.now.zone_path) (fold_of origin) (Ok handler.zone.records)) }
         ensures origin { IfOk result (λ handler. handler.zone.origin ≡ fold_of origin) }
         ensures zone_type { IfOk result (λ handler. handler.zone_type ≡ zone_type) }
         ensures axfr_policy { IfOk result (λ handler. handler.axfr_policy ≡ axfr_policy) }
-        ensures fault { IfErr result (TellsLoad (F.files files.new) (path_from (option_copied root_dir.entry) config.now.zone_path) (fold_of origin)) }
+        ensures fault { IfErr result (TellsLoad (F.files files.new)
+            (path_from (option_copied root_dir.entry) config.now.zone_path) (fold_of origin)) }
         ensures kept { Keeps (F.files files.old) (F.files files.new) }
         ensures cause { LoadCause (F.faults files.old) (F.faults files.new) result }
     {

@@ -24,13 +24,15 @@ pub fn own_messages()
     ensures one { (a b : Receiver) → (is_one a b ≡ true) ↔ (a ≡ b) }
     // The messages whose replies go to a receiver are those that a list without the events of others completes, in that order and
     // each at its moment; there are no others then.
-    ensures own { (kept : Kept) (receiver : Receiver) (events : List Event) → messages_to receiver (done kept events) ≡ done kept (without_others receiver events) }
+    ensures own { (kept : Kept) (receiver : Receiver) (events : List Event)
+        → messages_to receiver (done kept events) ≡ done kept (without_others receiver events) }
 {}
 
 /// What a message that is no update (opcode 5) does to a book.
 pub fn queries<K: Keeper>()
     // Nothing changes but what is counted, and the journal gets no row.
-    ensures unchanged { (access : Access) (before after : SeenOf K) (ask : Ask) (settled : Settled) → Settles K.keeper access before ask settled after
+    ensures unchanged { (access : Access) (before after : SeenOf K) (ask : Ask) (settled : Settled)
+        → Settles K.keeper access before ask settled after
         → IsNoUpdate ask.bytes → IsUnchanged before after × (settled.receipt ≡ None) }
 {}
 

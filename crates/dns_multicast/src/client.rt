@@ -30,7 +30,8 @@ impl<D: PacketPoll + Drop, M: PacketPoll + Drop> MdnsClientStream<D, M> {
         requires ttl { IfSome packet_ttl (λ ttl. 0 < ttl) }
         requires sends { is_some datagram ≡ is_sender kind }
         requires joins { is_some multicast ≡ is_joined kind }
-        ensures made { MatchBool (is_joined kind && not (is_group addr.ip)) (result ≡ Err NotMulticast) (result ≡ Ok (record { stream = record { addr = addr; kind = kind; packet_ttl = packet_ttl; datagram = datagram; multicast = multicast } })) }
+        ensures made { MatchBool (is_joined kind && not (is_group addr.ip)) (result ≡ Err NotMulticast) (result ≡ Ok (record
+            { stream = record { addr = addr; kind = kind; packet_ttl = packet_ttl; datagram = datagram; multicast = multicast } })) }
     {
         let stream = MdnsStream::new(addr, kind, packet_ttl, datagram, multicast)?;
         Ok(MdnsClientStream { stream })
@@ -46,7 +47,10 @@ impl<D: PacketPoll + Drop, M: PacketPoll + Drop> MdnsClientStream<D, M> {
         requires ttl { IfSome packet_ttl (λ ttl. 0 < ttl) }
         requires sends { is_some datagram ≡ is_sender kind }
         requires joins { is_some multicast ≡ is_joined kind }
-        ensures { result ≡ Ok (record { stream = record { addr = group_v4; kind = kind; packet_ttl = packet_ttl; datagram = datagram; multicast = multicast } }) }
+        ensures { result ≡ Ok (record {
+          stream = record
+              { addr = group_v4; kind = kind; packet_ttl = packet_ttl; datagram = datagram; multicast = multicast };
+        }) }
     {
         let stream = MdnsStream::new_ipv4(kind, packet_ttl, datagram, multicast)?;
         Ok(MdnsClientStream { stream })
@@ -62,7 +66,10 @@ impl<D: PacketPoll + Drop, M: PacketPoll + Drop> MdnsClientStream<D, M> {
         requires ttl { IfSome packet_ttl (λ ttl. 0 < ttl) }
         requires sends { is_some datagram ≡ is_sender kind }
         requires joins { is_some multicast ≡ is_joined kind }
-        ensures { result ≡ Ok (record { stream = record { addr = group_v6; kind = kind; packet_ttl = packet_ttl; datagram = datagram; multicast = multicast } }) }
+        ensures { result ≡ Ok (record {
+          stream = record
+              { addr = group_v6; kind = kind; packet_ttl = packet_ttl; datagram = datagram; multicast = multicast };
+        }) }
     {
         let stream = MdnsStream::new_ipv6(kind, packet_ttl, datagram, multicast)?;
         Ok(MdnsClientStream { stream })
@@ -79,7 +86,8 @@ impl<D: PacketPoll + Drop, M: PacketPoll + Drop> MdnsClientStream<D, M> {
     pub fn poll_next(&mut self) -> Poll<Option<Result<Packet, NetError>>>
         ensures polls { PollsNext D.packets M.packets (self.old.stream.datagram, self.old.stream.multicast) result
             (self.new.stream.datagram, self.new.stream.multicast) }
-        ensures kept { self.new.stream ≡ record self.old.stream { datagram = self.new.stream.datagram; multicast = self.new.stream.multicast } }
+        ensures kept { self.new.stream ≡ record self.old.stream
+            { datagram = self.new.stream.datagram; multicast = self.new.stream.multicast } }
         ensures cause { HasStreamCause D.packets M.packets (self.old.stream.datagram, self.old.stream.multicast) result
             (self.new.stream.datagram, self.new.stream.multicast) }
     {

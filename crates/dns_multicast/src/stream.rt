@@ -36,7 +36,8 @@ impl<D: PacketPoll + Drop, M: PacketPoll + Drop> MdnsStream<D, M> {
         requires ttl { IfSome packet_ttl (λ ttl. 0 < ttl) }
         requires sends { is_some datagram ≡ is_sender kind }
         requires joins { is_some multicast ≡ is_joined kind }
-        ensures made { MatchBool (is_joined kind && not (is_group addr.ip)) (result ≡ Err NotMulticast) (result ≡ Ok (record { addr = addr; kind = kind; packet_ttl = packet_ttl; datagram = datagram; multicast = multicast })) }
+        ensures made { MatchBool (is_joined kind && not (is_group addr.ip)) (result ≡ Err NotMulticast)
+            (result ≡ Ok (record { addr = addr; kind = kind; packet_ttl = packet_ttl; datagram = datagram; multicast = multicast })) }
     {
         if kind.join_multicast() && !is_group(addr.ip) {
             return Err(NetError::NotMulticast);
@@ -60,7 +61,8 @@ impl<D: PacketPoll + Drop, M: PacketPoll + Drop> MdnsStream<D, M> {
         requires ttl { IfSome packet_ttl (λ ttl. 0 < ttl) }
         requires sends { is_some datagram ≡ is_sender kind }
         requires joins { is_some multicast ≡ is_joined kind }
-        ensures { result ≡ Ok (record { addr = group_v4; kind = kind; packet_ttl = packet_ttl; datagram = datagram; multicast = multicast }) }
+        ensures { result ≡ Ok (record
+            { addr = group_v4; kind = kind; packet_ttl = packet_ttl; datagram = datagram; multicast = multicast }) }
     {
         MdnsStream::new(MDNS_IPV4, kind, packet_ttl, datagram, multicast)
     }
@@ -75,7 +77,8 @@ impl<D: PacketPoll + Drop, M: PacketPoll + Drop> MdnsStream<D, M> {
         requires ttl { IfSome packet_ttl (λ ttl. 0 < ttl) }
         requires sends { is_some datagram ≡ is_sender kind }
         requires joins { is_some multicast ≡ is_joined kind }
-        ensures { result ≡ Ok (record { addr = group_v6; kind = kind; packet_ttl = packet_ttl; datagram = datagram; multicast = multicast }) }
+        ensures { result ≡ Ok (record
+            { addr = group_v6; kind = kind; packet_ttl = packet_ttl; datagram = datagram; multicast = multicast }) }
     {
         MdnsStream::new(MDNS_IPV6, kind, packet_ttl, datagram, multicast)
     }

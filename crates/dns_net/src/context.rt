@@ -34,7 +34,8 @@ impl RequestContext {
     /// A request for a message of `message_len` bytes, without its body: POST by https. `Build` says which text is not of
     /// its form, the path before the name; a fragment of the path is left out. Then come the further header fields.
     pub fn build(&self, alloc: Global, message_len: usize) -> Result<Request<()>, NetError>
-        ensures head { IfOk result (λ request. IsRequest self.now.version (string_bytes self.now.server_name) (string_bytes self.now.query_path)
+        ensures head { IfOk result (λ request. IsRequest self.now.version
+            (string_bytes self.now.server_name) (string_bytes self.now.query_path)
             (with_all (option_map_or (λ object. pairs object) self.now.set_headers []) (request_headers message_len)) (head_of request)) }
         ensures ok { OnOk result (CanBuild (string_bytes self.now.server_name) (string_bytes self.now.query_path)
             (option_and_then (λ object. refuses object) self.now.set_headers)) }

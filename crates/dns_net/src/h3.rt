@@ -51,8 +51,10 @@ impl<L: HttpLink> H3ClientStreamBuilder<L> {
         ensures version { result.context.version ≡ Http3 }
         ensures name { string_bytes result.context.server_name ≡ string_bytes server_name }
         ensures path { string_bytes result.context.query_path ≡ string_bytes path }
-        ensures pairs { option_map_or (λ object. pairs object) result.context.set_headers [] ≡ option_map_or (λ object. pairs object) self.set_headers [] }
-        ensures refuses { option_and_then (λ object. refuses object) result.context.set_headers ≡ option_and_then (λ object. refuses object) self.set_headers }
+        ensures pairs { option_map_or (λ object. pairs object) result.context.set_headers []
+            ≡ option_map_or (λ object. pairs object) self.set_headers [] }
+        ensures refuses { option_and_then (λ object. refuses object) result.context.set_headers
+            ≡ option_and_then (λ object. refuses object) self.set_headers }
         ensures address { result.address ≡ address }
     {
         let H3ClientStreamBuilder {

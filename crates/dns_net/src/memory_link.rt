@@ -50,7 +50,8 @@ impl MemoryLink {
         late: Vec<u64>,
     ) -> MemoryLink
         requires { AreFresh responses }
-        ensures { result ≡ record { responses = responses; failing = failing.items; late = late.items; calls = []; given_out = 0; exchanges = 0; faults = 0 } }
+        ensures { result ≡ record
+            { responses = responses; failing = failing.items; late = late.items; calls = []; given_out = 0; exchanges = 0; faults = 0 } }
     {
         MemoryLink {
             responses,

@@ -55,7 +55,19 @@ impl MemoryStreams {
         failing_accepts: Vec<u64>,
     ) -> MemoryStreams
         requires { AreFresh opening }
-        ensures { result ≡ record { opening = opening; coming = coming; failing = failing.items; late = late.items; failing_accepts = failing_accepts.items; calls = []; closed = None; given_out = 0; opens = 0; accepts = 0; faults = 0 } }
+        ensures { result ≡ record {
+          opening = opening;
+          coming = coming;
+          failing = failing.items;
+          late = late.items;
+          failing_accepts = failing_accepts.items;
+          calls = [];
+          closed = None;
+          given_out = 0;
+          opens = 0;
+          accepts = 0;
+          faults = 0;
+        } }
     {
         MemoryStreams {
             opening,

@@ -98,7 +98,8 @@ fn receive<R: Source>(source: &mut R, room: &mut [u8]) -> Result<usize, ServeFau
 fn send<W: Sink>(sink: &mut W, replies: &mut Vec<u8>) -> Result<(), ServeFault>
     ensures ok { OnOk result (Grows (W.sink.told sink.old).taken (W.sink.told sink.new).taken replies.old.items) }
     ensures sent { OnOk result (replies.new.items ≡ []) }
-    ensures err { OnErr result ((rest : List ℕ) × GrowsByPrefix (W.sink.told sink.old).taken (W.sink.told sink.new).taken replies.old.items rest) }
+    ensures err { OnErr result ((rest : List ℕ)
+        × GrowsByPrefix (W.sink.told sink.old).taken (W.sink.told sink.new).taken replies.old.items rest) }
     ensures unflushed { Keeps (W.sink.told sink.old).flushed (W.sink.told sink.new).flushed }
     ensures later { (W.sink.told sink.old).faults ≤ (W.sink.told sink.new).faults }
     ensures counts { CountsWriting (W.sink.told sink.old).faults (W.sink.told sink.new).faults result }

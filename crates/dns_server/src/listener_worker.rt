@@ -32,7 +32,8 @@ pub fn serve_listener<H: RequestHandler, T: TcpPort, R: Wait>(
     limit: u64,
 ) -> Result<(), IoFault>
     requires { limit < 2 ^ 47 }
-    ensures { WorksListener (H.serves access.now) H.skips (listener_of T.told T.In.source T.Out.sink T.Time.clock) limit (record { handler = handler.old; port = listener.old }) (record { handler = handler.new; port = listener.new }) result }
+    ensures { WorksListener (H.serves access.now) H.skips (listener_of T.told T.In.source T.Out.sink T.Time.clock) limit
+        (record { handler = handler.old; port = listener.old }) (record { handler = handler.new; port = listener.new }) result }
 {
     let mut is_short = false;
     for _ in rt.forever() {
@@ -59,7 +60,8 @@ fn attend<H: RequestHandler, T: TcpPort>(
 ) -> bool
     requires lent { 0 < (T.told listener.old).lent }
     requires limit { limit < 2 ^ 47 }
-    ensures { Attends (H.serves access.now) H.skips (listener_of T.told T.In.source T.Out.sink T.Time.clock) limit (record { handler = handler.old; port = listener.old }) (record { handler = handler.new; port = listener.new }) connection result }
+    ensures { Attends (H.serves access.now) H.skips (listener_of T.told T.In.source T.Out.sink T.Time.clock) limit
+        (record { handler = handler.old; port = listener.old }) (record { handler = handler.new; port = listener.new }) connection result }
 {
     if !is_safe(&connection.peer) {
         listener.done(connection);

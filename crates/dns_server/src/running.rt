@@ -247,7 +247,8 @@ where
     let (_, ended) = join_mut(
         rt,
         &mut ||
-            requires { AllByRecursion (IsOf book.now) (their_passes sockets.now) × AllByRecursion (IsOf book.now) (their_passes listeners.now) }
+            requires { AllByRecursion (IsOf book.now) (their_passes sockets.now)
+                × AllByRecursion (IsOf book.now) (their_passes listeners.now) }
         { run_all(rt, alloc, book, access, sockets, listeners) },
         &mut || { read_out(rt, until, token) },
     );

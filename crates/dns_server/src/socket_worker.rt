@@ -35,7 +35,8 @@ pub fn serve_socket<H: RequestHandler, U: UdpPort, R: Wait>(
     access: &AccessControl,
     socket: &mut U,
 ) -> Result<(), IoFault>
-    ensures { WorksSocket (H.serves access.now) H.skips U.told (record { handler = handler.old; port = socket.old }) (record { handler = handler.new; port = socket.new }) result }
+    ensures { WorksSocket (H.serves access.now) H.skips U.told (record { handler = handler.old; port = socket.old })
+        (record { handler = handler.new; port = socket.new }) result }
 {
     let Ok(mut room) = room_in(alloc) else {
         return Err(IoFault::OutOfMemory);
@@ -116,7 +117,8 @@ fn handle<H: RequestHandler, U: UdpPort>(
 ) -> Result<(), IoFault>
     requires moment { arrived.now.at < 2 ^ 47 }
     requires bytes { length bytes.now ≤ 65535 }
-    ensures { Handles (H.serves access.now) H.skips U.told (record { handler = handler.old; port = socket.old }) (record { handler = handler.new; port = socket.new }) (ask_for (bytes.now, arrived.now.from, arrived.now.at)) result }
+    ensures { Handles (H.serves access.now) H.skips U.told (record { handler = handler.old; port = socket.old })
+        (record { handler = handler.new; port = socket.new }) (ask_for (bytes.now, arrived.now.from, arrived.now.at)) result }
 {
     let ask = ask_in(alloc, &mut buffers.message, bytes, arrived)?;
     let outcome = settle(handler, access, socket, &ask, &mut buffers.reply);
@@ -155,7 +157,8 @@ fn settle<H: RequestHandler, U: UdpPort>(
 ) -> Result<(), IoFault>
     requires moment { ask.now.at < 2 ^ 47 }
     requires bytes { length ask.now.bytes ≤ 65535 }
-    ensures { Handles (H.serves access.now) H.skips U.told (record { handler = handler.old; port = socket.old }) (record { handler = handler.new; port = socket.new }) ask.now result }
+    ensures { Handles (H.serves access.now) H.skips U.told (record { handler = handler.old; port = socket.old })
+        (record { handler = handler.new; port = socket.new }) ask.now result }
 {
     reply.clear();
     let into = handler.handle_into(access, ask, reply, false)?;
@@ -164,7 +167,8 @@ fn settle<H: RequestHandler, U: UdpPort>(
 
 /// Hands a reply, where one is owed, to the socket.
 fn answer<U: UdpPort>(socket: &mut U, to: Peer, is_owed: bool, reply: &[u8]) -> Result<(), IoFault>
-    ensures ok { OnOk result (Grows (U.told socket.old).taken (U.told socket.new).taken (answer_to to (if is_owed then Some reply.now else None))) }
+    ensures ok { OnOk result (Grows (U.told socket.old).taken (U.told socket.new).taken
+        (answer_to to (if is_owed then Some reply.now else None))) }
     ensures err { OnErr result (Keeps (U.told socket.old).taken (U.told socket.new).taken) }
     ensures owed { OnErr result (is_owed ≡ true) }
     ensures left { Keeps (U.told socket.old).left (U.told socket.new).left }

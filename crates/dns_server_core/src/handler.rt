@@ -51,7 +51,8 @@ pub trait RequestHandler {
     ) -> Result<SettledInto, OutOfMemory>
         requires moment { ask.now.at < 2 ^ 47 }
         requires bytes { length ask.now.bytes ≤ 65535 }
-        ensures ok { IfOk result (SettlesInto (λ settled. serves access.now self.old ask.now settled self.new) is_framed out.old.items out.new.items) }
+        ensures ok { IfOk result (SettlesInto
+            (λ settled. serves access.now self.old ask.now settled self.new) is_framed out.old.items out.new.items) }
         ensures err { OnErr result (skips self.old self.new) };
 
     /// Settles, in order, the whole messages at the front of what came over a connection, at most so many, each behind its length (RFC 1035

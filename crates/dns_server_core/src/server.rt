@@ -60,7 +60,8 @@ impl<T> Server<T> {
         denied: Vec<IpNet>,
         allowed: Vec<IpNet>,
     ) -> Server<T>
-        ensures { result ≡ record { handler = handler; access = record { allowed = allowed.items; denied = denied.items }; kept = new_kept } }
+        ensures { result
+            ≡ record { handler = handler; access = record { allowed = allowed.items; denied = denied.items }; kept = new_kept } }
     {
         let access = AccessControl::from_networks(denied, allowed);
         Server {
@@ -103,9 +104,11 @@ impl<T: RequestHandler> Server<T> {
     pub fn run_events(&mut self, events: &Vec<Event>, out: &mut Vec<Out>) -> Result<(), RunFault>
         requires { self.old.kept.stopped ≡ false → Valid self.old.kept events.now.items }
         ensures running { OnOk result (self.old.kept.stopped ≡ false) }
-        ensures ok { OnOk result (Answers (T.serves self.old.access) self.old.handler (done self.old.kept events.now.items) self.new.handler out.old.items out.new.items) }
+        ensures ok { OnOk result (Answers (T.serves self.old.access) self.old.handler
+            (done self.old.kept events.now.items) self.new.handler out.old.items out.new.items) }
         ensures after { OnOk result (self.new.kept ≡ after self.old.kept events.now.items) }
-        ensures err { IfErr result (Leaves (T.serves self.old.access) T.skips self.old events.now.items self.new out.old.items out.new.items) }
+        ensures err { IfErr result (Leaves
+            (T.serves self.old.access) T.skips self.old events.now.items self.new out.old.items out.new.items) }
         ensures access { self.new.access ≡ self.old.access }
     {
         if self.sessions.is_stopped() {

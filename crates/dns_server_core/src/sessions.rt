@@ -121,7 +121,8 @@ impl Sessions {
         ensures ok { OnOk result (self.new ≡ next self.old event.now) }
         ensures ran { OnOk result (Hands H.serves responder.old (completed_now event.now self.old.connections) responder.new) }
         ensures err { OnErr result (Breaks H.serves H.skips responder.old (completed_now event.now self.old.connections) responder.new) }
-        ensures closed { OnErr result (self.new ≡ record { last = self.old.last; greatest = self.old.greatest; stopped = self.old.stopped; connections = [] }) }
+        ensures closed { OnErr result (self.new
+            ≡ record { last = self.old.last; greatest = self.old.greatest; stopped = self.old.stopped; connections = [] }) }
     {
         match apply(self.alloc, responder, &mut self.connections, event) {
             Ok(()) => {}

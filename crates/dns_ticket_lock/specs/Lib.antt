@@ -4,5 +4,6 @@ pub mod Shares
 pub mod Naming
 pub mod Rule
 pub mod Settling
+pub mod Counted
 pub mod Passes
 pub mod Fronts

@@ -33,7 +33,8 @@ fn take_out<T: Carried>(board: &Board<T>, passes: &mut Vec<Pass>, number: u32) -
     requires { AreAll board.now.table_id number passes.old.items × (0 < number) }
     ensures is { (result.number ≡ number) × (result.book ≡ board.now.table_id) }
     ensures left { AreAll board.now.table_id (number - 1) passes.new.items }
-    ensures found { (i : ℕ) (p : _) → get_elem? passes.old.items i ≡ some p → ((k : ℕ) × (get_elem? passes.new.items k ≡ some p)) ⊎ (p ≡ result) }
+    ensures found { (i : ℕ) (p : _) → get_elem? passes.old.items i ≡ some p
+        → ((k : ℕ) × (get_elem? passes.new.items k ≡ some p)) ⊎ (p ≡ result) }
     ensures faults { total pass_faults passes.old.items ≡ pass_faults result + total pass_faults passes.new.items }
 {
     let place = place_of(passes, number);
@@ -61,7 +62,8 @@ fn join_all<T: Carried>(
     ensures table { result.table_id ≡ board.now.table_id }
     ensures rests { (result.me.1 ≡ []) × (result.me.0.phase ≡ 0) × (result.me.0.low ≡ 0) }
     ensures many { length result.me.0.accounts ≡ seats }
-    ensures found { (i : ℕ) (p : _) → get_elem? passes.items i ≡ some p → (k : ℕ) × (p.number ≡ k + 1) × (get_elem? result.me.0.accounts k ≡ some p.account) }
+    ensures found { (i : ℕ) (p : _) → get_elem? passes.items i ≡ some p
+        → (k : ℕ) × (p.number ≡ k + 1) × (get_elem? result.me.0.accounts k ≡ some p.account) }
     ensures faults { total pass_faults passes.items ≡ total faults_of result.me.0.accounts }
 {
     let mut number = seats;

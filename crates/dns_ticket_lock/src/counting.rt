@@ -2,7 +2,7 @@
 
 ghost use Rattle.std.specs.Prelude.{◌≡◌, ◌+◌, length};
 ghost use Rattle.dns_ticket_lock.specs.Rule.{IsDone, has_counted};
-ghost use Rattle.dns_ticket_lock.specs.Settling.{done_by};
+ghost use Rattle.dns_ticket_lock.specs.Counted.{done_at, CountsRows};
 
 use crate::held::{Held, Told};
 use crate::steps::{Batch, Board, count};
@@ -21,10 +21,14 @@ fn note<K: Keeper, J: Batch>(
     requires board { (board.now.table_id.words ≡ 3) × (board.now.table_id.slots ≡ 1) × (seat.old.table_id ≡ board.now.table_id) }
     requires has { seat.old.me.0.phase ≡ 2 }
     requires done { IsDone (seat.old.me.0.low + 1) seat.old.me.0.rows J.done }
-    requires many { (told.now.count ≡ length J.done.batch) × (length seat.old.me.0.rows + length J.done.batch ≡ held.now.value.book.row_count) }
-    requires picked { J.done ≡ done_by K.keeper (seat.old.me.0.low + 1) seat.old.me.0.rows held.now.value.book told.now }
+    requires many { CountsRows told.now seat.old.me.0 J.done held.now.value.book.row_count }
+    requires picked { J.done ≡ done_at K.keeper seat.old.me.0 held.now.value.book told.now }
     ensures same { seat.new.table_id ≡ seat.old.table_id }
-    ensures counted { seat.new.me ≡ (has_counted (done_by K.keeper (seat.old.me.0.low + 1) seat.old.me.0.rows held.now.value.book told.now) seat.old.me.0, seat.old.me.1) }
+    ensures counted { seat.new.me ≡ (
+      has_counted
+          (done_at K.keeper seat.old.me.0 held.now.value.book told.now) seat.old.me.0,
+      seat.old.me.1,
+    ) }
 {
     let _rows = held.book.journal_len();
     count::<Box<Held<K>>, J>(board, seat, told.count);
@@ -39,10 +43,15 @@ pub(crate) fn count_done<K: Keeper>(
 )
     requires board { (board.now.table_id.words ≡ 3) × (board.now.table_id.slots ≡ 1) × (seat.old.table_id ≡ board.now.table_id) }
     requires has { seat.old.me.0.phase ≡ 2 }
-    requires done { IsDone (seat.old.me.0.low + 1) seat.old.me.0.rows (done_by K.keeper (seat.old.me.0.low + 1) seat.old.me.0.rows held.now.value.book told.now) }
-    requires many { (told.now.count ≡ length (done_by K.keeper (seat.old.me.0.low + 1) seat.old.me.0.rows held.now.value.book told.now).batch) × (length seat.old.me.0.rows + length (done_by K.keeper (seat.old.me.0.low + 1) seat.old.me.0.rows held.now.value.book told.now).batch ≡ held.now.value.book.row_count) }
+    requires done { IsDone (seat.old.me.0.low + 1) seat.old.me.0.rows (done_at K.keeper seat.old.me.0 held.now.value.book told.now) }
+    requires many { CountsRows told.now seat.old.me.0
+        (done_at K.keeper seat.old.me.0 held.now.value.book told.now) held.now.value.book.row_count }
     ensures same { seat.new.table_id ≡ seat.old.table_id }
-    ensures counted { seat.new.me ≡ (has_counted (done_by K.keeper (seat.old.me.0.low + 1) seat.old.me.0.rows held.now.value.book told.now) seat.old.me.0, seat.old.me.1) }
+    ensures counted { seat.new.me ≡ (
+      has_counted
+          (done_at K.keeper seat.old.me.0 held.now.value.book told.now) seat.old.me.0,
+      seat.old.me.1,
+    ) }
 {
     note::<K, Brand>(board, seat, held, told);
 }

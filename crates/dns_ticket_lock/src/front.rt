@@ -171,7 +171,8 @@ fn settle_held_front<'a, K: Keeper>(
     ensures behind { IfOk result.0 (λ f. behind_first (most - f.messages) f.left.now ≡ behind_first most bytes.now) }
     ensures shorter { IfOk result.0 (λ f. 2 * f.messages + length f.left.now ≤ length bytes.now) }
     ensures advances { Advances K.keeper ask.old.client held.old.book result.1.receipt result.1.count held.new.book }
-    ensures members { (m : _) → get_elem? held.old.members.items low ≡ some m → held.new.members.items ≡ slice_set held.old.members.items low (record { share = m.share + result.1.rise; mark = m.mark || result.1.mark }) }
+    ensures members { (m : _) → get_elem? held.old.members.items low ≡ some m → held.new.members.items
+        ≡ slice_set held.old.members.items low (record { share = m.share + result.1.rise; mark = m.mark || result.1.mark }) }
     ensures start { held.new.start ≡ held.old.start }
     ensures ask { ask.new ≡ record ask.old { bytes = ask.new.bytes } }
 {

@@ -153,7 +153,8 @@ pub(crate) fn settle_book<K: Keeper>(
 ) -> (Result<SettledInto, OutOfMemory>, Told)
     requires moment { ask.now.at < 2 ^ 47 }
     requires bytes { length ask.now.bytes ≤ 65535 }
-    ensures ok { IfOk result.0 (SettlesInto (λ settled. Settles K.keeper access.now book.old ask.now settled book.new) is_framed out.old.items out.new.items) }
+    ensures ok { IfOk result.0 (SettlesInto
+        (λ settled. Settles K.keeper access.now book.old ask.now settled book.new) is_framed out.old.items out.new.items) }
     ensures err { OnErr result.0 (IsLeft K.keeper book.old book.new) }
     ensures advances { Advances K.keeper ask.now.client book.old result.1.receipt result.1.count book.new }
     ensures receipt { result.1.receipt ≡ receipt_in result.0 }
@@ -188,14 +189,16 @@ pub(crate) fn settle_held<K: Keeper>(
     requires moment { ask.now.at < 2 ^ 47 }
     requires bytes { length ask.now.bytes ≤ 65535 }
     requires low { low < length held.old.members.items }
-    ensures ok { IfOk result.0 (SettlesInto (λ settled. Settles K.keeper access.now held.old.book ask.now settled held.new.book) is_framed out.old.items out.new.items) }
+    ensures ok { IfOk result.0 (SettlesInto
+        (λ settled. Settles K.keeper access.now held.old.book ask.now settled held.new.book) is_framed out.old.items out.new.items) }
     ensures err { OnErr result.0 (IsLeft K.keeper held.old.book held.new.book) }
     ensures advances { Advances K.keeper ask.now.client held.old.book result.1.receipt result.1.count held.new.book }
     ensures receipt { result.1.receipt ≡ receipt_in result.0 }
     ensures rise { (K.keeper.told held.old.book.keeper).faults + result.1.rise ≡ (K.keeper.told held.new.book.keeper).faults }
     ensures rose { Rose (K.keeper.told held.old.book.keeper).faults (K.keeper.told held.new.book.keeper).faults
         → (0 < result.1.rise) ⊎ (result.1.mark ≡ true) }
-    ensures members { (m : _) → get_elem? held.old.members.items low ≡ some m → held.new.members.items ≡ slice_set held.old.members.items low (record { share = m.share + result.1.rise; mark = m.mark || result.1.mark }) }
+    ensures members { (m : _) → get_elem? held.old.members.items low ≡ some m → held.new.members.items
+        ≡ slice_set held.old.members.items low (record { share = m.share + result.1.rise; mark = m.mark || result.1.mark }) }
     ensures start { held.new.start ≡ held.old.start }
 {
     let (answer, told) = settle_book(&mut held.book, access, ask, out, is_framed);

@@ -143,7 +143,8 @@ pub(crate) fn wait_for_turn<T: Carried, R: Wait>(
     requires board { (board.now.table_id.words ≡ 3) × (board.now.table_id.slots ≡ 1) × (seat.old.table_id ≡ board.now.table_id) }
     requires waits { (seat.old.me.1 ≡ []) × (seat.old.me.0.phase ≡ 1) × (seat.old.me.0.ticket ≡ ticket) }
     ensures same { seat.new.table_id ≡ seat.old.table_id }
-    ensures turn { (h : _) × (rows : _) × (members : _) × (seat.new.me ≡ (has rows members seat.old.me.0, (0, Some h) ∷ [])) × Takes T.names seat.old.me.0 rows members h }
+    ensures turn { (h : _) × (rows : _) × (members : _)
+        × (seat.new.me ≡ (has rows members seat.old.me.0, (0, Some h) ∷ [])) × Takes T.names seat.old.me.0 rows members h }
 {
     let mut looks = 0u32;
     for _ in rt.forever() {
@@ -200,7 +201,8 @@ pub(crate) fn count<T: Carried, J: Batch>(
 /// Gives the slot back, and the turn to the next.
 pub(crate) fn leave<T: Carried>(board: &Board<T>, seat: &mut Seat<Option<T>, View>)
     requires board { (board.now.table_id.words ≡ 3) × (board.now.table_id.slots ≡ 1) × (seat.old.table_id ≡ board.now.table_id) }
-    requires counted { (seat.old.me.0.phase ≡ 3) × ((h : _) × (seat.old.me.1 ≡ (0, Some h) ∷ []) × T.names seat.old.me.0.terms seat.old.me.0.rows seat.old.me.0.members h) }
+    requires counted { (seat.old.me.0.phase ≡ 3)
+        × ((h : _) × (seat.old.me.1 ≡ (0, Some h) ∷ []) × T.names seat.old.me.0.terms seat.old.me.0.rows seat.old.me.0.members h) }
     ensures same { seat.new.table_id ≡ seat.old.table_id }
     ensures rests { seat.new.me ≡ (rests seat.old.me.0, []) }
 {

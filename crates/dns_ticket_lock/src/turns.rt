@@ -2,9 +2,9 @@
 
 ghost use Rattle.std.specs.Prelude.{◌≡◌, ℕ, ◌+◌, ◌<◌, ◌≤◌, ◌^◌, true, length, [], ◌∷◌, ◌++◌, Some, None, IfOk, OnOk, OnErr};
 ghost use Rattle.dns_book.specs.Into.{SettlesInto};
-ghost use Rattle.dns_ticket_lock.specs.Lists.{with_head};
-ghost use Rattle.dns_ticket_lock.specs.Rule.{Takes, IsDone, waits, has, has_counted, rests, own, settled, with_member};
-ghost use Rattle.dns_ticket_lock.specs.Settling.{Names, SettledAs, LeftAs, done_by, asked_by};
+ghost use Rattle.dns_ticket_lock.specs.Rule.{Takes, IsDone, waits, has, has_counted, rests, own};
+ghost use Rattle.dns_ticket_lock.specs.Settling.{SettledAs, LeftAs, asked_by};
+ghost use Rattle.dns_ticket_lock.specs.Counted.{done_at, CountsRows, NamesCounted};
 ghost use Rattle.dns_ticket_lock.specs.Passes.{SettledBy, LeftBy};
 
 use crate::counting::count_done;
@@ -28,7 +28,8 @@ pub(crate) fn begin_turn<T: Carried, R: Wait>(
     requires board { (board.now.table_id.words ≡ 3) × (board.now.table_id.slots ≡ 1) × (seat.old.table_id ≡ board.now.table_id) }
     requires idle { (seat.old.me.1 ≡ []) × (seat.old.me.0.phase ≡ 0) × (0 < length seat.old.me.0.accounts) }
     ensures same { seat.new.table_id ≡ seat.old.table_id }
-    ensures took { (ticket : ℕ) × (rows : _) × (members : _) × (seat.new.me ≡ (has rows members (waits ticket seat.old.me.0), (0, None) ∷ [])) × Takes T.names seat.old.me.0 rows members result }
+    ensures took { (ticket : ℕ) × (rows : _) × (members : _)
+        × (seat.new.me ≡ (has rows members (waits ticket seat.old.me.0), (0, None) ∷ [])) × Takes T.names seat.old.me.0 rows members result }
 {
     let ticket = draw(board, seat);
     wait_for_turn(rt, board, seat, ticket);
@@ -44,11 +45,12 @@ pub(crate) fn end_turn<K: Keeper>(
 )
     requires board { (board.now.table_id.words ≡ 3) × (board.now.table_id.slots ≡ 1) × (seat.old.table_id ≡ board.now.table_id) }
     requires has { (seat.old.me.0.phase ≡ 2) × (seat.old.me.1 ≡ (0, None) ∷ []) }
-    requires done { IsDone (seat.old.me.0.low + 1) seat.old.me.0.rows (done_by K.keeper (seat.old.me.0.low + 1) seat.old.me.0.rows held.value.book told.now) }
-    requires many { (told.now.count ≡ length (done_by K.keeper (seat.old.me.0.low + 1) seat.old.me.0.rows held.value.book told.now).batch) × (length seat.old.me.0.rows + length (done_by K.keeper (seat.old.me.0.low + 1) seat.old.me.0.rows held.value.book told.now).batch ≡ held.value.book.row_count) }
-    requires names { Names K.keeper seat.old.me.0.terms (seat.old.me.0.rows ++ (done_by K.keeper (seat.old.me.0.low + 1) seat.old.me.0.rows held.value.book told.now).batch) (with_member (with_head (settled seat.old.me.0.rows (done_by K.keeper (seat.old.me.0.low + 1) seat.old.me.0.rows held.value.book told.now)) seat.old.me.0.accounts) seat.old.me.0.low seat.old.me.0.members) held.value.book held.value.members.items held.value.start }
+    requires done { IsDone (seat.old.me.0.low + 1) seat.old.me.0.rows (done_at K.keeper seat.old.me.0 held.value.book told.now) }
+    requires many { CountsRows told.now seat.old.me.0 (done_at K.keeper seat.old.me.0 held.value.book told.now) held.value.book.row_count }
+    requires names { NamesCounted K.keeper seat.old.me.0
+        (done_at K.keeper seat.old.me.0 held.value.book told.now) held.value.book held.value.members.items held.value.start }
     ensures same { seat.new.table_id ≡ seat.old.table_id }
-    ensures rests { seat.new.me ≡ (rests (has_counted (done_by K.keeper (seat.old.me.0.low + 1) seat.old.me.0.rows held.value.book told.now) seat.old.me.0), []) }
+    ensures rests { seat.new.me ≡ (rests (has_counted (done_at K.keeper seat.old.me.0 held.value.book told.now) seat.old.me.0), []) }
 {
     count_done(board, seat, &held, told);
     give(board, seat, held);
@@ -75,7 +77,8 @@ fn settle_seat<K: Keeper, R: Wait>(
     ensures idle { (seat.new.me.1 ≡ []) × (seat.new.me.0.phase ≡ 0) × (length seat.new.me.0.accounts ≡ 1) }
     ensures low { (seat.new.me.0.low ≡ seat.old.me.0.low) × (seat.new.me.0.terms ≡ seat.old.me.0.terms) }
     ensures seen { length (own seat.new.me.0.accounts).seen ≡ result.1 }
-    ensures ok { IfOk result.0 (SettlesInto (λ settled. SettledAs K.keeper seat.old.me.0.terms access.now (seat.old.me.0.low + 1) (own seat.old.me.0.accounts) ask.now settled (own seat.new.me.0.accounts)) is_framed out.old.items out.new.items) }
+    ensures ok { IfOk result.0 (SettlesInto (λ settled. SettledAs K.keeper seat.old.me.0.terms access.now (seat.old.me.0.low + 1)
+        (own seat.old.me.0.accounts) ask.now settled (own seat.new.me.0.accounts)) is_framed out.old.items out.new.items) }
     ensures err { OnErr result.0 (LeftAs (own seat.old.me.0.accounts) (own seat.new.me.0.accounts)) }
 {
     let low = ask.client as usize - 1;
@@ -149,7 +152,8 @@ impl<K: Keeper> TicketBook<K> {
         requires pass { pass.old.book ≡ self.now.id }
         requires moment { ask.now.at < 2 ^ 47 }
         requires bytes { length ask.now.bytes ≤ 65535 }
-        ensures ok { IfOk result (SettlesInto (λ settled. SettledBy K.keeper access.now pass.old ask.now settled pass.new) is_framed out.old.items out.new.items) }
+        ensures ok { IfOk result (SettlesInto
+            (λ settled. SettledBy K.keeper access.now pass.old ask.now settled pass.new) is_framed out.old.items out.new.items) }
         ensures err { OnErr result (LeftBy pass.old pass.new) }
     {
         copy_into(&mut pass.bytes, &ask.bytes)?;

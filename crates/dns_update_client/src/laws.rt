@@ -20,11 +20,14 @@ use dns_keeper::Keeper;
 /// The messages and what an input has decide how they are exchanged, where neither the input nor the output fails and memory does
 /// not run out.
 pub fn decided_exchanges()
-    ensures codes { (messages : List Message) (a b left x y : List ℕ) (p q r s : Option (List ℕ)) → Answers messages a (Some left) (Some x) p q
+    ensures codes { (messages : List Message) (a b left x y : List ℕ) (p q r s : Option (List ℕ))
+        → Answers messages a (Some left) (Some x) p q
         → Answers messages b (Some left) (Some y) r s → a ≡ b }
-    ensures either { (messages : List Message) (codes left x y : List ℕ) (f : Fault) (p q r s : Option (List ℕ)) → Answers messages codes (Some left) (Some x) p q
+    ensures either { (messages : List Message) (codes left x y : List ℕ) (f : Fault) (p q r s : Option (List ℕ))
+        → Answers messages codes (Some left) (Some x) p q
         → StopsAt messages f (Some left) (Some y) r s → IsDecided f → ⊥ }
-    ensures fault { (messages : List Message) (left x y : List ℕ) (f g : Fault) (p q r s : Option (List ℕ)) → StopsAt messages f (Some left) (Some x) p q
+    ensures fault { (messages : List Message) (left x y : List ℕ) (f g : Fault) (p q r s : Option (List ℕ))
+        → StopsAt messages f (Some left) (Some x) p q
         → StopsAt messages g (Some left) (Some y) r s → IsDecided f → IsDecided g → f ≡ g }
 {}
 
@@ -34,14 +37,17 @@ pub fn decided_exchanges()
 pub fn answered_updates<K: Keeper>()
     ensures exchanged { (access : Access) (before after : SeenOf K) (messages : List Message) (replies : List (List ℕ)) (codes : List ℕ)
         → SettlesUpdates K.keeper access before messages replies codes after → Exchanges messages replies codes }
-    ensures codes { (access : Access) (before after : SeenOf K) (messages : List Message) (replies : List (List ℕ)) (codes more given rest : List ℕ) (p q : Option (List ℕ))
+    ensures codes { (access : Access) (before after : SeenOf K) (messages : List Message)
+        (replies : List (List ℕ)) (codes more given rest : List ℕ) (p q : Option (List ℕ))
         → SettlesUpdates K.keeper access before messages replies codes after
         → Answers messages given (Some (frames_of replies ++ more)) (Some rest) p q → given ≡ codes }
-    ensures answered { (access : Access) (before after : SeenOf K) (messages : List Message) (replies : List (List ℕ)) (codes more rest : List ℕ) (f : Fault) (p q : Option (List ℕ))
+    ensures answered { (access : Access) (before after : SeenOf K) (messages : List Message)
+        (replies : List (List ℕ)) (codes more rest : List ℕ) (f : Fault) (p q : Option (List ℕ))
         → SettlesUpdates K.keeper access before messages replies codes after
         → StopsAt messages f (Some (frames_of replies ++ more)) (Some rest) p q → IsDecided f → ⊥ }
     // From a safe source an update that says it is a request is owed a reply.
-    ensures replied { (access : Access) (before after : SeenOf K) (m : Message) (ask : Asked) (settled : Done) → IsUpdate m → m.header.qr ≡ false
+    ensures replied { (access : Access) (before after : SeenOf K) (m : Message) (ask : Asked) (settled : Done)
+        → IsUpdate m → m.header.qr ≡ false
         → ask.bytes ≡ message_bytes m → IsSafe ask.source → Settles K.keeper access before ask settled after
         → (bytes : List ℕ) × (settled.reply ≡ Some bytes) }
 {}
