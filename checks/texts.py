@@ -18,7 +18,11 @@ import tempfile
 from pathlib import Path
 
 TOP = Path(__file__).resolve().parent.parent
-PAGES = {"man/dns.8": "crates/dns_command/src/help.rt", "man/dns-nsupdate.1": "crates/dns_update_client/src/help.rt"}
+PAGES = {
+    "man/dns.8": "crates/dns_command/src/help.rt",
+    "man/dns-nsupdate.1": "crates/dns_update_client/src/help.rt",
+    "man/dns-audit.1": "crates/dns_audit/src/help.rt",
+}
 SCRIPTS = ["dns", ".ci/run"]
 MAP = TOP / "docs/MAP.md"
 PROVED = TOP / "docs/PROVED.md"
