@@ -23,7 +23,8 @@ use dns_keeper::Keeper;
 /// ones of a longer journal, or all.
 pub fn answered_zones<K: Keeper>()
     // The zone at that length is the book's zone after the answer, and no other.
-    ensures at { (access : Access) (before after : SeenOf K) (ask : Asked) (settled : Done) (origin : List (List ℕ)) (rows more : List JournalRow)
+    ensures at { (access : Access) (before after : SeenOf K) (ask : Asked) (settled : Done) (origin : List (List ℕ))
+        (rows more : List JournalRow)
         → Settles K.keeper access before ask settled after → after.zone.origin ≡ fold_of origin → (K.keeper.told after.keeper).rows ≡ Some rows
         → IsZoneAt origin settled.length after.zone (rows ++ more) }
     ensures one { (origin : List (List ℕ)) (count : ℕ) (a b : Contents) (rows : List JournalRow)

@@ -1,3 +1,4 @@
 pub mod Edges
 pub mod Memory
 pub mod Adapters
+pub mod Listening

@@ -107,7 +107,8 @@ impl MemorySink {
     /// A sink that took nothing, and of which no flush fails; else as `with_failing_flushes`.
     pub fn new(alloc: Global, step: usize, failing_writes: Vec<u64>) -> MemorySink
         requires { 0 < step }
-        ensures { result ≡ record { taken = []; flushed = []; step = step; failing_writes = failing_writes.items; failing_flushes = []; writes = 0; flushes = 0; faults = 0 } }
+        ensures { result ≡ record
+            { taken = []; flushed = []; step = step; failing_writes = failing_writes.items; failing_flushes = []; writes = 0; flushes = 0; faults = 0 } }
     {
         MemorySink::with_failing_flushes(alloc, step, failing_writes, Vec::new(alloc))
     }
@@ -122,7 +123,8 @@ impl MemorySink {
         failing_flushes: Vec<u64>,
     ) -> MemorySink
         requires { 0 < step }
-        ensures { result ≡ record { taken = []; flushed = []; step = step; failing_writes = failing_writes.items; failing_flushes = failing_flushes.items; writes = 0; flushes = 0; faults = 0 } }
+        ensures { result ≡ record
+            { taken = []; flushed = []; step = step; failing_writes = failing_writes.items; failing_flushes = failing_flushes.items; writes = 0; flushes = 0; faults = 0 } }
     {
         MemorySink {
             bytes: Octets::new(alloc),

@@ -31,11 +31,13 @@ pub fn read_to_end<S: Source>(
     bound: usize,
 ) -> Result<Vec<u8>, ReadFault>
     requires { bound < 2 ^ 63 }
-    ensures all { IfOk result (λ bytes. WasRead (S.source.told source.old).left (S.source.told source.new).left (λ text. text ≡ bytes.items)) }
+    ensures all { IfOk result (λ bytes. WasRead (S.source.told source.old).left
+        (S.source.told source.new).left (λ text. text ≡ bytes.items)) }
     ensures short { IfOk result (λ bytes. length bytes.items ≤ bound) }
     ensures long { IsErrOf result ReadFault.TooLong → WasLonger (S.source.told source.old).left (S.source.told source.new).left bound }
     ensures failed { IsErrOf result ReadFault.Failed → TakesFront (S.source.told source.old).left (S.source.told source.new).left bound }
-    ensures refused { IsErrOf result ReadFault.OutOfMemory → TakesFront (S.source.told source.old).left (S.source.told source.new).left bound }
+    ensures refused { IsErrOf result ReadFault.OutOfMemory
+        → TakesFront (S.source.told source.old).left (S.source.told source.new).left bound }
     ensures cause { IsErrOf result ReadFault.Failed → Rose (S.source.told source.old).faults (S.source.told source.new).faults }
     ensures later { (S.source.told source.old).faults ≤ (S.source.told source.new).faults }
     ensures calm { IsErrOf result ReadFault.Failed ⊎ ((S.source.told source.new).faults ≡ (S.source.told source.old).faults) }
@@ -83,7 +85,8 @@ fn read_behind<S: Source>(source: &mut S, room: &mut [u8], count: usize) -> Resu
     requires { count < length room.old }
     ensures before { take count room.new ≡ take count room.old }
     ensures count { IfOk result (λ more. count + more ≤ length room.new) }
-    ensures given { IfOk result (λ more. Takes (S.source.told source.old).left (S.source.told source.new).left (take more (drop count room.new))) }
+    ensures given { IfOk result (λ more. Takes (S.source.told source.old).left
+        (S.source.told source.new).left (take more (drop count room.new))) }
     ensures end { IfOk result (λ more. EndsAt (S.source.told source.old).left (S.source.told source.new).left more) }
     ensures kept { OnErr result (Keeps (S.source.told source.old).left (S.source.told source.new).left) }
     ensures cause { HasCause (S.source.told source.old).faults (S.source.told source.new).faults result }

@@ -54,10 +54,12 @@ impl<'a> LogicalLine<'a> {
     /// text's end. The room that it has is used again; where memory runs out, nothing is said of what it is then.
     pub fn pass(&mut self, text: &'a [u8]) -> Result<Option<&'a [u8]>, OutOfMemory>
         requires { self.old.next + length text.now < 2 ^ 64 }
-        ensures some { IfOk result (λ found. IfSome found (λ after. logical_lines self.old.next text.now ≡ self.new ∷ logical_lines self.new.next after.now)) }
+        ensures some { IfOk result (λ found. IfSome found
+            (λ after. logical_lines self.old.next text.now ≡ self.new ∷ logical_lines self.new.next after.now)) }
         ensures none { IfOk result (λ found. IfNone found (logical_lines self.old.next text.now ≡ [])) }
         ensures shorter { IfOk result (λ found. IfSome found (λ after. length after.now < length text.now)) }
-        ensures counted { IfOk result (λ found. IfSome found (λ after. self.new.next + length after.now ≤ self.old.next + length text.now)) }
+        ensures counted { IfOk result (λ found. IfSome found
+            (λ after. self.new.next + length after.now ≤ self.old.next + length text.now)) }
     {
         let Some((line, after)) = split_line(text) else {
             return Ok(None);
@@ -204,7 +206,8 @@ impl<'a> LogicalLine<'a> {
 
     /// Takes a word in quotes behind its first quote.
     fn take_quoted(&mut self, line: &'a [u8]) -> Result<&'a [u8], OutOfMemory>
-        ensures ok { IfOk result (λ after. with_tokens self.new (tokens_of after.now) ≡ with_tokens self.old (tokens_from (Quoted []) line.now)) }
+        ensures ok { IfOk result (λ after. with_tokens self.new (tokens_of after.now)
+            ≡ with_tokens self.old (tokens_from (Quoted []) line.now)) }
         ensures few { OnOk result (self.new.open_count ≡ self.old.open_count) }
         ensures shorter { IfOk result (λ after. length after.now ≤ length line.now) }
         ensures counted { OnOk result (self.new.next ≡ self.old.next) }

@@ -16,7 +16,8 @@ use Rattle.dns_requests.specs.declared.serve_fault.ServeFault.{ServeFault}
 use Rattle.dns_requests.specs.declared.serve_fault.ServeFault.TheVariants.{Read, Write, Turns, TimedOut, OutOfMemory}
 use Rattle.dns_server_core.specs.FrameRuns.{Adds, Halts, Run}
 use Rattle.dns_requests.specs.Runs.{Answers, AnswersPartly, BreaksOff}
-use Rattle.dns_requests.specs.Arrivals.{Hears, IsPiece, Receives, ReceivesNot, ask_at, heard, opened, room}
+use Rattle.dns_edges.specs.Listening.{IsPiece, room}
+use Rattle.dns_requests.specs.Arrivals.{Hears, Receives, ReceivesNot, ask_at, heard, opened}
 use Rattle.dns_requests.specs.Ends.{CountsWriting, Ends, IsAtEnd, Parts, Terms}
 use Rattle.dns_server_core.proofs.LongerRuns.{Run-append}
 use Rattle.dns_requests.proofs.MoreArrivals.{Hears-more, Hears-none, asks_of-none, asks_of-push, left_by-push, left_by_none, one_longer}

@@ -1,24 +1,25 @@
 -- One read more.
 use Rattle.std.proofs.Common.{◌≡◌, ◌≤◌, ◌<◌, ◌∙◌, ℕ, List, [], ◌∷◌, ◌++◌, length, map, zero, suc, true, false, cond, ◌&&◌, Option, Some, None, Ok, refl, sym, ap, subst, arith, length-append}
-use Rattle.std.proofs.lemmas.List.{append-nil, map-append}
-use Rattle.std.proofs.lemmas.Grind.{flat_map-append}
+use Rattle.std.proofs.lemmas.List.{map-append}
 use Rattle.std.proofs.lemmas.Bool.{cond-true}
 use Rattle.std.specs.List.{AllByRecursion}
 use Rattle.dns_io.specs.declared.peer.Peer.{Peer}
 use Rattle.dns_io.specs.declared.peer.Protocol.TheVariants.{Tcp}
 use Rattle.dns_book.specs.declared.ask.Ask.{Ask}
 use Rattle.dns_io.specs.Told.{Takes}
+use Rattle.dns_edges.specs.Listening.{Arrival, IsPiece, Listens, bytes_of, room}
 use Rattle.dns_edges.specs.Edges.{SourceOf, ClockOf}
+use Rattle.dns_edges.proofs.Listened.{Listens-more, bytes_of-push}
 use Rattle.dns_io.proofs.ToldContents.{Told-same, Takes-more}
 use Rattle.dns_frames.specs.Frames.{frames, frames_by}
 use Rattle.dns_frames.proofs.Cutting.{frames-nil}
 use Rattle.std.proofs.Math.Seq.{take-length}
-use Rattle.dns_server_core.specs.Connections.{Arrival, Connection, Piece, base, completed, in_time, is_within, left_by, may_go_on, moment_at, total, whole}
+use Rattle.dns_server_core.specs.Connections.{Connection, Piece, base, completed, in_time, is_within, left_by, may_go_on, moment_at, total, whole}
 use Rattle.dns_server_core.specs.FrameRuns.{first_messages}
 use Rattle.dns_server_core.specs.Steps.{fed_by, is_over}
 use Rattle.dns_server_core.proofs.FirstFrames.{first_all, first_none}
 use Rattle.dns_server_core.proofs.Pieces.{completed-push, few_so_far, heard_by, in_time-last, in_time-push, left_by-last, messages-last, moment_at-last, moment_at-push, next_messages, total-push, whole-push}
-use Rattle.dns_requests.specs.Arrivals.{Hears, IsPiece, Listens, ask_at, asks_of, asks_through, bytes_of, opened, room}
+use Rattle.dns_requests.specs.Arrivals.{Hears, ask_at, asks_of, asks_through, opened}
 
 pub one_longer : (ps : List Arrival) (a : Arrival) → length (ps ++ a ∷ []) ≡ suc (length ps)
 one_longer ps a = omega (arith, length-append ps (a ∷ []))
@@ -81,9 +82,6 @@ all_more P (y ∷ xs) x h p = (h.0, all_more P xs x h.1 p)
 pub Takes-none : (a : Option (List ℕ)) → Takes a a []
 Takes-none a = Told-same (λ l r. l ≡ [] ++ r) (λ x. refl) a
 
-pub bytes_of-push : (ps : List Arrival) (a : Arrival) → bytes_of ps ++ a.piece ≡ bytes_of (ps ++ a ∷ [])
-bytes_of-push ps a = sym (flat_map-append (λ (p : Arrival). p.piece) ps (a ∷ []) ∙ ap (λ (l : List ℕ). bytes_of ps ++ l) (append-nil a.piece))
-
 -- their messages are the first frames of all bytes
 total_all : (peer : Peer) (limit began : ℕ) (ps : List Arrival) → total (opened peer limit began) ps (length ps) ≡ bytes_of ps
 unfolding total
@@ -112,14 +110,6 @@ messages_more peer limit began ps a t m w h =
     ∙ ap (first_messages 100) (ap (total c (ps ++ a ∷ [])) (sym (one_longer ps a)) ∙ total_all peer limit began (ps ++ a ∷ []))
 
 module _ {S C : Type 0} (source : SourceOf S) (clock : ClockOf C) where
-  pub Listens-more : (s0 s1 s2 : S) (c0 c1 c2 : C) (ps : List Arrival) (a : Arrival) → Listens source clock s0 c0 ps s1 c1 → source.reads s1 room (Ok a.piece) s2 → clock.ticks c1 a.at c2
-      → Listens source clock s0 c0 (ps ++ a ∷ []) s2 c2
-  Listens-more s0 s1 s2 c0 c1 c2 [] a h r t =
-      let P : S → Type 0 = λ x. source.reads x room (Ok a.piece) s2 in
-      let Q : C → Type 0 = λ x. clock.ticks x a.at c2 in
-      (s2, c2, subst P h.0 r, subst Q h.1 t, (refl, refl))
-  Listens-more s0 s1 s2 c0 c1 c2 (x ∷ ps) a h r t = (h.0, h.1, h.2, h.3, Listens-more h.0 s1 s2 h.1 c1 c2 ps a h.4 r t)
-
   abbrev pub Hears-none : (peer : Peer) (limit : ℕ) (s : S) (a b : C) (began : ℕ) → clock.ticks a began b → Hears source clock peer limit s a s b
   Hears-none peer limit s a b began t = record {
     began = began;
@@ -144,7 +134,7 @@ module _ {S C : Type 0} (source : SourceOf S) (clock : ClockOf C) where
     in_time = in_time-more (opened peer limit h.began) h.arrivals (record { at = at; piece = piece }) h.in_time o w;
     started = h.started;
     first = h.first;
-    made = Listens-more s0 s1 s2 h.started c1 c2 h.arrivals (record { at = at; piece = piece }) h.made m r;
+    made = Listens-more source clock s0 s1 s2 h.started c1 c2 h.arrivals (record { at = at; piece = piece }) h.made m r;
     taken = subst (Takes (source.told s0).left (source.told s2).left) (bytes_of-push h.arrivals (record { at = at; piece = piece })) (Takes-more _ _ _ _ _ h.taken t);
     calm = f ∙ h.calm;
     messages = messages_more peer limit h.began h.arrivals (record { at = at; piece = piece }) h.in_time o w h.messages;

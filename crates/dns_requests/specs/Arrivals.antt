@@ -5,11 +5,12 @@ use Rattle.dns_io.specs.declared.peer.Peer.{Peer}
 use Rattle.dns_io.specs.declared.peer.Protocol.TheVariants.{Tcp}
 use Rattle.dns_io.specs.declared.io_fault.IoFault.TheVariants as io
 use Rattle.dns_io.specs.Told.{Takes, EndsAt, Rose}
+use Rattle.dns_edges.specs.Listening.{Arrival, IsPiece, Listens, bytes_of, room}
 use Rattle.dns_edges.specs.Edges.{SourceOf, ClockOf}
 use Rattle.dns_book.specs.declared.ask.Ask.{Ask}
 use Rattle.dns_requests.specs.declared.serve_fault.ServeFault.{ServeFault}
 use Rattle.dns_requests.specs.declared.serve_fault.ServeFault.TheVariants.{Read, OutOfMemory}
-use Rattle.dns_server_core.specs.Connections.{Arrival, Connection, completed, in_time, moment_at, most_messages, new_connection}
+use Rattle.dns_server_core.specs.Connections.{Connection, completed, in_time, moment_at, most_messages, new_connection}
 use Rattle.dns_server_core.specs.FrameRuns.{first_messages}
 
 -- a connection at its first reading, from which its time runs
@@ -28,25 +29,6 @@ asks_through c arrivals (suc i) = asks_through c arrivals i ++ map (ask_at c.pee
 -- those of all
 abbrev pub asks_of : Connection → List Arrival → List Ask
 asks_of c arrivals = asks_through c arrivals (length arrivals)
-
--- all bytes that were read
-abbrev pub bytes_of : List Arrival → List ℕ
-bytes_of arrivals = flat_map (λ a. a.piece) arrivals
-
--- for how many bytes a read has room
-abbrev pub room : ℕ
-room = 4096
-
--- a read gives at least one byte, and at most as many as it has room for
-abbrev pub IsPiece : List ℕ → Type 0
-IsPiece piece = (0 < length piece) × (length piece ≤ room)
-
--- reads, each with room for 4,096 bytes, which gave these pieces, and behind each the reading of the clock at which it came: these were
--- made, in this order, and no other
-abbrev pub Listens : {S C : Type 0} → SourceOf S → ClockOf C → S → C → List Arrival → S → C → Type 0
-Listens source clock s c [] heard ticked = (heard ≡ s) × (ticked ≡ c)
-Listens {S} {C} source clock s c (a ∷ later) heard ticked =
-    (next : S) × (read : C) × source.reads s room (Ok a.piece) next × clock.ticks c a.at read × Listens source clock next read later heard ticked
 
 -- what was read, each read in time, and none behind the last message that a connection may have: the first reading of the clock, and
 -- then the reads, a reading behind each of them. However their bytes were cut, the messages are the first frames of all of them

@@ -9,7 +9,8 @@ use Rattle.dns_book.specs.declared.ask.Settled.{Settled}
 use Rattle.dns_server_core.specs.Connections.{base, most_messages}
 use Rattle.dns_requests.specs.declared.serve_fault.ServeFault.{ServeFault}
 use Rattle.dns_requests.specs.declared.serve_fault.ServeFault.TheVariants.{Read, Write, Turns, TimedOut, OutOfMemory}
-use Rattle.dns_requests.specs.Arrivals.{IsPiece, Hears, heard, opened, room}
+use Rattle.dns_edges.specs.Listening.{IsPiece, room}
+use Rattle.dns_requests.specs.Arrivals.{Hears, heard, opened}
 use Rattle.dns_requests.specs.Runs.{Answers, AnswersPartly, BreaksOff}
 
 -- what a connection is served with

@@ -2,8 +2,9 @@
 use Rattle.std.proofs.Common.{◌≡◌, ℕ, List, [], ◌∷◌, ◌++◌, map, refl, sym, ap, ◌∙◌, cond, not, Bool, true, false, Some, None, Result, Ok, Err}
 use Rattle.std.specs.Result.{OnErr, OnOk}
 use Rattle.std.proofs.lemmas.Bool.{cond-true, cond-false}
+use Rattle.dns_edges.specs.Listening.{Arrival}
 use Rattle.dns_server_core.specs.declared.session.Heard.TheVariants.{InTime, Late}
-use Rattle.dns_server_core.specs.Connections.{Connection, Arrival, Piece, is_within, message_of}
+use Rattle.dns_server_core.specs.Connections.{Connection, Piece, is_within, message_of}
 use Rattle.dns_server_core.specs.Steps.{HearsPiece, base_by, fed_by, heard, heard_messages, is_over, messages_in, moved, piece_at, unless_over, unread_messages, with_piece}
 
 pub on_err : {T E : Type 0} (r : Result T E) {P : Type 0} → P → OnErr r P

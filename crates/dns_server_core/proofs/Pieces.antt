@@ -7,9 +7,10 @@ use Rattle.std.proofs.Math.Nat.{min-eq_right}
 use Rattle.std.proofs.lemmas.Bool.{cases_lt, le-leb, le-ltb, lt-leb, lt-ltb, ltb-true, cond-true, cond-false}
 use Rattle.std.specs.List.{flat_map}
 use Rattle.std.specs.Option.{option_and_then}
+use Rattle.dns_edges.specs.Listening.{Arrival}
 use Rattle.dns_server_core.specs.declared.event.Event.{Event}
 use Rattle.dns_frames.specs.Frames.{Cut, frames, ahead}
-use Rattle.dns_server_core.specs.Connections.{Connection, Arrival, Turn, Piece, Over, Other, turn_of, heading, ending, byte_events, is_ended, total, whole, moment_at, base, is_within, in_time, completed, left_by, Start, completed_with, completed_by, may_go_on, messages_left}
+use Rattle.dns_server_core.specs.Connections.{Connection, Turn, Piece, Over, Other, turn_of, heading, ending, byte_events, is_ended, total, whole, moment_at, base, is_within, in_time, completed, left_by, Start, completed_with, completed_by, may_go_on, messages_left}
 use Rattle.dns_server_core.specs.FrameRuns.{behind_first, first_messages}
 use Rattle.dns_server_core.specs.Steps.{base_by, fed_by, heard, is_over, messages_in, moved, unless_over}
 use Rattle.dns_frames.proofs.Cutting.{frames-more}

@@ -4,6 +4,7 @@ use Rattle.std.specs.Prelude.{ℕ, ◌+◌, ◌-◌, min, List, [], ◌∷◌, �
 use Rattle.std.specs.List.{flat_map, filter_map}
 use Rattle.dns_io.specs.declared.peer.Peer.{Peer}
 use Rattle.dns_io.specs.declared.peer.Protocol.TheVariants.{Udp, Tcp}
+use Rattle.dns_edges.specs.Listening.{Arrival}
 use Rattle.dns_frames.specs.Frames.{frames}
 use Rattle.dns_server_core.specs.declared.event.Event.{Event}
 use Rattle.dns_server_core.specs.declared.event.Event.TheVariants.{Accepted, Bytes, Ended, Datagram, Tick, Stop}
@@ -46,11 +47,6 @@ pub record Kept : Type 0 where
 -- what a server keeps to which nothing has happened yet
 abbrev pub new_kept : Kept
 new_kept = record { last = 0; greatest = None; stopped = false; connections = [] }
-
--- bytes of a connection that came at a moment
-pub record Arrival : Type 0 where
-  pub at : ℕ
-  pub piece : List ℕ
 
 -- what an event is to one connection: a piece of its bytes, its end, or nothing
 pub data Turn : Type 0 where

@@ -149,7 +149,8 @@ fn copy_each(
     is_negative: bool,
     out: &mut Vec<Record>,
 ) -> Result<(), OutOfMemory>
-    ensures { OnOk result (out.new.items ≡ out.old.items ++ map (given_as (option_map (λ n. fold_of n.now) owner.entry) is_negative) records.now) }
+    ensures { OnOk result (out.new.items ≡ out.old.items
+        ++ map (given_as (option_map (λ n. fold_of n.now) owner.entry) is_negative) records.now) }
 {
     out.reserve(records.len())?;
     for one in records {
@@ -200,7 +201,8 @@ fn fitting_given(
     room: usize,
 ) -> Fitting
     ensures fits { Fits room (map (given_as (option_map (λ n. fold_of n.now) owner.entry) is_negative) records.now) result.count }
-    ensures left { result.left + length (records_bytes (take result.count (map (given_as (option_map (λ n. fold_of n.now) owner.entry) is_negative) records.now))) ≡ room }
+    ensures left { result.left + length (records_bytes
+        (take result.count (map (given_as (option_map (λ n. fold_of n.now) owner.entry) is_negative) records.now))) ≡ room }
     ensures few { result.count + result.left ≤ room }
     ensures cut { result.is_cut ≡ nat_lt result.count (length records.now) }
 {
@@ -227,8 +229,10 @@ fn fitting_given(
 /// How many bytes of a room are left behind a record, as a reply gives it, where it goes in.
 #[tactic(auto, using(crate::proofs::Lending::size_given))]
 fn left_after(one: &Record, owner: Option<&Name>, is_negative: bool, room: usize) -> Option<usize>
-    ensures fits { IfSome result (λ left. left + length (record_bytes (given_as (option_map (λ n. fold_of n.now) owner.entry) is_negative one.now)) ≡ room) }
-    ensures over { IfNone result (room < length (record_bytes (given_as (option_map (λ n. fold_of n.now) owner.entry) is_negative one.now))) }
+    ensures fits { IfSome result (λ left. left + length
+        (record_bytes (given_as (option_map (λ n. fold_of n.now) owner.entry) is_negative one.now)) ≡ room) }
+    ensures over { IfNone result (room < length
+        (record_bytes (given_as (option_map (λ n. fold_of n.now) owner.entry) is_negative one.now))) }
 {
     let behind = room.checked_sub(data_len(&one.rdata))?;
     behind.checked_sub(owner_len(one, owner))?.checked_sub(10)
@@ -252,7 +256,8 @@ fn put_each(
     owner: Option<&Name>,
     is_negative: bool,
 ) -> Result<(), OutOfMemory>
-    ensures { OnOk result (out.new.items ≡ out.old.items ++ records_bytes (map (given_as (option_map (λ n. fold_of n.now) owner.entry) is_negative) records.now)) }
+    ensures { OnOk result (out.new.items ≡ out.old.items
+        ++ records_bytes (map (given_as (option_map (λ n. fold_of n.now) owner.entry) is_negative) records.now)) }
 {
     for one in records {
         put_given(out, one, owner, is_negative)?;
@@ -267,7 +272,8 @@ fn put_given(
     owner: Option<&Name>,
     is_negative: bool,
 ) -> Result<(), OutOfMemory>
-    ensures { OnOk result (out.new.items ≡ out.old.items ++ record_bytes (given_as (option_map (λ n. fold_of n.now) owner.entry) is_negative one.now)) }
+    ensures { OnOk result (out.new.items ≡ out.old.items
+        ++ record_bytes (given_as (option_map (λ n. fold_of n.now) owner.entry) is_negative one.now)) }
 {
     put_owner(out, one, owner)?;
     let ttl = given_ttl(one, is_negative);
@@ -277,7 +283,8 @@ fn put_given(
 /// Writes the labels of the owner that a reply gives a record.
 #[inline(always)]
 fn put_owner(out: &mut Vec<u8>, one: &Record, owner: Option<&Name>) -> Result<(), OutOfMemory>
-    ensures { OnOk result (out.new.items ≡ out.old.items ++ labels_bytes (given (option_map (λ n. fold_of n.now) owner.entry) one.now).name) }
+    ensures { OnOk result (out.new.items ≡ out.old.items
+        ++ labels_bytes (given (option_map (λ n. fold_of n.now) owner.entry) one.now).name) }
 {
     match owner {
         None => out.extend_from_slice(one.name.as_wire())?,

@@ -209,7 +209,8 @@ fn put_middle(
     ttl: u32,
     len: usize,
 ) -> Result<(), OutOfMemory>
-    ensures { OnOk result (out.new.items ≡ out.old.items ++ (0 ∷ (to_be_bytes w16 rtype ++ to_be_bytes w16 class ++ to_be_bytes w32 ttl ++ to_be_bytes w16 len))) }
+    ensures { OnOk result (out.new.items ≡ out.old.items
+        ++ (0 ∷ (to_be_bytes w16 rtype ++ to_be_bytes w16 class ++ to_be_bytes w32 ttl ++ to_be_bytes w16 len))) }
 {
     let [type_high, type_low] = rtype.to_be_bytes();
     let [class_high, class_low] = class.to_be_bytes();

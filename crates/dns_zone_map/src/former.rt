@@ -143,7 +143,8 @@ fn put_back(names: &mut Names, former: &mut FormerSets)
 /// Gives a name at a place of a vector the sets back that it owned.
 fn put_back_at(names: &mut Names, formers: &mut Vec<FormerSets>, place: usize)
     requires { place < length formers.old.items }
-    ensures names { (d : FormerSets) → names.new ≡ set_value (is_key (slice_index_or formers.old.items place d).key.items) names.old (slice_index_or formers.old.items place d).sets }
+    ensures names { (d : FormerSets) → names.new ≡ set_value
+        (is_key (slice_index_or formers.old.items place d).key.items) names.old (slice_index_or formers.old.items place d).sets }
     ensures before { take place formers.new.items ≡ take place formers.old.items }
     ensures long { length formers.new.items ≡ length formers.old.items }
 {

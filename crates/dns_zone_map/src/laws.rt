@@ -10,9 +10,11 @@ ghost use Rattle.dns_zone_map.specs.Existence.{owns_type, exists};
 /// Which names exist (RFC 4592 2.2.2).
 pub fn existing_names()
     // The name above one that exists exists.
-    ensures above { (records : List Record) (label : List ℕ) (name : List (List ℕ)) → exists records (label ∷ name) ≡ true → exists records name ≡ true }
+    ensures above { (records : List Record) (label : List ℕ) (name : List (List ℕ))
+        → exists records (label ∷ name) ≡ true → exists records name ≡ true }
     // A name that owns a record exists.
-    ensures owners { (records : List Record) (name : List (List ℕ)) (rtype : ℕ) → owns_type records name rtype ≡ true → exists records name ≡ true }
+    ensures owners { (records : List Record) (name : List (List ℕ)) (rtype : ℕ)
+        → owns_type records name rtype ≡ true → exists records name ≡ true }
 {}
 
 /// The keys of names.

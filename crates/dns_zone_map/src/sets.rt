@@ -260,7 +260,8 @@ fn put_at(
     requires { place < length sets.old.items }
     ensures set { OnOk result ((d : RecordSet) → sets.new.items
         ≡ slice_set sets.old.items place (put_in_set number one (slice_index_or sets.old.items place d))) }
-    ensures replaced { IfOk result (λ old. (d : RecordSet) → old ≡ first_that (is_rival one) (slice_index_or sets.old.items place d).records) }
+    ensures replaced { IfOk result (λ old. (d : RecordSet)
+        → old ≡ first_that (is_rival one) (slice_index_or sets.old.items place d).records) }
     ensures err { OnErr result (sets.new.items ≡ sets.old.items) }
 {
     let set = &mut sets[place];
@@ -341,7 +342,8 @@ fn take_equal_at(
 /// Gives the SOAs of the set at a place this serial.
 fn set_serial_at(alloc: Global, sets: &mut Vec<RecordSet>, place: usize, serial: u32)
     requires { place < length sets.old.items }
-    ensures { (d : RecordSet) → sets.new.items ≡ slice_set sets.old.items place (serial_set serial (slice_index_or sets.old.items place d)) }
+    ensures { (d : RecordSet) → sets.new.items
+        ≡ slice_set sets.old.items place (serial_set serial (slice_index_or sets.old.items place d)) }
 {
     let set = &mut sets[place];
     set_serial_in(alloc, set, serial)
@@ -383,7 +385,8 @@ fn set_serial_in_data(rdata: &mut Data, serial: u32)
 /// Takes the set at a place away where it has no records.
 fn drop_empty(sets: &mut Vec<RecordSet>, place: usize)
     requires { place < length sets.old.items }
-    ensures { (d : RecordSet) → sets.new.items ≡ with_set (take place sets.old.items) (slice_index_or sets.old.items place d) (drop (place + 1) sets.old.items) }
+    ensures { (d : RecordSet) → sets.new.items
+        ≡ with_set (take place sets.old.items) (slice_index_or sets.old.items place d) (drop (place + 1) sets.old.items) }
 {
     if sets[place].records.len() == 0 {
         sets.remove(place);

@@ -138,7 +138,8 @@ pub(crate) fn put_under(
 ) -> Result<Option<Record>, OutOfMemory>
     requires { AllByRecursion (λ e. TypesRise e.1) names.old.entries }
     ensures put { IfOk result (λ old. PutUnder key.now number one names.old.entries names.new.entries old) }
-    ensures others { IsSome (lookup (is_key key.now) names.old.entries) → blanked key.now names.new.entries ≡ blanked key.now names.old.entries }
+    ensures others { IsSome (lookup (is_key key.now) names.old.entries)
+        → blanked key.now names.new.entries ≡ blanked key.now names.old.entries }
     ensures err { OnErr result (names.new.entries ≡ names.old.entries) }
 {
     let mut stored = Vec::with_capacity(alloc, key.len())?;

@@ -360,7 +360,8 @@ impl ZoneMap {
         rtype: u16,
     ) -> Result<usize, OutOfMemory>
         ensures origin { self.new.origin ≡ self.old.origin }
-        ensures records { OnOk result (self.new.records ≡ filter (λ r. not (is_taken_with_set self.old.origin name.now rtype r)) self.old.records) }
+        ensures records { OnOk result (self.new.records
+            ≡ filter (λ r. not (is_taken_with_set self.old.origin name.now rtype r)) self.old.records) }
         ensures gone { IfOk result (λ gone. gone + length self.new.records ≡ length self.old.records) }
         ensures so_far { IsSoFar self.old.origin self.old.records → IsSoFar self.new.origin self.new.records }
         ensures before { self.new.before ≡ self.old.before }
@@ -379,7 +380,8 @@ impl ZoneMap {
     /// changed.
     pub fn delete_name(&mut self, alloc: Global, name: &Name) -> Result<usize, OutOfMemory>
         ensures origin { self.new.origin ≡ self.old.origin }
-        ensures records { OnOk result (self.new.records ≡ filter (λ r. not (is_taken_with_name self.old.origin name.now r)) self.old.records) }
+        ensures records { OnOk result (self.new.records
+            ≡ filter (λ r. not (is_taken_with_name self.old.origin name.now r)) self.old.records) }
         ensures gone { IfOk result (λ gone. gone + length self.new.records ≡ length self.old.records) }
         ensures so_far { IsSoFar self.old.origin self.old.records → IsSoFar self.new.origin self.new.records }
         ensures before { self.new.before ≡ self.old.before }
