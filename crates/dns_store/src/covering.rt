@@ -20,7 +20,7 @@ use dns_zone::ReplayKind;
 
 /// Looks whether the batches of a keeper cover its rows, whose ids are 1 and those that follow and which have these runs. Where they do
 /// not, the refusal has the place at which they cease to.
-pub(crate) fn look_over<K: Keeper>(keeper: &mut K, runs: RowRuns) -> Result<(), OpenKind>
+pub fn look_over<K: Keeper>(keeper: &mut K, runs: RowRuns) -> Result<(), OpenKind>
     requires runs { IfSome (K.keeper.told keeper.old).rows (HaveRuns runs) }
     ensures ok { OnOk result (IsCovered (K.keeper.told keeper.new)) }
     ensures err { IfErr result (IsUncovered (K.keeper.told keeper.old) (K.keeper.told keeper.new)) }

@@ -13,10 +13,11 @@ mod recovering;
 mod recovery_text;
 mod store;
 
+pub use covering::look_over;
 pub use front::{Front, replay_front};
 pub use listing::{ListedBatch, list_batches};
 pub use opening::{OpenFault, OpenKind};
 pub use opening_records::opening_of;
-pub use recovering::replay_journal;
+pub use recovering::{first_row, replay_journal, row_behind};
 pub use recovery_text::{recovery_line, replay_kind_text};
 pub use store::Store;

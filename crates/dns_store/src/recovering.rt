@@ -167,8 +167,8 @@ fn count_row(runs: &mut RowRuns, row: &Row) -> Result<(), OpenKind>
     }
 }
 
-/// The first row of a keeper, if it has any.
-pub(crate) fn first_row<K: Keeper>(keeper: &mut K) -> Result<Option<Row>, OpenKind>
+/// The row of a keeper that has the least id, if it has any. Rows and batches stay as they are.
+pub fn first_row<K: Keeper>(keeper: &mut K) -> Result<Option<Row>, OpenKind>
     ensures found { IfOk result (λ found. IfSome (K.keeper.told keeper.new).rows (IsFirst found)) }
     ensures err { IfErr result IsKeepers }
     ensures reads { ReadsRows K.keeper keeper.old keeper.new result }
@@ -179,8 +179,8 @@ pub(crate) fn first_row<K: Keeper>(keeper: &mut K) -> Result<Option<Row>, OpenKi
     }
 }
 
-/// The row of a keeper that comes next behind a row, if there is one.
-pub(crate) fn row_behind<K: Keeper>(keeper: &mut K, row: &Row) -> Result<Option<Row>, OpenKind>
+/// The row of a keeper that comes next behind a row, if there is one. Rows and batches stay as they are.
+pub fn row_behind<K: Keeper>(keeper: &mut K, row: &Row) -> Result<Option<Row>, OpenKind>
     ensures found { IfOk result (λ found. IfSome (K.keeper.told keeper.new).rows (IsFirstFrom (row.now.id +ℤ pos 1) found)) }
     ensures err { IfErr result IsKeepers }
     ensures reads { ReadsRows K.keeper keeper.old keeper.new result }

@@ -106,6 +106,22 @@ impl<K: Keeper> Store<K> {
         self.keeper.fault_count()
     }
 
+    /// The keeper, the zone and the number of rows, which are moved.
+    pub fn into_parts(self) -> (K, Zone, u64)
+        ensures keeper { result.0 ≡ self.keeper }
+        ensures zone { result.1 ≡ self.zone }
+        ensures row_count { result.2 ≡ self.row_count }
+        ensures stored { IsStored K.keeper self }
+    {
+        let Store {
+            keeper,
+            zone,
+            row_count,
+            alloc: _,
+        } = self;
+        (keeper, zone, row_count)
+    }
+
     /// Gives the keeper back.
     pub fn into_keeper(self) -> K
         ensures keeper { result ≡ self.keeper }

@@ -13,4 +13,5 @@ pub mod Descending
 pub mod Looking
 pub mod Besides
 pub mod TakenRows
+pub mod TakenBehind
 pub mod AnotherType

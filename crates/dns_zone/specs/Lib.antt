@@ -9,4 +9,5 @@ pub mod Contexts
 pub mod Updates
 pub mod Replayed
 pub mod Replaying
+pub mod Growing
 pub mod Owner

@@ -3,6 +3,7 @@
 
 mod answer;
 mod descent;
+mod growing;
 pub mod laws;
 mod lent;
 mod look;
@@ -17,6 +18,7 @@ mod zone_text;
 pub use answer::{Answer, Parts};
 pub use dns_presentation::split_line;
 pub use dns_update::{Batch, Modified, ReplayKind, Verdict};
+pub use growing::Growing;
 pub use lookup::Looked;
 pub use replaying::{ReplayFault, Replaying, replay};
 pub use zone::Zone;

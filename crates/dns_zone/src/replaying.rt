@@ -1,6 +1,6 @@
 //! The zone that the rows of a journal stand for.
 
-ghost use Rattle.std.specs.Prelude.{◌≡◌, ◌++◌, ◌∷◌, [], ◌+◌, ◌<◌, ◌^◌, pos, ℕ, length, List, None, Result, Ok, IfOk, IfErr, OnOk};
+ghost use Rattle.std.specs.Prelude.{◌≡◌, ◌++◌, ◌∷◌, [], ◌+◌, ◌<◌, ◌^◌, pos, ℕ, length, List, None, Result, Ok, true, false, IfOk, IfErr, IfSome, OnOk};
 ghost use Rattle.dns_name.specs.Name.{fold_of};
 ghost use Rattle.dns_keeper.specs.declared.row.Row.{Row as JournalRow};
 ghost use Rattle.dns_zone_map.specs.Zone.{IsSoFar};
@@ -10,6 +10,7 @@ ghost use Rattle.dns_update.specs.Change.{step};
 ghost use Rattle.dns_update.specs.Replay.{MayCome, RunsTo, Replays};
 ghost use Rattle.dns_zone.specs.declared.replaying.ReplayFault.TheVariants as fault;
 ghost use Rattle.dns_zone.specs.Replaying.{HasTaken, TellsEnd};
+ghost use Rattle.dns_zone.specs.Growing.{Behind};
 
 use crate::placement::has_soa;
 use crate::zone::Zone;
@@ -77,6 +78,20 @@ impl Replaying {
         })
     }
 
+    /// Rows of which so many were taken, which stand for this zone.
+    pub(crate) fn behind(alloc: Global, zone: &Zone, done: u64) -> Result<Replaying, OutOfMemory>
+        ensures origin { IfOk result (λ replaying. replaying.origin ≡ zone.now.origin) }
+        ensures taken { IfOk result (λ replaying. Behind zone.now done (HasTaken replaying)) }
+    {
+        let Some(last) = last_of(done) else {
+            return Err(OutOfMemory);
+        };
+        Ok(Replaying {
+            map: zone.map().copy(alloc)?,
+            last,
+        })
+    }
+
     /// Takes the next row. After a fault no other is to be taken.
     pub fn take(&mut self, alloc: Global, row: &Row) -> Result<(), ReplayFault>
         ensures origin { self.new.origin ≡ self.old.origin }
@@ -136,6 +151,16 @@ impl Replaying {
     }
 }
 
+/// The id of the last of so many rows, where there can be so many.
+pub(crate) fn last_of(done: u64) -> Option<i64>
+    ensures { IfSome result (λ id. id ≡ pos done) }
+{
+    if done > i64::MAX as u64 {
+        return None;
+    }
+    Some(done as i64)
+}
+
 /// A zone without records, for a journal's rows.
 fn no_records(alloc: Global, origin: Name) -> Result<ZoneMap, OutOfMemory>
     ensures origin { IfOk result (λ map. map.origin ≡ origin) }
@@ -156,16 +181,42 @@ fn take_row(alloc: Global, map: &mut ZoneMap, place: u64, row: &Row) -> Result<(
     ensures fault { IfErr result (TellsEnd (λ end. (more : List JournalRow)
         → RunsTo map.old.origin place map.old.records (row.now ∷ more) end)) }
 {
-    match read_row(alloc, map.origin(), place, row)? {
-        RowEffect::Snapshot => {
+    match take_change(alloc, map, place, row) {
+        Ok(true) => Ok(()),
+        Ok(false) => {
             let origin = map.origin().copy()?;
             let anew = no_records(alloc, origin)?;
             *map = anew;
             Ok(())
         }
+        Err(fault) => Err(fault),
+    }
+}
+
+/// Does the change that the row at a place says to the records that those before it left. Tells false where it is a snapshot's instead,
+/// after which there are no records: then nothing is done.
+pub(crate) fn take_change(
+    alloc: Global,
+    map: &mut ZoneMap,
+    place: u64,
+    row: &Row,
+) -> Result<bool, ReplayFault>
+    requires so_far { IsSoFar map.old.origin map.old.records }
+    ensures origin { map.new.origin ≡ map.old.origin }
+    ensures before { map.new.before ≡ map.old.before }
+    ensures so_far { IsSoFar map.new.origin map.new.records }
+    ensures taken { IfOk result (λ is_change. is_change ≡ true
+        → RunsTo map.old.origin place map.old.records (row.now ∷ []) (Ok map.new.records)) }
+    ensures snapshot { IfOk result (λ is_change. is_change ≡ false
+        → (map.new ≡ map.old) × RunsTo map.old.origin place map.old.records (row.now ∷ []) (Ok [])) }
+    ensures fault { IfErr result (TellsEnd (λ end. (more : List JournalRow)
+        → RunsTo map.old.origin place map.old.records (row.now ∷ more) end)) }
+{
+    match read_row(alloc, map.origin(), place, row)? {
+        RowEffect::Snapshot => Ok(false),
         RowEffect::Change { one, serial } => {
             change(alloc, map, one, serial)?;
-            Ok(())
+            Ok(true)
         }
         RowEffect::Refused(kind) => Err(refused(row, kind)),
     }
