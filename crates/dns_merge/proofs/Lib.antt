@@ -1,0 +1,3 @@
+pub mod Through
+pub mod InTurn
+pub mod OneOfMany
