@@ -1,0 +1,17 @@
+use Rattle.std.proofs.Common.{◌≡◌, ◌∙◌, ℕ, List, subst}
+use Rattle.std.proofs.lemmas.Result.{err_from_is_err_and}
+use Rattle.dns_edges.specs.Edges.{around}
+use Rattle.dns_words.specs.Writing.{WritesWhole}
+use Rattle.dns_words.proofs.TextsWritten.{Writes-nothing, Whole-stop}
+use Rattle.dns_follow.specs.Lines.{length_line}
+use Rattle.dns_follow.proofs.output.put_length.Goals as goal
+
+pub returns-in_err-line : goal.returns-in_err-line
+returns-in_err-line g c =
+    let p = err_from_is_err_and c.from_residual.result c.from_residual.ensures.1 in
+    rw (p.1, p.2) (Whole-stop _ _ _ (Writes-nothing _ _))
+
+pub returns : goal.returns
+returns g c =
+    let text : c.as_str.result.now ≡ length_line c.args.length c.args.serial = c.as_str.ensures.value ∙ c.in_ok-line.ensures in
+    subst (λ (t : List ℕ). WritesWhole (around g.W.Sink.sink.told c.args.out.now c.put_text.new.out) t c.put_text.result) text c.put_text.ensures
