@@ -1,4 +1,4 @@
-//! Rows from the specifications, each tried on the compiled libraries: the commands over a list of events, and audits, on journals that are
+//! Rows from the specifications, each tried on the compiled libraries: the commands over a list of events, audits, and feeds with their followers, on journals that are
 //! not in a file.
 //!
 //! A row is a line of standard input, `KIND|GIVEN|WANTED`: what is called, what it is given, and the answer that is due. A row with another
@@ -6,6 +6,7 @@
 #![tactic(auto)]
 
 mod audits;
+mod follows;
 mod journals;
 mod keepers;
 mod runs;
@@ -47,6 +48,11 @@ fn answer_to(alloc: Global, kind: &str, given: &str) -> Result<String, Fail> {
         "audit" => audits::audit_journal(alloc, given),
         "audit_rows" => audits::audit_rows(alloc, given),
         "audit_parts" => audits::audit_parts(alloc, given),
+        "follow" => follows::follow_journal(alloc, given),
+        "follow_parts" => follows::follow_parts(alloc, given),
+        "take" => follows::take(alloc, given),
+        "turns" => follows::turns(alloc, given),
+        "long" => follows::long(alloc, given),
         _ => Ok("no such kind".to_string(alloc)?),
     }
 }
