@@ -22,8 +22,9 @@ PAGES = {
     "man/dns.8": "crates/dns_command/src/help.rt",
     "man/dns-nsupdate.1": "crates/dns_update_client/src/help.rt",
     "man/dns-audit.1": "crates/dns_audit/src/help.rt",
+    "man/dns-follow.1": "crates/dns_follow/src/help.rt",
 }
-SCRIPTS = ["dns", ".ci/run"]
+SCRIPTS = ["dns", ".ci/run", "examples/followers.sh"]
 MAP = TOP / "docs/MAP.md"
 PROVED = TOP / "docs/PROVED.md"
 CONTRACTS = TOP / "docs/CONTRACTS.md"
