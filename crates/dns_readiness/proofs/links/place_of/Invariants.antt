@@ -1,0 +1,13 @@
+-- The number can only be between `low` and `high`.
+use Rattle.std.proofs.Common.{◌≤◌, ◌-◌, length}
+use Rattle.dns_readiness.proofs.links.place_of.Given as goal
+
+abbrev pub invariant-loop-low : goal.invariant-loop-low
+invariant-loop-low l =
+    record {
+      order : l.low ≤ l.high;
+      inside : l.high ≤ length l.links;
+    }
+
+abbrev pub decreases-loop-low : goal.decreases-loop-low
+decreases-loop-low l = l.high - l.low

@@ -1,0 +1,4 @@
+pub mod Came
+pub mod Decisions
+pub mod Links
+pub mod Steps
