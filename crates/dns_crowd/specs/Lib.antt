@@ -1,0 +1,4 @@
+pub mod Crowds
+pub mod Replies
+pub mod Turns
+pub mod Memory

@@ -1,0 +1,287 @@
+//! The open connections of a crowd.
+
+ghost use Rattle.std.specs.Prelude.{◌≡◌, ◌≤◌, ◌<◌, ◌++◌, ◌^◌, length, not, true, IfOk, OnErr, OnOk};
+ghost use Rattle.std.specs.List.{filter_map};
+ghost use Rattle.dns_crowd.specs.Crowds.{MayCome, event_of};
+ghost use Rattle.dns_crowd.specs.Replies.{Falters, RepliesTo};
+ghost use Rattle.dns_readiness.specs.Came.{count_of, number_of};
+ghost use Rattle.dns_edges.specs.Edges.{HasCause};
+ghost use Rattle.dns_crowd.specs.Turns.{Holds, IsDone, IsShut, IsUnasked, LetsGo, Shuts};
+ghost use Rattle.dns_crowd.specs.Turns.{late_number, late_numbers, lost, next_lost, numbers_of, timely};
+ghost use Rattle.dns_io.specs.Told.{Grows};
+ghost use Rattle.dns_server_core.specs.Connections.{accepted, is_safe, new_kept};
+ghost use Rattle.dns_server_core.specs.Events.{moment, number_in};
+ghost use Rattle.dns_server_core.specs.Order.{Climbs, next};
+ghost use Rattle.dns_server_core.specs.Steps.{completed_now, open_next, step};
+ghost use Rattle.dns_server_core.specs.declared.event.Event.TheVariants as event;
+
+use crate::crowd::Crowd;
+use crate::places::{is_safe, place_of};
+use crate::serving::serve_piece;
+use dns_book::AccessControl;
+use dns_io::{IoFault, Octets, OutOfMemory, Peer};
+use dns_readiness::Came;
+use dns_server_core::{RequestHandler, Session};
+use std::alloc::Global;
+use std::marker::Model;
+
+/// The open connections, in order of their numbers, and the last moment and the greatest number that came. One whose time is over may
+/// still stand among them, until it is let go: it completes nothing.
+#[derive(Drop)]
+pub(crate) struct Connections {
+    last: u64,
+    greatest: Option<u32>,
+    sessions: Vec<Session>,
+    buffer: Octets,
+    alloc: Global,
+}
+
+impl Model for Connections {
+    ghost use Rattle.std.specs.Prelude.{false};
+    ghost use Rattle.dns_server_core.specs.Connections.{Kept};
+    ghost use Rattle.dns_server_core.specs.Order.{IsKept};
+
+    ghost Value = { Kept };
+
+    ghost view = { λ s. record { last = s.last; greatest = s.greatest; stopped = false; connections = s.sessions.items } };
+
+    ghost invariant = { λ s. IsKept (record { last = s.last; greatest = s.greatest; stopped = false; connections = s.sessions.items }) };
+}
+
+impl Connections {
+    /// Nothing has come yet.
+    pub(crate) fn new(alloc: Global) -> Connections
+        ensures { result ≡ new_kept }
+    {
+        Connections {
+            last: 0,
+            greatest: None,
+            sessions: Vec::new(alloc),
+            buffer: Octets::new(alloc),
+            alloc,
+        }
+    }
+
+    /// Takes what came: settles the messages that it completes, and adds their replies, each behind its length, to the others. It says
+    /// whether the connection is to be closed: its peer is not safe, or it came too late, or it had its last message. Where memory runs
+    /// out, the first of the messages were settled, part of their replies may have been added, and the connection is not open any more.
+    pub(crate) fn take<H: RequestHandler>(
+        &mut self,
+        handler: &mut H,
+        access: &AccessControl,
+        came: &Came,
+        room: &[u8],
+        replies: &mut Vec<u8>,
+    ) -> Result<bool, OutOfMemory>
+        requires size { count_of came.now ≤ length room.now }
+        requires comes { MayCome self.old.last self.old.greatest (event_of room.now came.now) }
+        ensures next { OnOk result (self.new ≡ next self.old (event_of room.now came.now)) }
+        ensures ran { OnOk result (RepliesTo (H.serves access.now) handler.old
+            (completed_now (event_of room.now came.now) self.old.connections) handler.new (number_of came.now)
+            replies.old.items replies.new.items) }
+        ensures done { IfOk result (λ is_done. is_done ≡ true → IsShut
+            (numbers_of self.old.connections ++ number_in (event_of room.now came.now)) self.new.connections (number_of came.now)) }
+        ensures err { OnErr result (self.new ≡ next_lost self.old (event_of room.now came.now)) }
+        ensures halted { OnErr result (Falters (H.serves access.now) H.skips handler.old
+            (completed_now (event_of room.now came.now) self.old.connections) handler.new) }
+    {
+        let is_done = match apply(
+            self.alloc,
+            handler,
+            access,
+            &mut self.sessions,
+            &mut self.buffer,
+            came,
+            room,
+            replies,
+        ) {
+            Ok(is_done) => is_done,
+            Err(fault) => {
+                self.last = came.moment();
+                self.greatest = came.greatest_behind(self.greatest);
+                return Err(fault);
+            }
+        };
+        self.last = came.moment();
+        self.greatest = came.greatest_behind(self.greatest);
+        Ok(is_done)
+    }
+
+    /// Where time passed, lets those go that are late by the last moment, and closes them.
+    pub(crate) fn close_late<C: Crowd>(&mut self, came: &Came, crowd: &mut C) -> Result<(), IoFault>
+        ensures same { OnOk result ((self.new.last ≡ self.old.last) × (self.new.greatest ≡ self.old.greatest)) }
+        ensures alike { OnOk result (timely self.old.last self.new.connections ≡ timely self.old.last self.old.connections) }
+        ensures part { OnOk result (LetsGo self.old.last self.old.connections self.new.connections) }
+        ensures closed { OnOk result (Shuts (C.told crowd.old).closed (C.told crowd.new).closed
+            (numbers_of self.old.connections) self.new.connections) }
+        ensures unasked { OnOk result (IsUnasked (C.told crowd.old) (C.told crowd.new)) }
+        ensures held { Holds (C.told crowd.old) (C.told crowd.new) }
+        ensures cause { HasCause (C.told crowd.old).faults (C.told crowd.new).faults result }
+    {
+        match came {
+            Came::Tick { .. } => {
+                match close_each(self.sessions.as_slice(), self.last, crowd) {
+                    Ok(()) => {}
+                    Err(fault) => return Err(fault),
+                }
+                let last = self.last;
+                self.sessions.retain(|session| session.is_within(last));
+                Ok(())
+            }
+            _ => Ok(()),
+        }
+    }
+}
+
+/// Closes each that is late by a moment.
+fn close_each<C: Crowd>(sessions: &[Session], last: u64, crowd: &mut C) -> Result<(), IoFault>
+    ensures closed { OnOk result (Grows (C.told crowd.old).closed (C.told crowd.new).closed (late_numbers last sessions.now)) }
+    ensures unasked { OnOk result (IsUnasked (C.told crowd.old) (C.told crowd.new)) }
+    ensures held { Holds (C.told crowd.old) (C.told crowd.new) }
+    ensures cause { HasCause (C.told crowd.old).faults (C.told crowd.new).faults result }
+{
+    for session in sessions {
+        match close_one(session, last, crowd) {
+            Ok(()) => {}
+            Err(fault) => return Err(fault),
+        }
+    }
+    Ok(())
+}
+
+/// Closes one, if it is late by a moment.
+fn close_one<C: Crowd>(session: &Session, last: u64, crowd: &mut C) -> Result<(), IoFault>
+    ensures closed { OnOk result (Grows (C.told crowd.old).closed (C.told crowd.new).closed (late_number last session.now)) }
+    ensures unasked { OnOk result (IsUnasked (C.told crowd.old) (C.told crowd.new)) }
+    ensures held { Holds (C.told crowd.old) (C.told crowd.new) }
+    ensures cause { HasCause (C.told crowd.old).faults (C.told crowd.new).faults result }
+{
+    if session.is_within(last) {
+        return Ok(());
+    }
+    crowd.close(session.number())
+}
+
+/// What came does this to the connections, and completes these messages.
+fn apply<H: RequestHandler>(
+    alloc: Global,
+    handler: &mut H,
+    access: &AccessControl,
+    sessions: &mut Vec<Session>,
+    buffer: &mut Octets,
+    came: &Came,
+    room: &[u8],
+    replies: &mut Vec<u8>,
+) -> Result<bool, OutOfMemory>
+    requires climbs { Climbs sessions.old.items }
+    requires size { count_of came.now ≤ length room.now }
+    requires moment { moment (event_of room.now came.now) < 2 ^ 47 }
+    ensures ok { OnOk result (sessions.new.items ≡ open_next (event_of room.now came.now) sessions.old.items) }
+    ensures ran { OnOk result (RepliesTo (H.serves access.now) handler.old
+        (completed_now (event_of room.now came.now) sessions.old.items) handler.new (number_of came.now)
+        replies.old.items replies.new.items) }
+    ensures done { IfOk result (λ is_done. is_done ≡ true →
+        IsDone (event_of room.now came.now) sessions.old.items sessions.new.items) }
+    ensures err { OnErr result (sessions.new.items ≡ lost (event_of room.now came.now) sessions.old.items) }
+    ensures halted { OnErr result (Falters (H.serves access.now) H.skips handler.old
+        (completed_now (event_of room.now came.now) sessions.old.items) handler.new) }
+{
+    match came {
+        Came::Accepted {
+            at,
+            conn,
+            peer,
+            limit,
+        } => accept(alloc, sessions, *at, *conn, *peer, *limit),
+        Came::Bytes { at, conn, count } => {
+            let (piece, _) = room.split_at(*count);
+            let is_done = receive(
+                alloc, handler, access, sessions, buffer, *at, *conn, piece, replies,
+            )?;
+            Ok(is_done)
+        }
+        Came::Ended { at, conn } => {
+            end(sessions, *at, *conn);
+            Ok(false)
+        }
+        Came::Tick { at: _ } => Ok(false),
+    }
+}
+
+/// A connection from a safe peer is open from now on; one from another is to be closed.
+fn accept(
+    alloc: Global,
+    sessions: &mut Vec<Session>,
+    at: u64,
+    number: u32,
+    peer: Peer,
+    limit: u64,
+) -> Result<bool, OutOfMemory>
+    ensures ok { OnOk result (sessions.new.items ≡ sessions.old.items ++ accepted (event.Accepted at number peer limit)) }
+    ensures done { IfOk result (λ is_done. is_done ≡ not (is_safe peer)) }
+    ensures err { OnErr result (sessions.new.items ≡ sessions.old.items) }
+{
+    if !is_safe(&peer) {
+        return Ok(true);
+    }
+    sessions.push(Session::open(alloc, number, peer, limit, at))?;
+    Ok(false)
+}
+
+/// Receives a piece of the bytes of the connection of a number, and says whether it is to be closed: the piece came too late, or brought
+/// its last message.
+fn receive<H: RequestHandler>(
+    alloc: Global,
+    handler: &mut H,
+    access: &AccessControl,
+    sessions: &mut Vec<Session>,
+    buffer: &mut Octets,
+    at: u64,
+    number: u32,
+    piece: &[u8],
+    replies: &mut Vec<u8>,
+) -> Result<bool, OutOfMemory>
+    requires climbs { Climbs sessions.old.items }
+    requires moment { at < 2 ^ 47 }
+    ensures ok { OnOk result (sessions.new.items ≡ filter_map (step (event.Bytes at number piece.now)) sessions.old.items) }
+    ensures ran { OnOk result (RepliesTo (H.serves access.now) handler.old
+        (completed_now (event.Bytes at number piece.now) sessions.old.items) handler.new number replies.old.items replies.new.items) }
+    ensures done { IfOk result (λ is_done. is_done ≡ true → IsShut (numbers_of sessions.old.items) sessions.new.items number) }
+    ensures err { OnErr result (sessions.new.items ≡ filter_map (step (event.Ended at number)) sessions.old.items) }
+    ensures halted { OnErr result (Falters (H.serves access.now) H.skips handler.old
+        (completed_now (event.Bytes at number piece.now) sessions.old.items) handler.new) }
+{
+    if let Some(i) = place_of(sessions, number) {
+        let stays = match serve_piece(
+            alloc,
+            handler,
+            access,
+            &mut sessions[i],
+            buffer,
+            at,
+            piece,
+            replies,
+        ) {
+            Ok(stays) => stays,
+            Err(fault) => {
+                sessions.remove(i);
+                return Err(fault);
+            }
+        };
+        if !stays {
+            sessions.remove(i);
+            return Ok(true);
+        }
+    }
+    Ok(false)
+}
+
+/// The connection of a number ends.
+fn end(sessions: &mut Vec<Session>, at: u64, number: u32)
+    requires { Climbs sessions.old.items }
+    ensures { sessions.new.items ≡ filter_map (step (event.Ended at number)) sessions.old.items }
+{
+    if let Some(i) = place_of(sessions, number) {
+        sessions.remove(i);
+    }
+}
