@@ -1,5 +1,5 @@
 -- What the worker of a crowd does with what comes (RFC 1035 4.2.2, RFC 7766, RFC 9210 4.2).
-use Rattle.std.specs.Prelude.{◌≡◌, ◌≢◌, ◌⊎◌, ℕ, List, [], ◌∷◌, ◌++◌, map, if◌then◌else◌, Bool, true, false, ◌||◌, Option, Result, Ok, Err}
+use Rattle.std.specs.Prelude.{◌≡◌, ◌≢◌, ◌⊎◌, ℕ, List, [], ◌∷◌, ◌++◌, map, if◌then◌else◌, true, false, ◌||◌, Option, Result, Ok, Err}
 use Rattle.std.specs.List.{AllByRecursion, Contains, filter, filter_map, flat_map}
 use Rattle.dns_io.specs.declared.io_fault.IoFault.{IoFault}
 use Rattle.dns_io.specs.declared.io_fault.IoFault.TheVariants.{Failed, OutOfMemory}
@@ -87,42 +87,51 @@ pub record IsUnasked (before after : CrowdTold) : Type 0 where
   pub greatest : after.greatest ≡ before.greatest
   pub calm : after.faults ≡ before.faults
 
--- an event that came, and whether memory was found for it
+-- how far memory was found for an event: its messages were settled, and the crowd took their replies; or it found none to take them; or
+-- there was none to settle the messages
+pub data Fate : Type 0 where
+  Served : Fate
+  Unsent : Fate
+  Unsettled : Fate
+
+-- an event that came, and how far memory was found for it
 pub record Handled : Type 0 where
   pub event : Event
-  pub found : Bool
+  pub fate : Fate
 
--- the connections that are open behind an event, where memory was found for it, and where it was not
-abbrev pub open_by : Bool → Event → List Connection → List Connection
-open_by true e connections = open_next e connections
-open_by false e connections = lost e connections
+-- the connections that are open behind an event: where memory was wanting, its connection is not
+abbrev pub open_by : Fate → Event → List Connection → List Connection
+open_by Served e connections = open_next e connections
+open_by Unsent e connections = lost e (open_next e connections)
+open_by Unsettled e connections = lost e connections
 
 -- the meaning of a handler
 module _ {H : Type 0} (serves : H → Ask → Settled → H → Type 0) (skips : H → H → Type 0) where
-  -- the messages that an event completes were settled, and these are their replies; or, where memory was wanting, the first of them were, and
-  -- no reply was sent
-  abbrev pub SettlesBy : Bool → H → List Completed → List Out → H → Type 0
-  SettlesBy true before asks outs after = Run serves before asks outs after
-  SettlesBy false before asks outs after = Falters serves skips before asks after × (outs ≡ [])
+  -- the messages that an event completes were settled, and these are their replies; or no reply was sent, and all of them were settled, or
+  -- the first of them
+  abbrev pub SettlesBy : Fate → H → List Completed → List Out → H → Type 0
+  SettlesBy Served before asks outs after = Run serves before asks outs after
+  SettlesBy Unsent before asks outs after = ((owed : List Out) × Run serves before asks owed after) × (outs ≡ [])
+  SettlesBy Unsettled before asks outs after = Falters serves skips before asks after × (outs ≡ [])
 
   -- one event after the other, from these connections on
   abbrev pub SettlesEach : H → List Connection → List Handled → List Out → H → Type 0
   SettlesEach before connections [] outs after = (after ≡ before) × (outs ≡ [])
   SettlesEach before connections (one ∷ others) outs after = (between : H) × (first : List Out) × (later : List Out)
-      × SettlesBy one.found before (completed_now one.event connections) first between × (outs ≡ first ++ later)
-      × SettlesEach between (open_by one.found one.event connections) others later after
+      × SettlesBy one.fate before (completed_now one.event connections) first between × (outs ≡ first ++ later)
+      × SettlesEach between (open_by one.fate one.event connections) others later after
 
 -- the meanings of a handler, and of a crowd
 module _ {H C : Type 0} (serves : H → Ask → Settled → H → Type 0) (skips : H → H → Type 0) (told : C → CrowdTold) where
   -- one event was served, as far as memory was found, and the crowd was handed these replies
-  pub record Treats (before : H) (crowd : C) (kept : Kept) (e : Event) (found : Bool) (after : H) (crowd_now : C) : Type 0 where
+  pub record Treats (before : H) (crowd : C) (kept : Kept) (e : Event) (fate : Fate) (after : H) (crowd_now : C) : Type 0 where
     pub outs : List Out
-    pub settled : SettlesBy serves skips found before (completed_now e kept.connections) outs after
+    pub settled : SettlesBy serves skips fate before (completed_now e kept.connections) outs after
     pub sent : Grows (told crowd).taken (told crowd_now).taken (sent_bytes outs)
     pub unread : Keeps (told crowd).left (told crowd_now).left
 
   -- what a worker did, however it ended: these events came, one was served after the other, as far as memory was found for it, and the crowd
-  -- took exactly the replies of those for which it was found
+  -- took exactly the replies to those that were served whole
   pub record Working (before : H) (crowd : C) (after : H) (crowd_now : C) : Type 0 where
     pub handled : List Handled
     pub came : Takes (told crowd).left (told crowd_now).left (map (λ one. one.event) handled)
@@ -172,7 +181,7 @@ module _ {H C : Type 0} (serves : H → Ask → Settled → H → Type 0) (told 
     pub end : IsEmpty (told crowd_now).left
     pub calm : (told crowd_now).faults ≡ (told crowd).faults
 
-  -- how the worker ended: all that came was served; or a call of the crowd failed; or memory ran out, and none failed
+  -- how the worker ended: all that came was served; or a call of the crowd failed; or memory was wanting, and none failed
   abbrev pub EndsBy : H → C → H → C → Result (Unit {0}) IoFault → Type 0
   EndsBy before crowd after crowd_now (Ok done) = Works before crowd after crowd_now
   EndsBy before crowd after crowd_now (Err Failed) = Rose (told crowd).faults (told crowd_now).faults

@@ -107,6 +107,16 @@ impl Connections {
         Ok(is_done)
     }
 
+    /// The connection of a piece is open no more.
+    pub(crate) fn let_go(&mut self, came: &Came, room: &[u8])
+        ensures { self.new ≡ record self.old { connections = lost (event_of room.now came.now) self.old.connections } }
+    {
+        match came {
+            Came::Bytes { at, conn, .. } => end(&mut self.sessions, *at, *conn),
+            _ => {}
+        }
+    }
+
     /// Where time passed, lets those go that are late by the last moment, and closes them.
     pub(crate) fn close_late<C: Crowd>(&mut self, came: &Came, crowd: &mut C) -> Result<(), IoFault>
         ensures same { OnOk result ((self.new.last ≡ self.old.last) × (self.new.greatest ≡ self.old.greatest)) }

@@ -1,8 +1,8 @@
 //! The worker of a crowd.
 
-ghost use Rattle.std.specs.Prelude.{◌≡◌, ◌≤◌, ◌∷◌, [], length, true, false, IfOk, OnErr, OnOk, Ok, Err, Bool, if◌then◌else◌};
+ghost use Rattle.std.specs.Prelude.{◌≡◌, ◌≤◌, ◌∷◌, [], length, true, false, IfOk, OnErr, OnOk, Ok, Err, if◌then◌else◌};
 ghost use Rattle.dns_crowd.specs.Crowds.{MayCome, bytes_for, event_of};
-ghost use Rattle.dns_crowd.specs.Turns.{Attends, GoesOn, Holds, IsUnasked, ServesCrowd, Treats, open_by, timely};
+ghost use Rattle.dns_crowd.specs.Turns.{Attends, Fate, GoesOn, Holds, IsUnasked, ServesCrowd, Treats, open_by, timely};
 ghost use Rattle.dns_edges.specs.Edges.{HasCause};
 ghost use Rattle.dns_server_core.specs.Events.{moment};
 ghost use Rattle.dns_readiness.specs.Came.{count_of};
@@ -24,8 +24,9 @@ const ROOM: usize = 65_535;
 /// Serves the connections of a crowd until it is stopped. The messages that their bytes complete are settled in the order in which they
 /// are complete, at most the first hundred of each connection, and the replies of what one read completes are handed over together.
 ///
-/// A call of the crowd that fails or finds no memory ends it. Where memory is wanting for what came of one connection, that connection is
-/// closed, without the replies of that read; the others go on, and it answers `OutOfMemory` at the end.
+/// A call of the crowd that fails ends it, and so does one to wait or to close that finds no memory. Where memory is wanting to settle what
+/// came of one connection, or for the crowd to take its replies, that connection is closed, without the replies of that read; the others
+/// go on, and it answers `OutOfMemory` at the end.
 pub fn serve_crowd<H: RequestHandler, C: Crowd, R: Wait>(
     rt: &R,
     alloc: Global,
@@ -118,12 +119,11 @@ fn attend<H: RequestHandler, C: Crowd>(
     requires none { replies.old.items ≡ [] }
     ensures attends { IfOk result (λ found. found ≡ true → Attends (H.serves access.now) C.told handler.old crowd.old connections.old
         (event_of room.now came.now) handler.new crowd.new connections.new) }
-    ensures treats { IfOk result (λ found. Treats (H.serves access.now) H.skips C.told handler.old crowd.old connections.old
-        (event_of room.now came.now) found handler.new crowd.new) }
-    ensures alike { IfOk result (λ found. timely (moment (event_of room.now came.now)) connections.new.connections
-        ≡ timely (moment (event_of room.now came.now)) (open_by found (event_of room.now came.now) connections.old.connections)) }
-    ensures broken { OnErr result ((found : Bool) × Treats (H.serves access.now) H.skips C.told handler.old crowd.old connections.old
-        (event_of room.now came.now) found handler.new crowd.new) }
+    ensures treats { OnOk result ((fate : Fate) × Treats (H.serves access.now) H.skips C.told handler.old crowd.old connections.old
+        (event_of room.now came.now) fate handler.new crowd.new × (timely (moment (event_of room.now came.now)) connections.new.connections
+        ≡ timely (moment (event_of room.now came.now)) (open_by fate (event_of room.now came.now) connections.old.connections))) }
+    ensures broken { OnErr result ((fate : Fate) × Treats (H.serves access.now) H.skips C.told handler.old crowd.old connections.old
+        (event_of room.now came.now) fate handler.new crowd.new) }
     ensures goes { OnOk result (GoesOn C.told crowd.old connections.old (event_of room.now came.now) crowd.new connections.new) }
     ensures none { OnOk result (replies.new.items ≡ []) }
     ensures cause { HasCause (C.told crowd.old).faults (C.told crowd.new).faults result }
@@ -133,15 +133,22 @@ fn attend<H: RequestHandler, C: Crowd>(
         crowd.close(came.number())?;
         return Ok(false);
     };
-    send(crowd, came.number(), replies)?;
+    let is_sent = send(crowd, came.number(), replies)?;
+    if !is_sent {
+        connections.let_go(came, room);
+        crowd.close(came.number())?;
+        return Ok(false);
+    }
     close(crowd, came.number(), is_done)?;
     connections.close_late(came, crowd)?;
     Ok(true)
 }
 
-/// Hands bytes to a connection, where there are any, and lets them go.
-fn send<C: Crowd>(crowd: &mut C, number: u32, replies: &mut Vec<u8>) -> Result<(), IoFault>
-    ensures grows { OnOk result (Grows (C.told crowd.old).taken (C.told crowd.new).taken (bytes_for number replies.old.items)) }
+/// Hands bytes to a connection, where there are any, and lets them go; whether memory was found to take them.
+fn send<C: Crowd>(crowd: &mut C, number: u32, replies: &mut Vec<u8>) -> Result<bool, IoFault>
+    ensures grows { IfOk result (λ found. found ≡ true →
+        Grows (C.told crowd.old).taken (C.told crowd.new).taken (bytes_for number replies.old.items)) }
+    ensures unsent { IfOk result (λ found. found ≡ false → Keeps (C.told crowd.old).taken (C.told crowd.new).taken) }
     ensures none { OnOk result (replies.new.items ≡ []) }
     ensures kept { OnErr result (Keeps (C.told crowd.old).taken (C.told crowd.new).taken) }
     ensures unread { Keeps (C.told crowd.old).left (C.told crowd.new).left }
@@ -152,11 +159,19 @@ fn send<C: Crowd>(crowd: &mut C, number: u32, replies: &mut Vec<u8>) -> Result<(
     ensures cause { HasCause (C.told crowd.old).faults (C.told crowd.new).faults result }
 {
     if replies.is_empty() {
-        return Ok(());
+        return Ok(true);
     }
-    crowd.send(number, replies.as_slice())?;
-    replies.clear();
-    Ok(())
+    match crowd.send(number, replies.as_slice()) {
+        Ok(()) => {
+            replies.clear();
+            Ok(true)
+        }
+        Err(IoFault::OutOfMemory) => {
+            replies.clear();
+            Ok(false)
+        }
+        Err(IoFault::Failed) => Err(IoFault::Failed),
+    }
 }
 
 /// Closes a connection, where it is to be closed.

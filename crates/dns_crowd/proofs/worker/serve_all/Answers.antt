@@ -56,8 +56,8 @@ loop-preserved g c =
           c.attend.new.crowd c.attend.new.connections c.loop.invariant.2 last greatest c.in-Ok-Some.ensures.told.cause.counts c.in-Ok.ensures.goes,
       c.in-Ok.ensures.none,
       omega (arith, c.next-in-loop.auto.room, c.loop.invariant.4),
-      Keeping-more (g.H.RequestHandler.serves c.args.access.now) g.H.RequestHandler.skips told c.args.handler.now c.args.crowd.now c.loop.handler c.loop.crowd c.next-in-loop.new.self c.loop.connections (event_of room c.in-Ok-Some.came) c.in-Ok.found
-          c.attend.new.handler c.attend.new.crowd c.attend.new.connections c.loop.invariant.5 on_time given c.next-in-loop.ensures.told.untaken c.in-Ok.ensures.treats c.in-Ok.ensures.goes.at c.in-Ok.ensures.alike,
+      Keeping-more (g.H.RequestHandler.serves c.args.access.now) g.H.RequestHandler.skips told c.args.handler.now c.args.crowd.now c.loop.handler c.loop.crowd c.next-in-loop.new.self c.loop.connections (event_of room c.in-Ok-Some.came) c.in-Ok.ensures.treats.0
+          c.attend.new.handler c.attend.new.crowd c.attend.new.connections c.loop.invariant.5 on_time given c.next-in-loop.ensures.told.untaken c.in-Ok.ensures.treats.1 c.in-Ok.ensures.goes.at c.in-Ok.ensures.treats.2,
     )
 
 pub returns-in-Ok-None : goal.returns-in-Ok-None
