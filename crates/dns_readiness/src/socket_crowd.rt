@@ -320,7 +320,8 @@ impl<R: Net + Clock + Copy> SocketCrowd<R> {
         }
     }
 
-    /// No connection was accepted.
+    /// No connection was accepted. The system wants a descriptor before it looks whether one waits (accept(2)), so where none is left one
+    /// connection gives way, whoever waits, and the next one that comes finds the descriptor.
     fn refused(&mut self, refusal: Refusal) -> Result<Step, IoFault>
         ensures moved { HasMoved self.old self.new }
         ensures next { IfOk result (StepsTo self.new 0) }
