@@ -1,5 +1,5 @@
 -- What the connections of the operating system decide, and what they count.
-use Rattle.std.specs.Prelude.{ℕ, ◌+◌, ◌-◌, ◌^◌, min, max, nat_le, nat_lt, nat_eq, if◌then◌else◌, Bool, ◌&&◌, ◌||◌, Option, Some, None}
+use Rattle.std.specs.Prelude.{ℕ, ◌+◌, ◌-◌, ◌^◌, min, max, nat_le, nat_lt, nat_eq, if◌then◌else◌, Bool, false, ◌&&◌, ◌||◌, Option, Some, None}
 use Rattle.std.specs.declared.io.ErrorKind.{ErrorKind}
 use Rattle.std.specs.declared.io.ErrorKind.TheVariants as kind
 use Rattle.dns_readiness.specs.declared.decisions.Outcome.{Outcome}
@@ -10,7 +10,7 @@ use Rattle.dns_readiness.specs.declared.link.Stage.{Stage}
 use Rattle.dns_readiness.specs.declared.link.Stage.TheVariants.{Open, Closing, Draining}
 
 -- what is seen of them: the last moment and the greatest number that were given, the last reading of the clock, the limit of a
--- connection, how many are open, of at most how many, and how many calls failed
+-- connection, how many are open, of at most how many, whether they ended, and how many calls failed
 pub record SocketState : Type 0 where
   pub last : ℕ
   pub greatest : Option ℕ
@@ -18,11 +18,13 @@ pub record SocketState : Type 0 where
   pub limit : ℕ
   pub open_now : ℕ
   pub most : ℕ
+  pub ended : Bool
   pub faults : ℕ
 
 -- those of a listener to which none came yet, by the limit and the most that are open
 abbrev pub new_crowd : ℕ → ℕ → SocketState
-new_crowd limit most = record { last = 0; greatest = None; reading = 0; limit = limit; open_now = 0; most = most; faults = 0 }
+new_crowd limit most =
+    record { last = 0; greatest = None; reading = 0; limit = limit; open_now = 0; most = most; ended = false; faults = 0 }
 
 -- what becomes of a read or a write of a connection after an error of this kind: it is made again at once, or once the connection is
 -- ready, or the connection is over

@@ -1,6 +1,6 @@
 //! The connections of a listener of the operating system.
 
-ghost use Rattle.std.specs.Prelude.{◌≡◌, ◌≤◌, ◌<◌, ◌+◌, ◌^◌, length, Err, IfErr, IfOk, IfSome, OnErr, vec_len, vec_capacity};
+ghost use Rattle.std.specs.Prelude.{◌≡◌, ◌≤◌, ◌<◌, ◌+◌, ◌^◌, length, Err, IfErr, IfNone, IfOk, IfSome, None, OnErr, true, vec_len, vec_capacity};
 ghost use Rattle.dns_edges.specs.Edges.{HasCause};
 ghost use Rattle.dns_readiness.specs.Came.{IsGreater, IsNext, greatest_with, last_with};
 ghost use Rattle.dns_readiness.specs.Decisions.{new_crowd};
@@ -88,6 +88,8 @@ pub struct SocketCrowd<R> {
     last: u64,
     greatest: Option<u32>,
     limit: u64,
+    /// The token was seen stopped, or nothing can come any more.
+    ended: bool,
     faults: u64,
 }
 
@@ -104,6 +106,7 @@ impl<R> Model for SocketCrowd<R> {
       limit = s.limit;
       open_now = length s.links.items;
       most = s.most;
+      ended = s.ended;
       faults = s.faults;
     } };
 
@@ -150,6 +153,7 @@ impl<R: Net + Clock + Copy> SocketCrowd<R> {
             last: 0,
             greatest: None,
             limit,
+            ended: false,
             faults: 0,
         })
     }
@@ -162,17 +166,22 @@ impl<R: Net + Clock + Copy> SocketCrowd<R> {
     }
 
     /// Waits for what comes next over any connection; the bytes of a piece stand at the front of `room`. `None` where the token is stopped,
-    /// or where all numbers were given and no connection is open. After an error nothing was read that was not given, but what is ready may
-    /// not be told again.
+    /// or where all numbers were given and no connection is open, and then for good. After an error nothing was read that was not given,
+    /// but what is ready may not be told again.
     pub fn next_event(&mut self, room: &mut [u8]) -> Result<Option<Came>, IoFault>
         requires { 65535 ≤ length room.old }
         ensures next { IfOk result (λ came. IfSome came (IsNext self.old.last self.old.greatest (length room.new))) }
         ensures last { IfOk result (λ came. self.new.last ≡ last_with self.old.last came) }
         ensures greatest { IfOk result (λ came. self.new.greatest ≡ greatest_with self.old.greatest came) }
+        ensures end { IfOk result (λ came. IfNone came (self.new.ended ≡ true)) }
+        ensures for_good { self.old.ended ≡ true → IfOk result (λ came. came ≡ None) }
         ensures same { OnErr result ((self.new.last ≡ self.old.last) × (self.new.greatest ≡ self.old.greatest)) }
         ensures bound { (self.new.most ≡ self.old.most) × (self.new.open_now ≤ self.new.most + 1) }
         ensures cause { HasCause self.old.faults self.new.faults result }
     {
+        if self.ended {
+            return Ok(None);
+        }
         for _ in 0..u64::MAX {
             match self.step(room) {
                 Ok(Step::Came(came)) => {
@@ -180,7 +189,10 @@ impl<R: Net + Clock + Copy> SocketCrowd<R> {
                     self.greatest = came.greatest_behind(self.greatest);
                     return Ok(Some(came));
                 }
-                Ok(Step::Stopped) => return Ok(None),
+                Ok(Step::Stopped) => {
+                    self.ended = true;
+                    return Ok(None);
+                }
                 Ok(Step::Nothing) => {}
                 Err(fault) => return self.failed(fault),
             }
