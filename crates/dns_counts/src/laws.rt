@@ -22,7 +22,8 @@ pub fn recorded_replies()
     ensures total { (replies : List (Message × Reply)) (before : List (List ℕ))
         → recorded_all replies before ≡ each (λ counter counts. grown counts (total_growth counter replies)) counters before }
     // Their order does not matter.
-    ensures order { (a c : Message) (b d : Reply) (before : List (List ℕ)) → recorded c d (recorded a b before) ≡ recorded a b (recorded c d before) }
+    ensures order { (a c : Message) (b d : Reply) (before : List (List ℕ))
+        → recorded c d (recorded a b before) ≡ recorded a b (recorded c d before) }
 {}
 
 /// The table of counters.

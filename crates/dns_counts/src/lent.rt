@@ -19,7 +19,8 @@ pub(crate) fn count_parts(
     requires types { length TYPE_CODES < length types.old }
     requires classes { length CLASS_CODES < length classes.old }
     ensures types { types.new ≡ grown types.old (seen_or_unknown TYPE_CODES (types_in (kinds (take written (in_parts parts.now))))) }
-    ensures classes { classes.new ≡ grown classes.old (seen_or_unknown CLASS_CODES (classes_in (classed (kinds (take written (in_parts parts.now)))))) }
+    ensures classes { classes.new ≡ grown classes.old
+        (seen_or_unknown CLASS_CODES (classes_in (classed (kinds (take written (in_parts parts.now)))))) }
 {
     let mut left = written;
     for part in parts {

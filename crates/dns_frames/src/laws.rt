@@ -16,6 +16,7 @@ pub fn framed_streams()
 /// It does not matter how a stream is cut: its messages are those of a front, and then those of what is left of the front
 /// with what follows.
 pub fn streams_that_go_on()
-    ensures more { (front later : List ℕ) → frames (front ++ later) ≡ ahead (frames front).messages (frames ((frames front).rest ++ later)) }
+    ensures more { (front later : List ℕ) → frames (front ++ later)
+        ≡ ahead (frames front).messages (frames ((frames front).rest ++ later)) }
     ensures rest { (bytes : List ℕ) → frames (frames bytes).rest ≡ record { messages = []; rest = (frames bytes).rest } }
 {}

@@ -139,7 +139,8 @@ impl Keeper for MemoryKeeper {
         ensures appends { self.new.appends ≡ called self.old.appends }
         ensures reads { self.new.reads ≡ self.old.reads }
         ensures listed { is_next_failing self.old.appends ≡ true → IsErrOf result Failed }
-        ensures failed { IsErrOf result Failed → (is_next_failing self.old.appends ≡ true) ⊎ HasNoPlace self.old.rows self.old.batches records.now }
+        ensures failed { IsErrOf result Failed
+            → (is_next_failing self.old.appends ≡ true) ⊎ HasNoPlace self.old.rows self.old.batches records.now }
     {
         if self.appends.next_fails() {
             return Err(self.fail());

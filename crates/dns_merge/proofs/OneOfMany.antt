@@ -16,6 +16,7 @@ use Rattle.dns_server_core.specs.Steps.{open_next}
 use Rattle.dns_server_core.proofs.AllConnections.{pendings-nil}
 use Rattle.dns_server_core.proofs.Pieces.{byte_events-push, in_time-push, moment_at-last, moment_at-push, total-push, whole-push}
 use Rattle.dns_requests.specs.Arrivals.{ask_at, asks_of, asks_through, opened}
+use Rattle.dns_requests.proofs.MoreArrivals.{asks_next, asks_through-push, one_longer}
 use Rattle.dns_isolation.specs.Receivers.{is_no_others, messages_to, owner_of, without_others}
 use Rattle.dns_isolation.proofs.OneReceiver.{differs, one-exact}
 use Rattle.dns_isolation.proofs.OwnMessages.{own-done}
@@ -91,30 +92,14 @@ own_bytes number (e ∷ es) = own_one number e es (stays number e) refl (own_byt
 
 -- one piece more
 
-pieces_longer : (ps : List Arrival) (a : Arrival) → length (ps ++ a ∷ []) ≡ suc (length ps)
-pieces_longer ps a = omega (arith, length-append ps (a ∷ []))
-
-completed_before : (c : Connection) (ps : List Arrival) (a : Arrival) (i : ℕ) → i < length ps → completed c (ps ++ a ∷ []) i ≡ completed c ps i
-unfolding completed
-completed_before c ps a i l = rw (in_time-push c ps a (suc i) (omega arith), whole-push c ps a i (omega arith), whole-push c ps a (suc i) (omega arith), total-push c ps a (suc i) (omega arith)) refl
-
-asks_before : (c : Connection) (ps : List Arrival) (a : Arrival) (i : ℕ) → i ≤ length ps → asks_through c (ps ++ a ∷ []) i ≡ asks_through c ps i
-unfolding asks_through
-asks_before c ps a zero l = refl
-asks_before c ps a (suc i) l = rw (asks_before c ps a i (omega arith), moment_at-push ps a i (omega arith), completed_before c ps a i (omega arith)) refl
-
-asks_next : (c : Connection) (ps : List Arrival) (i : ℕ) → asks_through c ps (suc i) ≡ asks_through c ps i ++ map (ask_at c.peer (moment_at ps i)) (completed c ps i)
-unfolding asks_through
-asks_next c ps i = refl
-
 asks_none : (c : Connection) → asks_of c [] ≡ []
 unfolding asks_through
 asks_none c = refl
 
 asks_push : (c : Connection) (ps : List Arrival) (a : Arrival) → asks_of c (ps ++ a ∷ []) ≡ asks_of c ps ++ map (ask_at c.peer a.at) (completed c (ps ++ a ∷ []) (length ps))
 asks_push c ps a =
-    ap (asks_through c (ps ++ a ∷ [])) (pieces_longer ps a) ∙ asks_next c (ps ++ a ∷ []) (length ps)
-    ∙ rw (asks_before c ps a (length ps) (omega arith), moment_at-last ps a) refl
+    ap (asks_through c (ps ++ a ∷ [])) (one_longer ps a) ∙ asks_next c (ps ++ a ∷ []) (length ps)
+    ∙ rw (asks_through-push c ps a (length ps) (omega arith), moment_at-last ps a) refl
 
 -- the messages of a piece
 

@@ -47,10 +47,12 @@ pub fn printed_records()
 pub fn printed_zones()
     // As those records, in their order: a zone that is printed in absolute names and read is itself, where no alias stands beside
     // another record.
-    ensures zone { (origin : List (List ℕ)) (records : List Record) → IsZone origin records → AllByRecursion IsKept records → HasLoneAliases records
+    ensures zone { (origin : List (List ℕ)) (records : List Record)
+        → IsZone origin records → AllByRecursion IsKept records → HasLoneAliases records
         → zone_of origin (zone_text records) ≡ Ok records }
     // In no zone that a text gives does an alias stand beside another record.
-    ensures alone { (origin : List (List ℕ)) (text : List ℕ) (records : List Record) → zone_of origin text ≡ Ok records → HasLoneAliases records }
+    ensures alone { (origin : List (List ℕ)) (text : List ℕ) (records : List Record)
+        → zone_of origin text ≡ Ok records → HasLoneAliases records }
     // So a zone that a text gives, when it is printed and read again, is itself.
     ensures again { (origin : List (List ℕ)) (text : List ℕ) (records : List Record) → zone_of origin text ≡ Ok records
         → IsZone origin records → AllByRecursion IsKept records → zone_of origin (zone_text records) ≡ Ok records }

@@ -25,11 +25,11 @@ pub one_longer : (ps : List Arrival) (a : Arrival) → length (ps ++ a ∷ []) �
 one_longer ps a = omega (arith, length-append ps (a ∷ []))
 
 -- what earlier reads completed does not change
-completed-before : (c : Connection) (ps : List Arrival) (a : Arrival) (i : ℕ) → i < length ps → completed c (ps ++ a ∷ []) i ≡ completed c ps i
+pub completed-before : (c : Connection) (ps : List Arrival) (a : Arrival) (i : ℕ) → i < length ps → completed c (ps ++ a ∷ []) i ≡ completed c ps i
 unfolding completed
 completed-before c ps a i l = rw (in_time-push c ps a (suc i) (omega arith), whole-push c ps a i (omega arith), whole-push c ps a (suc i) (omega arith), total-push c ps a (suc i) (omega arith)) refl
 
-asks_through-push : (c : Connection) (ps : List Arrival) (a : Arrival) (i : ℕ) → i ≤ length ps → asks_through c (ps ++ a ∷ []) i ≡ asks_through c ps i
+pub asks_through-push : (c : Connection) (ps : List Arrival) (a : Arrival) (i : ℕ) → i ≤ length ps → asks_through c (ps ++ a ∷ []) i ≡ asks_through c ps i
 unfolding asks_through
 asks_through-push c ps a zero l = refl
 asks_through-push c ps a (suc i) l = rw (asks_through-push c ps a i (omega arith), moment_at-push ps a i (omega arith), completed-before c ps a i (omega arith)) refl
@@ -43,7 +43,7 @@ completed-here c ps a t m w =
     ∙ ap (λ b. heard_by (cond b (Some (left_by c ps)) None) (Piece a)) m
     ∙ cond-true _ _ _ w
 
-asks_next : (c : Connection) (ps : List Arrival) (i : ℕ) → asks_through c ps (suc i) ≡ asks_through c ps i ++ map (ask_at c.peer (moment_at ps i)) (completed c ps i)
+pub asks_next : (c : Connection) (ps : List Arrival) (i : ℕ) → asks_through c ps (suc i) ≡ asks_through c ps i ++ map (ask_at c.peer (moment_at ps i)) (completed c ps i)
 unfolding asks_through
 asks_next c ps i = refl
 

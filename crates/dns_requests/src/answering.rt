@@ -13,7 +13,7 @@ use std::alloc::Global;
 /// Settles the whole messages at the front of what a connection has unread, no more than it may still have, and tells it so. Each is
 /// handed over as `ask`, whose buffer is used for one after the other. The bytes of their replies, each behind its length, are added to
 /// the others.
-pub(crate) fn answer<T: RequestHandler>(
+pub fn answer<T: RequestHandler>(
     alloc: Global,
     handler: &mut T,
     access: &AccessControl,

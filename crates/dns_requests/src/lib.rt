@@ -9,6 +9,7 @@ mod response_handle;
 mod serve_fault;
 mod timeout_stream;
 
+pub use answering::answer;
 pub use connection::serve_connection;
 pub use poll_stream::PollStream;
 pub use response_handle::{ResponseHandle, ResponseHandler, ResponseInfo};

@@ -77,7 +77,7 @@ safe : (P : Connection → Type 0) (b : Bool) (k : Connection) → P k → AllBy
 safe P true k h = (h, tt)
 safe P false k h = tt
 
-accepted-all : (P : Connection → Type 0) → ((number : ℕ) (peer : Peer) (limit at : ℕ) → P (new_connection number peer limit at)) → (e : Event) → AllByRecursion P (accepted e)
+pub accepted-all : (P : Connection → Type 0) → ((number : ℕ) (peer : Peer) (limit at : ℕ) → P (new_connection number peer limit at)) → (e : Event) → AllByRecursion P (accepted e)
 accepted-all P h (Accepted at conn peer limit) = safe P (is_safe peer) (new_connection conn peer limit at) (h conn peer limit at)
 accepted-all P h (Bytes at conn piece) = tt
 accepted-all P h (Ended at conn) = tt

@@ -12,7 +12,8 @@ use dns_book::sanitize_src_address;
 use dns_io::{OutOfMemory, Peer};
 use std::alloc::Global;
 
-fn is_safe(peer: &Peer) -> bool
+/// Whether a peer is served.
+pub fn is_safe(peer: &Peer) -> bool
     ensures { result ≡ is_safe peer.now }
 {
     !sanitize_src_address(peer).is_err()
@@ -35,8 +36,8 @@ pub(crate) fn accept(
     Ok(())
 }
 
-/// Where the connection of a number stands.
-pub(crate) fn place_of(connections: &[Session], number: u32) -> Option<usize>
+/// Where the connection of a number stands, by halves. Takes no memory.
+pub fn place_of(connections: &[Session], number: u32) -> Option<usize>
     requires { Climbs connections.now }
     ensures inside { IfSome result (λ i. i < length connections.now) }
     ensures found { IfSome result (λ i. (d : Connection) → (slice_index_or connections.now i d).number ≡ number) }
@@ -59,8 +60,8 @@ pub(crate) fn place_of(connections: &[Session], number: u32) -> Option<usize>
     None
 }
 
-/// The connection of a number ends.
-pub(crate) fn end(connections: &mut Vec<Session>, at: u64, number: u32)
+/// The connection of a number ends: it is not among them any more. Takes no memory.
+pub fn end(connections: &mut Vec<Session>, at: u64, number: u32)
     requires { Climbs connections.old.items }
     ensures { connections.new.items ≡ filter_map (step (event.Ended at number)) connections.old.items }
 {

@@ -12,6 +12,7 @@ mod session;
 mod sessions;
 mod valid;
 
+pub use connection::{end, is_safe, place_of};
 pub use dns_book::{
     AccessControl, Ask, Book, IpNet, OpenFault, OpenKind, Receipt, ReplyBytes, Settled,
     SettledInto, UnsafeSource, sanitize_src_address,

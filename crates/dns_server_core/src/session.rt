@@ -38,6 +38,7 @@ pub struct Session {
     base: u64,
     unread: Vec<u8>,
     taken: u64,
+    alloc: Global,
 }
 
 impl Model for Session {
@@ -61,6 +62,7 @@ impl Session {
             base: at,
             unread: Vec::new(alloc),
             taken: 0,
+            alloc,
         }
     }
 
@@ -130,7 +132,7 @@ impl Session {
 
     /// The whole messages at the front of the unread bytes were settled, no more than it may still have: they are counted and let go, and
     /// where there was one the time runs from this moment. Takes no memory; bytes are moved only behind a message, and then no more than
-    /// stand behind the last one.
+    /// stand behind the last one. Where none is unread, their room is given back.
     pub fn settled(&mut self, at: u64, answered: Answered)
         requires messages { answered.messages ≡ length (messages_in self.old self.old.rest) }
         requires rest { answered.rest ≡ length (behind_first (messages_left self.old) self.old.rest) }
@@ -141,15 +143,19 @@ impl Session {
         }
         self.base = at;
         self.taken += answered.messages;
-        keep_last(&mut self.unread, answered.rest);
+        keep_last(self.alloc, &mut self.unread, answered.rest);
     }
 }
 
-/// Lets all bytes go but the last of them, so many.
-fn keep_last(bytes: &mut Vec<u8>, count: usize)
+/// Lets all bytes go but the last of them, so many. Where that is none, their room is given back.
+fn keep_last(alloc: Global, bytes: &mut Vec<u8>, count: usize)
     requires { count ≤ length bytes.old.items }
     ensures { bytes.new.items ≡ drop (length bytes.old.items - count) bytes.old.items }
 {
+    if count == 0 {
+        *bytes = Vec::new(alloc);
+        return;
+    }
     let start = bytes.len() - count;
     bytes.drain(..start);
 }

@@ -54,7 +54,8 @@ fn date_of(alloc: Global, shown: DateTime) -> Result<String, OutOfMemory>
 
 /// The time of day that is shown.
 fn clock_of(alloc: Global, shown: DateTime) -> Result<String, OutOfMemory>
-    ensures { IfOk result (λ s. string_bytes s ≡ clock_text shown.time.hour shown.time.minute shown.time.second (shown.time.subsec_nanosecond / 1000000)) }
+    ensures { IfOk result (λ s. string_bytes s
+        ≡ clock_text shown.time.hour shown.time.minute shown.time.second (shown.time.subsec_nanosecond / 1000000)) }
 {
     let hour = shown.hour().unsigned_abs();
     let minute = shown.minute().unsigned_abs();

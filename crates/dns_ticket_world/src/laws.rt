@@ -22,10 +22,12 @@ pub fn seats_and_tickets()
     // At most one seat has the book, and it is at home exactly where none has.
     ensures alone { (w : World) (i j : ℕ) → Holds w → i < length w.seats → j < length w.seats
         → has_book (seat_at w.seats i).phase ≡ true → has_book (seat_at w.seats j).phase ≡ true → i ≡ j }
-    ensures home { (w : World) → Holds w → (w.is_home ≡ true) ↔ ((k : ℕ) → k < length w.seats → has_book (seat_at w.seats k).phase ≡ false) }
+    ensures home { (w : World) → Holds w → (w.is_home ≡ true)
+        ↔ ((k : ℕ) → k < length w.seats → has_book (seat_at w.seats k).phase ≡ false) }
     // A seat with a ticket has one from the served one up to, but not including, the next, no other seat has that one, and
     // each such ticket is a seat's.
-    ensures out { (w : World) (k : ℕ) → Holds w → k < length w.seats → has_ticket (seat_at w.seats k).phase ≡ true → is_out w (seat_at w.seats k).ticket ≡ true }
+    ensures out { (w : World) (k : ℕ) → Holds w → k < length w.seats
+        → has_ticket (seat_at w.seats k).phase ≡ true → is_out w (seat_at w.seats k).ticket ≡ true }
     ensures one { (w : World) (i j : ℕ) → Holds w → i < length w.seats → j < length w.seats → has_ticket (seat_at w.seats i).phase ≡ true
         → has_ticket (seat_at w.seats j).phase ≡ true → (seat_at w.seats i).ticket ≡ (seat_at w.seats j).ticket → i ≡ j }
     ensures each { (w : World) (ticket : ℕ) → Holds w → ticket < 2 ^ 64 → is_out w ticket ≡ true

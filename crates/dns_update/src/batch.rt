@@ -150,7 +150,8 @@ pub fn update(alloc: Global, map: &mut ZoneMap, updates: &[Record]) -> Result<Ba
 
 /// The serial after a batch of so many records, which left this one (RFC 1982 3.1).
 fn serial_behind(serial: u32, count: usize) -> u32
-    ensures { (before : Contents) (batch : List Record) → count ≡ length batch → serial ≡ serial_of (steps before.origin before.records batch)
+    ensures { (before : Contents) (batch : List Record) → count ≡ length batch
+        → serial ≡ serial_of (steps before.origin before.records batch)
         → result ≡ serial_after_batch before.origin before.records batch }
 {
     if count == 0 {

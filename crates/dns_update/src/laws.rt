@@ -55,7 +55,8 @@ pub fn rows()
     ensures one { (origin : List (List ℕ)) (place : ℕ) (records : List Record) (rows : List JournalRow) (a b : Result (List Record) Refusal)
         → RunsTo origin place records rows a → RunsTo origin place records rows b → a ≡ b }
     // Rows after others go on where those ended.
-    ensures on { (origin : List (List ℕ)) (place : ℕ) (records : List Record) (rows more : List JournalRow) (middle : List Record) (end : Result (List Record) Refusal)
+    ensures on { (origin : List (List ℕ)) (place : ℕ) (records : List Record) (rows more : List JournalRow)
+        (middle : List Record) (end : Result (List Record) Refusal)
         → RunsTo origin place records rows (Ok middle) → RunsTo origin (place + length rows) middle more end
         → RunsTo origin place records (rows ++ more) end }
 {}
@@ -122,7 +123,8 @@ pub fn replays()
         → Replays origin (appended rows client (serial_after_batch origin records batch) stamp batch)
         (Ok (applied origin records batch (serial_after_batch origin records batch))) }
     // Grown by the batch of an update that passes, they stand for the zone that the update leaves.
-    ensures update { (origin : List (List ℕ)) (rows : List JournalRow) (client : ℕ) (stamp : List ℕ) (records : List Record) (message : Message) (allow_update : Bool)
+    ensures update { (origin : List (List ℕ)) (rows : List JournalRow) (client : ℕ) (stamp : List ℕ) (records : List Record)
+        (message : Message) (allow_update : Bool)
         → IsZone origin records → AllByRecursion ReadsBack message.authority
         → verdict_of (record { origin = origin; records = records }) message allow_update ≡ Passes → Replays origin rows (Ok records)
         → Replays origin (appended rows client (serial_after origin records message.authority) stamp (batch_of origin records message.authority))

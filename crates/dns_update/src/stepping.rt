@@ -68,7 +68,8 @@ fn delete_by_any(alloc: Global, map: &mut ZoneMap, one: &Record) -> Result<(), O
 fn delete_by_none(alloc: Global, map: &mut ZoneMap, one: &Record) -> Result<(), OutOfMemory>
     requires so_far { IsSoFar map.old.origin map.old.records }
     ensures origin { map.new.origin ≡ map.old.origin }
-    ensures records { OnOk result (map.new.records ≡ without (is_taken_by_none map.old.origin (ns_count map.old.origin map.old.records) one.now) map.old.records) }
+    ensures records { OnOk result (map.new.records
+        ≡ without (is_taken_by_none map.old.origin (ns_count map.old.origin map.old.records) one.now) map.old.records) }
     ensures so_far { IsSoFar map.new.origin map.new.records }
     ensures before { map.new.before ≡ map.old.before }
     ensures err { OnErr result (map.new ≡ map.old) }

@@ -46,7 +46,8 @@ impl Zone {
     /// all records.
     pub fn grown(&self, alloc: Global, rows: &[Row], done: u64) -> Result<Zone, ReplayFault>
         ensures origin { IfOk result (λ zone. zone.origin ≡ self.now.origin) }
-        ensures records { IfOk result (λ zone. Behind self.now done (λ front. Replays self.now.origin (front ++ rows.now) (Ok zone.records))) }
+        ensures records { IfOk result (λ zone. Behind self.now done
+            (λ front. Replays self.now.origin (front ++ rows.now) (Ok zone.records))) }
         ensures fault { IfErr result (TellsEnd (λ end. Behind self.now done (λ front. Replays self.now.origin (front ++ rows.now) end))) }
     {
         let mut replaying = Replaying::behind(alloc, self, done)?;
@@ -148,7 +149,8 @@ impl Growing {
 
     /// The zone as it was before the first of the rows. Takes no memory.
     pub fn undo(self) -> Zone
-        ensures { (records : List ZoneRecord) → self.before ≡ Some records → result ≡ record { origin = self.now.origin; records = records } }
+        ensures { (records : List ZoneRecord) → self.before ≡ Some records
+            → result ≡ record { origin = self.now.origin; records = records } }
     {
         let Growing { mut map, last: _ } = self;
         map.undo();
