@@ -1,28 +1,18 @@
 -- The words of the command line.
-use Rattle.std.specs.Prelude.{ℕ, ◌^◌, ◌&&◌, ◌||◌, List, [], ◌∷◌, Option, Some, None, Bool, true, false, if◌then◌else◌, codes}
+use Rattle.std.specs.Prelude.{ℕ, ◌^◌, ◌&&◌, ◌||◌, List, [], ◌∷◌, Option, None, Bool, true, false, if◌then◌else◌, codes}
 use Rattle.std.specs.Option.{option_map, option_and_then}
 use Rattle.std.specs.Result.{result_ok}
 use Rattle.std.specs.Str.{bytes_eq}
 use Rattle.dns_name.specs.Name.{fold_of}
 use Rattle.dns_name.specs.NameText.{name_of}
 use Rattle.dns_words.specs.Values.{decimal_of}
-use Rattle.dns_words.specs.Keys.{first_behind, is_path_word}
+use Rattle.dns_words.specs.Keys.{is_path_word, is_journal_word, names_journal}
 use Rattle.dns_audit.specs.declared.commands.Command.{Command}
 use Rattle.dns_audit.specs.declared.commands.Command.TheVariants.{PrintZone, ListBatches, Compact}
-
--- the journal that is read: `--journal=` and a path
-abbrev pub is_journal_word : List ℕ → Bool
-is_journal_word word = is_path_word (codes "--journal=") word
 
 -- the journal that is written: `--into=` and a path
 abbrev pub is_into_word : List ℕ → Bool
 is_into_word word = is_path_word (codes "--into=") word
-
--- at most the journal that is read
-abbrev pub names_journal : List (List ℕ) → Bool
-names_journal [] = true
-names_journal (word ∷ []) = is_journal_word word
-names_journal (word ∷ other ∷ words) = false
 
 -- at most the journal that is read, and then at most the one that is written
 abbrev pub names_both : List (List ℕ) → Bool
@@ -66,9 +56,3 @@ unfoldable pub command_of : List (List ℕ) → Option Command
 command_of [] = None
 command_of (word ∷ []) = None
 command_of (word ∷ origin ∷ words) = command_by word origin words
-
--- the path that a key names: what follows it in the first word that begins with it
-abbrev pub path_of : List ℕ → List (List ℕ) → Option (List ℕ)
-path_of key [] = None
-path_of key (word ∷ []) = None
-path_of key (word ∷ origin ∷ words) = first_behind key words

@@ -1,16 +1,12 @@
 //! What the words of the command line ask for. The program's name is not among them.
 
 ghost use Rattle.std.specs.Prelude.{◌≡◌, IfOk, map, string_bytes};
-ghost use Rattle.std.specs.Option.{option_map};
-ghost use Rattle.dns_audit.specs.Commands.{is_journal_word, is_into_word, names_journal, names_both, origin_of, length_of, zone_by, list_by, compact_by, command_of, path_of};
+ghost use Rattle.dns_audit.specs.Commands.{is_into_word, names_both, origin_of, length_of, zone_by, list_by, compact_by, command_of};
 
 use dns_io::OutOfMemory;
 use dns_name::{Name, ProtoError};
-use dns_words::{decimal_of, first_behind, is_path_word};
+use dns_words::{decimal_of, is_journal_word, is_path_word, names_journal};
 use std::alloc::Global;
-
-/// The key of the path of the journal that is read.
-pub const JOURNAL: &str = "--journal=";
 
 /// The key of the path of the journal that is written.
 pub const INTO: &str = "--into=";
@@ -122,17 +118,6 @@ fn length_of(word: &str) -> Option<u64>
     decimal_of(u64::MAX as u128 + 1, word.as_bytes())
 }
 
-/// Whether these words are at most the journal that is read.
-fn names_journal(words: &[String]) -> bool
-    ensures { result ≡ names_journal (map string_bytes words.now) }
-{
-    match words {
-        [] => true,
-        [word] => is_journal_word(word.as_str()),
-        _ => false,
-    }
-}
-
 /// Whether these words are at most the journal that is read, and then at most the one that is written.
 fn names_both(words: &[String]) -> bool
     ensures { result ≡ names_both (map string_bytes words.now) }
@@ -145,25 +130,8 @@ fn names_both(words: &[String]) -> bool
     }
 }
 
-fn is_journal_word(word: &str) -> bool
-    ensures { result ≡ is_journal_word word.now }
-{
-    is_path_word(word, JOURNAL)
-}
-
 fn is_into_word(word: &str) -> bool
     ensures { result ≡ is_into_word word.now }
 {
     is_path_word(word, INTO)
-}
-
-/// The path that a key names, as `--journal=`: what follows it in the first word that begins with it. The first two words, which are the
-/// command and the origin, are passed over.
-pub fn path_of<'a>(words: &'a [String], key: &str) -> Option<&'a str>
-    ensures { option_map (λ path. path.now) result ≡ path_of key.now (map string_bytes words.now) }
-{
-    match words {
-        [_, _, words @ ..] => first_behind(words, key),
-        _ => None,
-    }
 }

@@ -17,9 +17,10 @@ mod status;
 
 pub use at_length::zone_at;
 pub use auditing::audit;
-pub use commands::{Command, INTO, JOURNAL, command_of, path_of};
+pub use commands::{Command, INTO, command_of};
 pub use compacting::compact;
 pub use dns_store::ListedBatch;
+pub use dns_words::{JOURNAL, path_of};
 pub use fault::AuditFault;
 pub use help::{HELP, VERSION};
 pub use listing::list;

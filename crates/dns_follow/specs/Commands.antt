@@ -1,24 +1,14 @@
 -- The words of the command line.
-use Rattle.std.specs.Prelude.{ℕ, ◌≤◌, ◌^◌, nat_le, List, [], ◌∷◌, Option, Some, None, Bool, true, false, if◌then◌else◌, codes}
+use Rattle.std.specs.Prelude.{ℕ, ◌≤◌, ◌^◌, nat_le, List, [], ◌∷◌, Option, Some, None, if◌then◌else◌, codes}
 use Rattle.std.specs.Option.{option_map, option_and_then}
 use Rattle.std.specs.Result.{result_ok}
 use Rattle.std.specs.Str.{bytes_eq}
 use Rattle.dns_name.specs.Name.{fold_of}
 use Rattle.dns_name.specs.NameText.{name_of}
 use Rattle.dns_words.specs.Values.{decimal_of}
-use Rattle.dns_words.specs.Keys.{first_behind, is_path_word}
+use Rattle.dns_words.specs.Keys.{names_journal}
 use Rattle.dns_follow.specs.declared.commands.Command.{Command}
 use Rattle.dns_follow.specs.declared.commands.Command.TheVariants.{Feed, Follow}
-
--- the journal: `--journal=` and a path
-abbrev pub is_journal_word : List ℕ → Bool
-is_journal_word word = is_path_word (codes "--journal=") word
-
--- at most the journal
-abbrev pub names_journal : List (List ℕ) → Bool
-names_journal [] = true
-names_journal (word ∷ []) = is_journal_word word
-names_journal (word ∷ other ∷ words) = false
 
 -- the folded name of a text, where it is a name's (RFC 1035 5.1, 2.3.3)
 abbrev pub origin_of : List ℕ → Option (List (List ℕ))
@@ -59,9 +49,3 @@ command_of (word ∷ origin ∷ words) = command_by word origin words
 abbrev pub HasFrom : Command → Type 0
 HasFrom (Feed origin from) = 1 ≤ from
 HasFrom (Follow origin) = Unit {0}
-
--- the path that a key names: what follows it in the first word that begins with it
-abbrev pub path_of : List ℕ → List (List ℕ) → Option (List ℕ)
-path_of key [] = None
-path_of key (word ∷ []) = None
-path_of key (word ∷ origin ∷ words) = first_behind key words

@@ -1,16 +1,12 @@
 //! What the words of the command line ask for. The program's name is not among them.
 
 ghost use Rattle.std.specs.Prelude.{◌≡◌, ◌≤◌, IfOk, IfSome, map, string_bytes};
-ghost use Rattle.std.specs.Option.{option_map};
-ghost use Rattle.dns_follow.specs.Commands.{HasFrom, is_journal_word, names_journal, origin_of, id_of, feed_by, follow_by, command_of, path_of};
+ghost use Rattle.dns_follow.specs.Commands.{HasFrom, origin_of, id_of, feed_by, follow_by, command_of};
 
 use dns_io::OutOfMemory;
 use dns_name::{Name, ProtoError};
-use dns_words::{decimal_of, first_behind, is_path_word};
+use dns_words::{decimal_of, names_journal};
 use std::alloc::Global;
-
-/// The key of the path of the journal.
-pub const JOURNAL: &str = "--journal=";
 
 /// What is asked for.
 #[derive(Debug, Drop)]
@@ -102,33 +98,5 @@ fn id_of(word: &str) -> Option<u64>
     match decimal_of(u64::MAX as u128 + 1, word.as_bytes()) {
         Some(number) => { if 1 <= number { Some(number) } else { None } }
         None => None,
-    }
-}
-
-/// Whether these words are at most the journal.
-fn names_journal(words: &[String]) -> bool
-    ensures { result ≡ names_journal (map string_bytes words.now) }
-{
-    match words {
-        [] => true,
-        [word] => is_journal_word(word.as_str()),
-        _ => false,
-    }
-}
-
-fn is_journal_word(word: &str) -> bool
-    ensures { result ≡ is_journal_word word.now }
-{
-    is_path_word(word, JOURNAL)
-}
-
-/// The path that a key names, as `--journal=`: what follows it in the first word that begins with it. The first two words, which are the
-/// command and the origin, are passed over.
-pub fn path_of<'a>(words: &'a [String], key: &str) -> Option<&'a str>
-    ensures { option_map (λ path. path.now) result ≡ path_of key.now (map string_bytes words.now) }
-{
-    match words {
-        [_, _, words @ ..] => first_behind(words, key),
-        _ => None,
     }
 }

@@ -36,7 +36,7 @@ pub fn followed_feeds()
         → (Rose s.told.faults t.told.faults → ⊥) → All IsNoWant more → StoreWanted (want s) more }
 {}
 
-/// The same of a follower that was opened on rows that it had stored of the same feed, or on none: that is a start too.
+/// The same of a follower that was opened on rows that it had stored of the same feed, or on none.
 pub fn followed_on()
     // It has a front of the journal's rows, stamps aside, that is empty or ends with a batch, and no payload was refused.
     ensures behind { (origin : List (List ℕ)) (rows : List JournalRow) (batches : List Batch) (steps : List Step) (s t : State)

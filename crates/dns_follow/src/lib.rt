@@ -23,7 +23,8 @@ mod status;
 mod taking;
 
 pub use answer::{FollowFault, Taken};
-pub use commands::{Command, JOURNAL, command_of, path_of};
+pub use commands::{Command, command_of};
+pub use dns_words::{JOURNAL, path_of};
 pub use feed_fault::FeedFault;
 pub use feeding::feed;
 pub use follower::Follower;

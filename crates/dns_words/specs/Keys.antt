@@ -1,5 +1,5 @@
--- Words that begin with a key.
-use Rattle.std.specs.Prelude.{List, [], ◌∷◌, ℕ, length, take, drop, nat_lt, Bool, false, Option, Some, None, if◌then◌else◌}
+-- Words that begin with a key, and those that name a journal.
+use Rattle.std.specs.Prelude.{List, [], ◌∷◌, ℕ, length, take, drop, nat_lt, Bool, true, false, Option, Some, None, if◌then◌else◌, codes}
 use Rattle.std.specs.Option.{option_map_or}
 use Rattle.std.specs.Str.{bytes_eq}
 
@@ -15,3 +15,17 @@ first_behind key (word ∷ words) = elim (behind key word) [ Some rest ↦ Some 
 -- a key and a path that isn't empty
 abbrev pub is_path_word : List ℕ → List ℕ → Bool
 is_path_word key word = option_map_or (λ path. nat_lt 0 (length path)) (behind key word) false
+
+-- the journal: `--journal=` and a path
+abbrev pub is_journal_word : List ℕ → Bool
+is_journal_word word = is_path_word (codes "--journal=") word
+
+-- at most the journal
+abbrev pub names_journal : List (List ℕ) → Bool
+names_journal [] = true
+names_journal (word ∷ []) = is_journal_word word
+names_journal (word ∷ other ∷ words) = false
+
+-- the path that a key names: what follows it in the first word behind the command and the origin that begins with it
+abbrev pub path_of : List ℕ → List (List ℕ) → Option (List ℕ)
+path_of key words = first_behind key (drop 2 words)

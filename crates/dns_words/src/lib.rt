@@ -9,7 +9,9 @@ mod values;
 mod written;
 
 pub use actions::{Action, action_of, command_words, unread_words};
-pub use keys::{behind, first_behind, is_path_word};
+pub use keys::{
+    JOURNAL, behind, first_behind, is_journal_word, is_path_word, names_journal, path_of,
+};
 pub use texts::{ended, put_line, put_text, put_whole};
 pub use values::{address_of, bytes_of, decimal_of, digits_below, first_place, ip_of, peer_of};
 pub use written::{hex_word, hex_words};
