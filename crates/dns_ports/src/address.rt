@@ -8,7 +8,7 @@ use dns_io::{Ip, Peer};
 use std::net::{IpAddr, Ipv4Addr, Ipv6Addr, SocketAddr};
 
 /// The peer at a socket address.
-pub(crate) fn peer_at(address: SocketAddr) -> Peer
+pub fn peer_at(address: SocketAddr) -> Peer
     ensures ip { result.ip ≡ ip_of (socket_ip address) }
     ensures port { result.port ≡ socket_port address }
 {
@@ -23,7 +23,7 @@ pub(crate) fn peer_at(address: SocketAddr) -> Peer
 }
 
 /// The socket address of a peer.
-pub(crate) fn address_of(peer: Peer) -> SocketAddr
+pub fn address_of(peer: Peer) -> SocketAddr
     ensures ip { HasBytes (socket_ip result) peer.ip }
     ensures port { socket_port result ≡ peer.port }
 {

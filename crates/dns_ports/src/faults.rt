@@ -11,7 +11,7 @@ use dns_io::IoFault;
 use std::io::ErrorKind;
 
 /// Hands the outcome on, and counts it where it is `Failed`.
-pub(crate) fn count<T>(outcome: Result<T, IoFault>, faults: &mut u64) -> Result<T, IoFault>
+pub fn count<T>(outcome: Result<T, IoFault>, faults: &mut u64) -> Result<T, IoFault>
     ensures outcome { result ≡ outcome }
     ensures faults { faults.new ≡ counted faults.old result }
     ensures cause { HasCause faults.old faults.new result }
@@ -23,7 +23,7 @@ pub(crate) fn count<T>(outcome: Result<T, IoFault>, faults: &mut u64) -> Result<
 }
 
 /// The count of faults of a hub after a port with this count was taken back.
-pub(crate) fn faults_behind(faults: u64, port: u64) -> u64
+pub fn faults_behind(faults: u64, port: u64) -> u64
     ensures next { result ≡ faults_behind faults port }
     ensures cause { CountsPort port faults result }
 {

@@ -17,7 +17,9 @@ mod socket_hub;
 mod socket_port;
 mod stop_token;
 
+pub use address::{address_of, peer_at};
 pub use connection::{ConnectionInput, ConnectionOutput};
+pub use faults::{count, faults_behind};
 pub use hub::{Hub, Opening};
 pub use listener_port::ListenerPort;
 pub use memory_hub::MemoryHub;

@@ -49,7 +49,7 @@ impl<R> ListenerPort<R> {
     }
 
     /// How many calls failed.
-    pub(crate) fn faults(&self) -> u64
+    pub fn faults(&self) -> u64
         ensures { result ≡ self.now.faults }
     {
         self.faults

@@ -40,8 +40,8 @@ impl<R> Model for SocketPort<R> {
 }
 
 impl<R: Net + rt::Clock + Copy> SocketPort<R> {
-    /// A socket at this address.
-    pub(crate) fn open(runtime: R, at: Peer, stop: &StopToken) -> Result<SocketPort<R>, IoFault>
+    /// A socket at this address, which this token stops.
+    pub fn open(runtime: R, at: Peer, stop: &StopToken) -> Result<SocketPort<R>, IoFault>
         ensures { IfOk result (λ port. port ≡ 0) }
     {
         let socket = bound(&runtime, at)?;
@@ -62,7 +62,7 @@ impl<R> SocketPort<R> {
     }
 
     /// How many calls failed.
-    pub(crate) fn faults(&self) -> u64
+    pub fn faults(&self) -> u64
         ensures { result ≡ self.now }
     {
         self.faults

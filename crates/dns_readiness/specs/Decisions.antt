@@ -1,5 +1,5 @@
 -- What the connections of the operating system decide, and what they count.
-use Rattle.std.specs.Prelude.{ℕ, ◌+◌, ◌-◌, ◌^◌, min, max, nat_le, nat_lt, nat_eq, if◌then◌else◌, Bool, false, ◌&&◌, ◌||◌, Option, Some, None}
+use Rattle.std.specs.Prelude.{ℕ, List, [], ◌+◌, ◌-◌, ◌^◌, min, max, nat_le, nat_lt, nat_eq, if◌then◌else◌, Bool, false, ◌&&◌, ◌||◌, Option, Some, None}
 use Rattle.std.specs.declared.io.ErrorKind.{ErrorKind}
 use Rattle.std.specs.declared.io.ErrorKind.TheVariants as kind
 use Rattle.dns_readiness.specs.declared.decisions.Outcome.{Outcome}
@@ -9,13 +9,23 @@ use Rattle.dns_readiness.specs.declared.decisions.Refusal.TheVariants as refusal
 use Rattle.dns_readiness.specs.declared.link.Stage.{Stage}
 use Rattle.dns_readiness.specs.declared.link.Stage.TheVariants.{Open, Closing, Draining}
 
+-- a connection: its number, the moment at which it was last heard, how many bytes it is owed, its stage, and whether it broke
+pub record LinkSeen : Type 0 where
+  pub number : ℕ
+  pub heard : ℕ
+  pub owed : ℕ
+  pub stage : Stage
+  pub broken : Bool
+
 -- what is seen of them: the last moment and the greatest number that were given, the last reading of the clock, the limit of a
--- connection, how many are open, of at most how many, whether they ended, and how many calls failed
+-- connection, the open ones, in the order in which they were accepted, how many these are, of at most how many, whether they ended, and how
+-- many calls failed
 pub record SocketState : Type 0 where
   pub last : ℕ
   pub greatest : Option ℕ
   pub reading : ℕ
   pub limit : ℕ
+  pub links : List LinkSeen
   pub open_now : ℕ
   pub most : ℕ
   pub ended : Bool
@@ -24,7 +34,7 @@ pub record SocketState : Type 0 where
 -- those of a listener to which none came yet, by the limit and the most that are open
 abbrev pub new_crowd : ℕ → ℕ → SocketState
 new_crowd limit most =
-    record { last = 0; greatest = None; reading = 0; limit = limit; open_now = 0; most = most; ended = false; faults = 0 }
+    record { last = 0; greatest = None; reading = 0; limit = limit; links = []; open_now = 0; most = most; ended = false; faults = 0 }
 
 -- what becomes of a read or a write of a connection after an error of this kind: it is made again at once, or once the connection is
 -- ready, or the connection is over
@@ -97,7 +107,7 @@ number_behind (Some greatest) = if nat_lt (greatest + 1) (2 ^ 32) then Some (gre
 
 -- how many bytes may wait to be taken by a peer
 abbrev pub most_unsent : ℕ
-most_unsent = 262144
+most_unsent = 1048576
 
 abbrev pub is_too_much : ℕ → ℕ → Bool
 is_too_much unsent more = nat_lt most_unsent (unsent + more)

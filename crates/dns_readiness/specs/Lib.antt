@@ -2,3 +2,4 @@ pub mod Came
 pub mod Decisions
 pub mod Links
 pub mod Steps
+pub mod Order

@@ -1,18 +1,10 @@
 -- What is seen of connections, and which one gives its place to another.
-use Rattle.std.specs.Prelude.{◌≡◌, ◌≤◌, ◌<◌, ℕ, List, length, true, false, Bool, ◌||◌, nat_eq, if◌then◌else◌, slice_index_or, Option, Some, None}
-use Rattle.dns_readiness.specs.Decisions.{is_late}
+use Rattle.std.specs.Prelude.{◌≡◌, ◌≢◌, ◌≤◌, ◌<◌, ℕ, List, length, true, false, Bool, not, ◌||◌, nat_eq, if◌then◌else◌, slice_index_or, Option, Some, None}
+use Rattle.dns_readiness.specs.Decisions.{LinkSeen, is_late}
 use Rattle.dns_readiness.specs.declared.came.Came.{Came}
 use Rattle.dns_readiness.specs.declared.came.Came.TheVariants.{Ended}
 use Rattle.dns_readiness.specs.declared.link.Stage.{Stage}
 use Rattle.dns_readiness.specs.declared.link.Stage.TheVariants.{Open, Closing, Draining}
-
--- a connection: its number, the moment at which it was last heard, how many bytes it is owed, its stage, and whether it broke
-pub record LinkSeen : Type 0 where
-  pub number : ℕ
-  pub heard : ℕ
-  pub owed : ℕ
-  pub stage : Stage
-  pub broken : Bool
 
 -- it is owed nothing
 abbrev pub is_free : LinkSeen → Bool
@@ -36,6 +28,10 @@ abbrev pub is_served : Stage → Bool
 is_served Open = true
 is_served Closing = false
 is_served Draining = false
+
+-- it is owed something, or it was closed, or it broke
+abbrev pub is_watched : LinkSeen → Bool
+is_watched one = one.broken || not (is_free one) || not (is_served one.stage)
 
 -- what is told of its end
 abbrev pub end_of : Stage → ℕ → ℕ → Option Came
@@ -66,6 +62,20 @@ link_at all place = slice_index_or all place unseen
 pub record IsAt (all : List LinkSeen) (number place : ℕ) : Type 0 where
   pub inside : place < length all
   pub same : (link_at all place).number ≡ number
+
+-- of those that are owed nothing none was silent since before a moment
+abbrev pub IsFloor : ℕ → List LinkSeen → Type 0
+IsFloor floor all = (place : ℕ) → place < length all → is_free (link_at all place) ≡ true → floor ≤ since (link_at all place)
+
+-- as many connections, and each as it was, but for the one in a place
+pub record ChangesAt (place : ℕ) (before after : List LinkSeen) : Type 0 where
+  pub count : length after ≡ length before
+  pub others : (other : ℕ) → other ≢ place → link_at after other ≡ link_at before other
+
+-- as many connections, and each as it was, but for the one of a number
+pub record ChangesOne (number : ℕ) (before after : List LinkSeen) : Type 0 where
+  pub count : length after ≡ length before
+  pub others : (place : ℕ) → (link_at before place).number ≢ number → link_at after place ≡ link_at before place
 
 -- among the first so many: the place of the one that was silent for the longest time, of those that are owed nothing
 pub record IsOldestBelow (all : List LinkSeen) (bound place : ℕ) : Type 0 where

@@ -6,10 +6,10 @@ use Rattle.dns_readiness.specs.declared.came.Came.{Came as Event}
 use Rattle.dns_readiness.specs.declared.socket_crowd.Step.{Step}
 use Rattle.dns_readiness.specs.declared.socket_crowd.Step.TheVariants.{Came, Stopped, Nothing}
 
--- the clock was read, if anything, and connections came or went: nothing else that is seen has changed
+-- the clock was read, if anything, and connections came, went or changed: nothing else that is seen has changed
 pub record HasMoved (before after : SocketState) : Type 0 where
   pub later : before.reading ≤ after.reading
-  pub same : after ≡ record before { reading = after.reading; open_now = after.open_now }
+  pub same : after ≡ record before { reading = after.reading; links = after.links; open_now = after.open_now }
 
 -- what came at the last reading of the clock may come next, into a room for so many bytes
 pub record MayCome (state : SocketState) (room : ℕ) (came : Event) : Type 0 where

@@ -12,7 +12,7 @@ use std::io::ErrorKind;
 const WAIT: u64 = 100;
 
 /// How many bytes may wait to be taken by a peer.
-const MOST_UNSENT: u64 = 262_144;
+const MOST_UNSENT: u64 = 1_048_576;
 
 /// For how many milliseconds a connection that is closed may still send.
 const DRAINING: u64 = 1_000;

@@ -5,8 +5,10 @@ mod came;
 mod decisions;
 mod link;
 mod links;
+mod order;
 mod peers;
 mod socket_crowd;
 
 pub use came::Came;
+pub use order::Order;
 pub use socket_crowd::SocketCrowd;

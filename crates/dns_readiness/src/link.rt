@@ -1,8 +1,8 @@
 //! One connection of the operating system.
 
-ghost use Rattle.std.specs.Prelude.{◌≡◌, ◌≤◌, ◌-◌, max, length, true, OnErr};
+ghost use Rattle.std.specs.Prelude.{◌≡◌, ◌≤◌, ◌-◌, max, length, true, false, ℕ, OnErr};
 ghost use Rattle.dns_readiness.specs.Decisions.{most_unsent};
-ghost use Rattle.dns_readiness.specs.Links.{closed_from, drained_from, end_of, is_over, is_served, since};
+ghost use Rattle.dns_readiness.specs.Links.{closed_from, drained_from, end_of, is_over, is_served, is_watched, since};
 ghost use Rattle.dns_readiness.specs.declared.came.Came.TheVariants.{Bytes};
 
 use crate::came::Came;
@@ -45,7 +45,7 @@ pub(crate) struct Link {
 
 impl Model for Link {
     ghost use Rattle.std.specs.Prelude.{length};
-    ghost use Rattle.dns_readiness.specs.Links.{LinkSeen};
+    ghost use Rattle.dns_readiness.specs.Decisions.{LinkSeen};
 
     ghost Value = { LinkSeen };
 
@@ -112,6 +112,14 @@ impl Link {
             Stage::Closing => false,
             Stage::Draining => false,
         }
+    }
+
+    /// Whether it is owed something, was closed, or broke: no other can be over, whatever the time.
+    pub(crate) fn is_watched(&self) -> bool
+        ensures is { result ≡ is_watched self.now }
+        ensures others { result ≡ false → (patience now : ℕ) → is_over patience now self.now ≡ false }
+    {
+        self.broken || !self.unsent.is_empty() || !self.is_served()
     }
 
     /// Whether it is over: it broke, or it was silent for too long.

@@ -1,10 +1,14 @@
 //! Connections of the operating system, in order of their numbers.
 
-ghost use Rattle.std.specs.Prelude.{◌≡◌, ◌≤◌, ◌<◌, ◌+◌, length, not, ◌||◌, filter, IfSome};
+ghost use Rattle.std.specs.Prelude.{◌≡◌, ◌≤◌, ◌<◌, ◌+◌, length, not, ◌||◌, ℕ, filter, IfSome, OnErr, OnOk};
 ghost use Rattle.std.specs.List.{list_any, position_from};
-ghost use Rattle.dns_readiness.specs.Links.{GivesWay, GivesWayBelow, IsAt, is_free, is_over, is_served};
+ghost use Rattle.dns_readiness.specs.Links.{GivesWay, GivesWayBelow, IsAt, IsFloor, is_free, is_over, is_served, is_watched, since};
 
 use crate::link::Link;
+use dns_io::OutOfMemory;
+
+/// How many are looked at before all are.
+const FEW: usize = 64;
 
 /// Where the connection of a number stands.
 pub(crate) fn place_of(links: &[Link], number: u32) -> Option<usize>
@@ -34,6 +38,13 @@ pub(crate) fn any_free(links: &[Link]) -> bool
     links.iter().any(|link| link.owed() == 0)
 }
 
+/// Whether one is owed something, was closed, or broke.
+pub(crate) fn any_watched(links: &[Link]) -> bool
+    ensures { result ≡ list_any is_watched links.now }
+{
+    links.iter().any(|link| link.is_watched())
+}
+
 /// Where the one stands that was silent for the longest time, among those that are owed nothing.
 pub(crate) fn oldest(links: &[Link]) -> Option<usize>
     ensures { GivesWay links.now result }
@@ -43,6 +54,49 @@ pub(crate) fn oldest(links: &[Link]) -> Option<usize>
         found = older_of(links, found, place);
     }
     found
+}
+
+/// The same, where none that is owed nothing was silent since before `floor`: one that was silent since then, if a few from a place on have
+/// such a one, and else all are looked at. Those that came at once stand side by side, so that for newcomers that come at once all are
+/// looked at about once.
+pub(crate) fn oldest_from(links: &[Link], floor: u64, from: usize) -> Option<usize>
+    requires { IsFloor floor links.now }
+    ensures { GivesWay links.now result }
+{
+    let end = links.len().min(from.saturating_add(FEW));
+    for place in from..end {
+        if links[place].owed() == 0 && links[place].since() <= floor {
+            return Some(place);
+        }
+    }
+    oldest(links)
+}
+
+/// The moment since which one was silent, if it is before another one, and else that one.
+pub(crate) fn lower(floor: u64, link: &Link) -> u64
+    ensures below { result ≤ floor }
+    ensures within { result ≤ since link.now }
+{
+    floor.min(link.since())
+}
+
+/// Puts one behind the others.
+pub(crate) fn put_last(links: &mut Vec<Link>, link: Link) -> Result<(), OutOfMemory>
+    ensures more { OnOk result (length links.new.items ≡ length links.old.items + 1) }
+    ensures floor { OnOk result ((floor : ℕ) → IsFloor floor links.old.items → floor ≤ since link → IsFloor floor links.new.items) }
+    ensures err { OnErr result (links.new.items ≡ links.old.items) }
+{
+    links.push(link)?;
+    Ok(())
+}
+
+/// Takes one out of its place.
+pub(crate) fn take_out(links: &mut Vec<Link>, place: usize) -> Link
+    requires { place < length links.old.items }
+    ensures few { length links.new.items + 1 ≡ length links.old.items }
+    ensures floor { (floor : ℕ) → IsFloor floor links.old.items → IsFloor floor links.new.items }
+{
+    links.remove(place)
 }
 
 /// The place that was found before this one, or this one, if it is owed nothing and was silent for longer, or none was found.

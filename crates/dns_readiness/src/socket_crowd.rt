@@ -4,6 +4,7 @@ ghost use Rattle.std.specs.Prelude.{◌≡◌, ◌≤◌, ◌<◌, ◌+◌, ◌^
 ghost use Rattle.dns_edges.specs.Edges.{HasCause};
 ghost use Rattle.dns_readiness.specs.Came.{IsGreater, IsNext, greatest_with, last_with};
 ghost use Rattle.dns_readiness.specs.Decisions.{new_crowd};
+ghost use Rattle.dns_readiness.specs.Links.{ChangesAt, ChangesOne, GivesWay};
 ghost use Rattle.dns_readiness.specs.Steps.{HasMoved, StepsTo};
 ghost use Rattle.dns_io.specs.declared.io_fault.IoFault.TheVariants.{OutOfMemory};
 
@@ -13,7 +14,10 @@ use crate::decisions::{
     reads_on, ready_after, transfer_after, wait_with,
 };
 use crate::link::{Link, Stage};
-use crate::links::{any_free, drop_closed, first_over, oldest, place_of};
+use crate::links::{
+    any_free, any_watched, drop_closed, first_over, lower, oldest_from, place_of, put_last,
+    take_out,
+};
 use crate::peers::peer_at;
 use dns_io::IoFault;
 use dns_ports::StopToken;
@@ -34,6 +38,9 @@ const EVENTS: usize = 256;
 
 /// How many bytes one read brings at most.
 const MOST_BYTES: usize = 65_535;
+
+/// For how many connections there is room from the beginning at most, so that their table leaves no outgrown ones behind.
+const MOST_RESERVED: usize = 65_537;
 
 /// A descriptor that is ready.
 #[derive(Clone, Copy)]
@@ -82,6 +89,12 @@ pub struct SocketCrowd<R> {
     asked: usize,
     /// Some may be over by their silence.
     sweeping: bool,
+    /// Some may be owed something, closed or broken: no other can be over.
+    restless: bool,
+    /// Of those that are owed nothing none was silent since before this moment.
+    floor: u64,
+    /// The place of the one that gave way last: those that were silent since the same moment are looked for from there on.
+    from: usize,
     began: Instant,
     ticked: u64,
     reading: u64,
@@ -96,6 +109,7 @@ pub struct SocketCrowd<R> {
 impl<R> Model for SocketCrowd<R> {
     ghost use Rattle.std.specs.Prelude.{◌≤◌, ◌<◌, ◌+◌, ◌^◌, length};
     ghost use Rattle.dns_readiness.specs.Decisions.{SocketState};
+    ghost use Rattle.dns_readiness.specs.Links.{IsFloor};
 
     ghost Value = { SocketState };
 
@@ -104,6 +118,7 @@ impl<R> Model for SocketCrowd<R> {
       greatest = s.greatest;
       reading = s.reading;
       limit = s.limit;
+      links = s.links.items;
       open_now = length s.links.items;
       most = s.most;
       ended = s.ended;
@@ -111,7 +126,7 @@ impl<R> Model for SocketCrowd<R> {
     } };
 
     ghost invariant = { λ s. (s.last ≤ s.reading) × (s.reading < 2 ^ 47) × (s.ticked ≤ s.reading) × (s.limit < 2 ^ 47)
-        × (length s.links.items ≤ s.most + 1) };
+        × (length s.links.items ≤ s.most + 1) × IsFloor s.floor s.links.items };
 }
 
 impl<R: Net + Clock + Copy> SocketCrowd<R> {
@@ -133,6 +148,10 @@ impl<R: Net + Clock + Copy> SocketCrowd<R> {
             .register(&mut listener, LISTENER, Interest::READABLE)?;
         let began = Instant::now(&runtime)?;
         let events = room_for_events(alloc)?;
+        let mut links = Vec::new(alloc);
+        if links.reserve(most.min(MOST_RESERVED)).is_err() {
+            return Err(IoFault::OutOfMemory);
+        }
         Ok(SocketCrowd {
             alloc,
             runtime,
@@ -140,13 +159,16 @@ impl<R: Net + Clock + Copy> SocketCrowd<R> {
             poll,
             events,
             listener,
-            links: Vec::new(alloc),
+            links,
             most,
             ready: Vec::new(alloc),
             again: Vec::new(alloc),
             accepting: true,
             asked: 0,
             sweeping: false,
+            restless: false,
+            floor: 0,
+            from: 0,
             began,
             ticked: 0,
             reading: 0,
@@ -224,7 +246,7 @@ impl<R: Net + Clock + Copy> SocketCrowd<R> {
             return Ok(self.sweep());
         }
         if self.links.len() > self.most {
-            if let Some(place) = oldest(self.links.as_slice()) {
+            if let Some(place) = self.place_that_gives_way() {
                 return Ok(self.end(place));
             }
         }
@@ -256,8 +278,12 @@ impl<R: Net + Clock + Copy> SocketCrowd<R> {
         if is_due(self.reading, self.ticked) {
             self.ticked = self.reading;
             self.accepting = true;
-            self.sweeping = true;
-            drop_closed(&mut self.links, patience_of(self.limit), self.reading);
+            if self.restless {
+                self.sweeping = true;
+                drop_closed(&mut self.links, patience_of(self.limit), self.reading);
+                self.floor = 0;
+                self.from = 0;
+            }
             return Ok(Step::Came(Came::Tick { at: self.reading }));
         }
         Ok(Step::Nothing)
@@ -298,7 +324,8 @@ impl<R: Net + Clock + Copy> SocketCrowd<R> {
         Ok(())
     }
 
-    /// Ends the first connection that is over by its silence, or that broke.
+    /// Ends the first connection that is over by its silence, or that broke. Where none is, and none can become so by silence alone, none is
+    /// looked at again until one is owed something, or closed, or breaks.
     fn sweep(&mut self) -> Step
         ensures moved { HasMoved self.old self.new }
         ensures next { StepsTo self.new 0 result }
@@ -307,6 +334,7 @@ impl<R: Net + Clock + Copy> SocketCrowd<R> {
             Some(place) => self.end(place),
             None => {
                 self.sweeping = false;
+                self.restless = any_watched(self.links.as_slice());
                 Step::Nothing
             }
         }
@@ -377,7 +405,8 @@ impl<R: Net + Clock + Copy> SocketCrowd<R> {
             last: false,
             noted: false,
         };
-        if self.links.push(link).is_err() {
+        self.floor = lower(self.floor, &link);
+        if put_last(&mut self.links, link).is_err() {
             return Err(IoFault::OutOfMemory);
         }
         Ok(Step::Came(Came::Accepted {
@@ -401,10 +430,22 @@ impl<R: Net + Clock + Copy> SocketCrowd<R> {
         ensures moved { HasMoved self.old self.new }
         ensures next { StepsTo self.new 0 result }
     {
-        match oldest(self.links.as_slice()) {
+        match self.place_that_gives_way() {
             Some(place) => self.end(place),
             None => Step::Nothing,
         }
+    }
+
+    /// Where the one stands that was silent for the longest time and is owed nothing, if there is one.
+    fn place_that_gives_way(&mut self) -> Option<usize>
+        ensures place { GivesWay self.old.links result }
+        ensures inside { IfSome result (λ place. place < self.old.open_now) }
+        ensures same { self.new ≡ self.old }
+    {
+        let place = oldest_from(self.links.as_slice(), self.floor, self.from)?;
+        self.floor = self.links[place].since();
+        self.from = place;
+        Some(place)
     }
 
     /// Ends the connection in a place. Of one that was closed nothing is told.
@@ -414,7 +455,7 @@ impl<R: Net + Clock + Copy> SocketCrowd<R> {
         ensures next { StepsTo self.new 0 result }
         ensures gone { self.new.open_now + 1 ≡ self.old.open_now }
     {
-        let link = self.links.remove(place);
+        let link = take_out(&mut self.links, place);
         match link.end(self.reading) {
             Some(came) => Step::Came(came),
             None => Step::Nothing,
@@ -442,6 +483,7 @@ impl<R: Net + Clock + Copy> SocketCrowd<R> {
         let link = &mut self.links[place];
         link.last = link.last || ready.last;
         link.noted = link.noted && !ready.noted;
+        self.floor = lower(self.floor, &*link);
         if link.broken {
             return Ok(self.end(place));
         }
@@ -476,6 +518,7 @@ impl<R: Net + Clock + Copy> SocketCrowd<R> {
                     return Ok(Step::Nothing);
                 }
                 link.hear(now);
+                self.floor = lower(self.floor, &*link);
                 Ok(Step::Came(link.bytes(now, count)))
             }
             Err(error) => match transfer_after(error.kind()) {
@@ -502,6 +545,7 @@ impl<R: Net + Clock + Copy> SocketCrowd<R> {
             Ok(0) => self.end(place),
             Ok(count) => {
                 link.take(alloc, count, now);
+                self.floor = lower(self.floor, &*link);
                 self.listen_again(place);
                 Step::Nothing
             }
@@ -520,7 +564,8 @@ impl<R: Net + Clock + Copy> SocketCrowd<R> {
     /// tells nothing any more is over.
     fn listen_again(&mut self, place: usize)
         requires { place < self.old.open_now }
-        ensures { self.new ≡ self.old }
+        ensures moved { self.new ≡ record self.old { links = self.new.links } }
+        ensures others { ChangesAt place self.old.links self.new.links }
     {
         let link = &mut self.links[place];
         let interest = if link.unsent.is_empty() {
@@ -535,14 +580,17 @@ impl<R: Net + Clock + Copy> SocketCrowd<R> {
             .reregister(&mut link.stream, token, interest);
         if asked.is_err() {
             link.break_off();
+            self.restless = true;
+            self.floor = lower(self.floor, &*link);
         }
     }
 
     /// Hands a connection these bytes for its peer; one that is not served lets them go. What the peer does not take at once is kept, and
-    /// nothing is read of the connection until it is gone. One that would have more than 262,144 bytes to wait for is over, which the next
+    /// nothing is read of the connection until it is gone. One that would have more than 1,048,576 bytes to wait for is over, which the next
     /// tick tells. After an error it is over too, and a part of the bytes may have been sent.
     pub fn send_to(&mut self, conn: u32, bytes: &[u8]) -> Result<(), IoFault>
-        ensures moved { self.new ≡ self.old }
+        ensures moved { self.new ≡ record self.old { links = self.new.links } }
+        ensures others { ChangesOne conn self.old.links self.new.links }
         ensures memory { IfErr result (λ fault. fault ≡ OutOfMemory) }
     {
         let Some(place) = place_of(self.links.as_slice(), conn) else {
@@ -552,20 +600,29 @@ impl<R: Net + Clock + Copy> SocketCrowd<R> {
         if link.broken || !link.is_served() {
             return Ok(());
         }
-        link.send(bytes)?;
+        let sent = link.send(bytes);
+        self.floor = lower(self.floor, &*link);
+        if link.is_watched() {
+            self.restless = true;
+        }
         if link.owed() > 0 {
             self.listen_again(place);
         }
+        sent?;
         Ok(())
     }
 
     /// Closes a connection, once all is written that it was handed; nothing is told of it any more.
     pub fn close_one(&mut self, conn: u32)
-        ensures { self.new ≡ self.old }
+        ensures moved { self.new ≡ record self.old { links = self.new.links } }
+        ensures others { ChangesOne conn self.old.links self.new.links }
     {
         let now = self.reading;
         if let Some(place) = place_of(self.links.as_slice(), conn) {
-            self.links[place].close(now);
+            let link = &mut self.links[place];
+            link.close(now);
+            self.floor = lower(self.floor, &*link);
+            self.restless = true;
         }
     }
 }
