@@ -1,5 +1,6 @@
 -- What came, as an event.
-use Rattle.std.proofs.Common.{◌≡◌, ◌≤◌, ◌<◌, ◌^◌, ◌++◌, ℕ, List, [], ◌∷◌, Option, Some, false, refl, arith}
+use Rattle.std.proofs.Common.{◌≡◌, ◌≤◌, ◌<◌, ◌^◌, ◌+◌, ◌++◌, ◌∙◌, ℕ, List, [], ◌∷◌, length, take, get_or, Option, Some, false, refl, sym, ap, append_assoc, arith}
+use Rattle.std.proofs.lemmas.List.{take_more}
 use Rattle.std.specs.List.{flat_map}
 use Rattle.dns_readiness.specs.declared.came.Came.{Came}
 use Rattle.dns_readiness.specs.declared.came.Came.TheVariants.{Accepted, Bytes, Ended, Tick}
@@ -53,3 +54,16 @@ pub others_come : (last : ℕ) (greatest : Option ℕ) (e : Event) (es : List Ev
     → AllMayCome (moment e) (last_number greatest (number_in e)) es
 others_come last greatest e es h =
     record { fit = h.fit.1; moments = h.moments.1; numbers = (rises_split greatest (number_in e) (flat_map number_in es) h.numbers).1 }
+
+-- and the other way round
+rises_join : (greatest : Option ℕ) (xs ys : List ℕ) → Rises greatest xs → Rises (last_number greatest xs) ys → Rises greatest (xs ++ ys)
+rises_join greatest [] ys r s = s
+rises_join greatest (x ∷ xs) ys r s = (r.0, rises_join (Some x) xs ys r.1 s)
+
+pub all_come : (last : ℕ) (greatest : Option ℕ) (e : Event) (es : List Event) → MayCome last greatest e → AllMayCome (moment e) (last_number greatest (number_in e)) es → AllMayCome last greatest (e ∷ es)
+all_come last greatest e es m h = record { fit = (m.fit, h.fit); moments = (m.later, h.moments); numbers = rises_join greatest (number_in e) (flat_map number_in es) m.rises h.numbers }
+
+-- one more of what is to come
+pub taken_more : (all : List Coming) (i : ℕ) (one : Coming) (rest : List Coming) → i < length all → one ≡ get_or all i one → take i all ++ one ∷ rest ≡ take (i + 1) all ++ rest
+taken_more all i one rest l e =
+    sym (ap (λ (front : List Coming). front ++ rest) (take_more all i one l) ∙ append_assoc (take i all) (get_or all i one ∷ []) rest ∙ ap (λ (x : Coming). take i all ++ x ∷ rest) (sym e))

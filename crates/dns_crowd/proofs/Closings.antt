@@ -16,11 +16,12 @@ use Rattle.std.specs.Prelude.{IfOk}
 use Rattle.dns_io.specs.declared.fault.OutOfMemory.{OutOfMemory}
 use Rattle.dns_io.specs.Told.{Grows, Keeps}
 use Rattle.dns_io.proofs.ToldContents.{Grows-Keeps, Grows-more, Grows-nothing, Keeps-Grows}
+use Rattle.dns_merge.proofs.InTurn.{twice}
 use Rattle.dns_readiness.specs.declared.came.Came.{Came}
 use Rattle.dns_readiness.specs.declared.came.Came.TheVariants as came
 use Rattle.dns_readiness.specs.Came.{number_of}
 use Rattle.dns_crowd.specs.Crowds.{event_of}
-use Rattle.dns_crowd.specs.Turns.{IsDone, IsShut, LetsGo, late_number, late_numbers, next_lost, numbers_of, Shuts, timely}
+use Rattle.dns_crowd.specs.Turns.{IsDone, IsShut, LetsGo, late_number, late_numbers, next_lost, numbers_of, Shuts, stays_by, timely}
 
 -- those that are in time are among all
 in_time_one : (P : Connection → Type 0) (k : Connection) (b : Bool) (ks : List Connection) → P k → AllByRecursion P ks → AllByRecursion P (cond b (k ∷ ks) ks)
@@ -134,13 +135,6 @@ pub removed_shut : (ks : List Connection) (i : ℕ) (n : ℕ) (d : Connection) �
 removed_shut ks i n d c l e = record { among = number_contained ks i d n l e; gone = removed_gone ks i n d c l e }
 
 -- those that are late
-pub late_push : (last : ℕ) (ks : List Connection) (k : Connection) → late_numbers last (ks ++ k ∷ []) ≡ late_numbers last ks ++ late_number last k
-late_push last ks k = flat_map-append (late_number last) ks (k ∷ []) ∙ ap (λ (l : List ℕ). late_numbers last ks ++ l) (append-nil (late_number last k))
-
-pub late_more : (last : ℕ) (ks : List Connection) (i : ℕ) (k : Connection) → i < length ks → k ≡ get_or ks i k → late_numbers last (take (i + 1) ks) ≡ late_numbers last (take i ks) ++ late_number last k
-late_more last ks i k l e =
-    ap (late_numbers last) (take_more ks i k l) ∙ ap (λ (x : Connection). late_numbers last (take i ks ++ x ∷ [])) (sym e) ∙ late_push last (take i ks) k
-
 shut_cons : (k : Connection) (known : List ℕ) (ks : List Connection) (b : Bool) (n : ℕ) → k.number < n → IsShut known ks n → IsShut (k.number ∷ known) (cond b (k ∷ ks) ks) n
 shut_cons k known ks b n l s = record {
   among = Contains-append_right (k.number ∷ []) known n s.among;
@@ -170,6 +164,23 @@ late_shut last (k ∷ ks) c =
     numbers_push (IsShut (numbers_of (k ∷ ks)) (timely last (k ∷ ks))) (late_number last k) (late_numbers last ks)
     (shut_late last k ks (is_within k.limit k.base last) refl c.0)
     (shut_others last k ks (is_within k.limit k.base last) (late_numbers last ks) c.0 (late_shut last ks c.1))
+
+-- those that stay open as time passes
+pub stays_alike : (e : Event) (last : ℕ) (ks : List Connection) → timely last (stays_by e last ks) ≡ timely last ks
+stays_alike (Accepted at conn peer limit) last ks = refl
+stays_alike (Bytes at conn piece) last ks = refl
+stays_alike (Ended at conn) last ks = refl
+stays_alike (Datagram at peer bytes) last ks = refl
+stays_alike (Tick at) last ks = sym (twice last ks)
+stays_alike (Stop at) last ks = refl
+
+pub stays_lets : (e : Event) (last : ℕ) (ks : List Connection) → LetsGo last ks (stays_by e last ks)
+stays_lets (Accepted at conn peer limit) last ks = inl refl
+stays_lets (Bytes at conn piece) last ks = inl refl
+stays_lets (Ended at conn) last ks = inl refl
+stays_lets (Datagram at peer bytes) last ks = inl refl
+stays_lets (Tick at) last ks = inr refl
+stays_lets (Stop at) last ks = inl refl
 
 -- one that was shut before an event is so behind it, and behind those that are let go
 pub shut_left : (known : List ℕ) (at : ℕ) (before after : List Connection) (n : ℕ) → LetsGo at before after → IsShut known before n → IsShut known after n

@@ -24,9 +24,10 @@ use Rattle.dns_merge.proofs.InTurn.{left_open, next_timely, now_timely}
 use Rattle.dns_merge.proofs.Through.{done_through, opens, pendings-opens, through}
 use Rattle.dns_crowd.specs.Crowds.{CrowdTold, MayCome}
 use Rattle.dns_crowd.specs.Replies.{sent_bytes}
-use Rattle.dns_crowd.specs.Turns.{Attends, EndsBy, GoesOn, IsShut, Shuts, Works, numbers_of, timely}
+use Rattle.dns_crowd.specs.Turns.{Attends, ClosesAs, EndsBy, GoesOn, IsShut, Shuts, Works, numbers_of, stands_behind, timely}
 use Rattle.dns_crowd.proofs.Closings.{all_left, all_timely, gone_next, kept_shuts, known_next, known_with, of_contained, shuts_kept, shuts_more, shuts_none, shuts_same, shuts_weaker, up_next}
 use Rattle.dns_crowd.proofs.FramedReplies.{sent_append}
+use Rattle.dns_crowd.proofs.Shutting.{closes_kept, closes_more, closes_none, stood, stood_push}
 
 through_push : (ks : List Connection) (es : List Event) (e : Event) → through ks (es ++ e ∷ []) ≡ through ks es ++ completed_now e (opens ks es)
 through_push ks [] e = append-nil (completed_now e ks)
@@ -97,6 +98,8 @@ module _ {H C : Type 0} (serves : H → Ask → Settled → H → Type 0) (told 
     pub up : AllByRecursion (IsUpTo kept.greatest) (flat_map number_in happened)
     pub known : AllByRecursion (λ k. Contains (flat_map number_in happened) k.number) kept.connections
     pub closed : Shuts (told crowd).closed (told here).closed (flat_map number_in happened) (timely kept.last (opens [] happened))
+    pub table : kept.connections ≡ stood [] happened
+    pub closings : ClosesAs (told crowd).closed (told here).closed happened
     pub later : kept.last ≤ (told here).last
     pub above : Leads (told here).greatest kept.greatest
     pub calm : (told here).faults ≡ (told crowd).faults
@@ -114,6 +117,8 @@ module _ {H C : Type 0} (serves : H → Ask → Settled → H → Type 0) (told 
     up = tt;
     known = tt;
     closed = shuts_none (told crowd).closed [] [];
+    table = refl;
+    closings = closes_none (told crowd).closed;
     later = omega arith;
     above = λ n a. tt;
     calm = refl;
@@ -189,6 +194,8 @@ module _ {H C : Type 0} (serves : H → Ask → Settled → H → Type 0) (told 
             (all_left (λ k. Contains (known ++ number_in e) k.number) (moment e) (open_next e kept.connections) kept_now.connections a.part (known_next known e kept.connections g.known));
         closed = shuts_same (told crowd).closed (told there).closed (known ++ number_in e) (flat_map number_in (g.happened ++ e ∷ [])) behind (timely kept_now.last (opens [] (g.happened ++ e ∷ [])))
             (sym (numbers_push g.happened e)) (ap (λ (t : ℕ). timely t (opens [] (g.happened ++ e ∷ []))) (sym a.at)) shut;
+        table = a.stands ∙ ap (stands_behind e) g.table ∙ sym (stood_push [] g.happened e);
+        closings = closes_more (told crowd).closed (told here).closed (told between).closed (told there).closed g.happened e kept.connections g.table g.closings unclosed a.shuts;
         later = omega (arith, a.at, a.last, last);
         above = λ n h. subst (λ (o : Option ℕ). IsAbove o n) (sym a.accepted)
             (leads_next (told here).greatest kept.greatest (number_in e) g.above n (subst (λ (o : Option ℕ). IsAbove o n) (a.greatest ∙ greatest) h));
@@ -208,6 +215,7 @@ module _ {H C : Type 0} (serves : H → Ask → Settled → H → Type 0) (told 
     closed = shuts_same (told crowd).closed (told last).closed (flat_map number_in g.happened) (flat_map number_in g.happened) (timely kept.last (opens [] g.happened)) (kept_after new_kept g.happened).connections
         refl (ap (λ (t : ℕ). timely t (opens [] g.happened)) g.moment ∙ sym (open_behind g.happened g.running))
         (shuts_kept (told crowd).closed (told here).closed (told last).closed (flat_map number_in g.happened) (timely kept.last (opens [] g.happened)) g.closed unclosed);
+    closings = closes_kept (told crowd).closed (told here).closed (told last).closed g.happened g.closings unclosed;
     end = at_end (told here).left (told last).left ended;
     calm = calm ∙ g.calm;
   }

@@ -6,3 +6,6 @@ mod Crowding
 mod Untold
 mod Wanting
 mod ToCome
+mod Timed
+mod Late
+mod Shutting

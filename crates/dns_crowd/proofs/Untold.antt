@@ -55,13 +55,14 @@ calm before after (Ok x) e h = e
 calm before after (Err Failed) e h = absurd cc
 calm before after (Err OutOfMemory) e h = e
 
-stays : (before after : SocketState) (result : Result (Unit {0}) IoFault) → after ≡ before → IfErr result (λ fault. fault ≡ OutOfMemory)
-    → HasCause before.faults after.faults result
+stays : (before after : SocketState) (result : Result (Unit {0}) IoFault) → after ≡ record before { links = after.links }
+    → IfErr result (λ fault. fault ≡ OutOfMemory) → HasCause before.faults after.faults result
 stays before after result e h =
     let f : after.faults ≡ before.faults = ap (λ (s : SocketState). s.faults) e in
     record { later = omega (arith, f); counts = calm before.faults after.faults result f h }
 
-pub sends_by : (before after : SocketState) (number : ℕ) (bytes : List ℕ) (result : Result (Unit {0}) IoFault) → after ≡ before
+pub sends_by : (before after : SocketState) (number : ℕ) (bytes : List ℕ) (result : Result (Unit {0}) IoFault)
+    → after ≡ record before { links = after.links }
     → IfErr result (λ fault. fault ≡ OutOfMemory) → Sends (untold_crowd before) (untold_crowd after) number bytes result
 sends_by before after number bytes (Ok x) e h = record {
   grows = tt;
@@ -80,7 +81,7 @@ sends_by before after number bytes (Err fault) e h = record {
   cause = stays before after (Err fault) e h;
 }
 
-pub closes_by : (before after : SocketState) (number : ℕ) → after ≡ before → Closes (untold_crowd before) (untold_crowd after) number (Ok tt)
+pub closes_by : (before after : SocketState) (number : ℕ) → after ≡ record before { links = after.links } → Closes (untold_crowd before) (untold_crowd after) number (Ok tt)
 closes_by before after number e = record {
   grows = tt;
   kept = tt;

@@ -2,3 +2,4 @@ pub mod Crowds
 pub mod Replies
 pub mod Turns
 pub mod Memory
+pub mod Tables

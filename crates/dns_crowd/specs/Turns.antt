@@ -1,6 +1,7 @@
 -- What the worker of a crowd does with what comes (RFC 1035 4.2.2, RFC 7766, RFC 9210 4.2).
-use Rattle.std.specs.Prelude.{◌≡◌, ◌≢◌, ◌⊎◌, ℕ, List, [], ◌∷◌, ◌++◌, map, if◌then◌else◌, true, false, ◌||◌, Option, Result, Ok, Err}
+use Rattle.std.specs.Prelude.{◌≡◌, ◌≢◌, ◌⊎◌, ℕ, List, [], ◌∷◌, ◌++◌, map, if◌then◌else◌, true, false, ◌||◌, Option, Some, None, Result, Ok, Err}
 use Rattle.std.specs.List.{AllByRecursion, Contains, filter, filter_map, flat_map}
+use Rattle.std.specs.List.Sorted.{IsPermutation}
 use Rattle.dns_io.specs.declared.io_fault.IoFault.{IoFault}
 use Rattle.dns_io.specs.declared.io_fault.IoFault.TheVariants.{Failed, OutOfMemory}
 use Rattle.dns_io.specs.Told.{Grows, Keeps, Rose, Takes}
@@ -31,6 +32,64 @@ late_number at k = if is_within k.limit k.base at then [] else k.number ∷ []
 
 abbrev pub late_numbers : ℕ → List Connection → List ℕ
 late_numbers at connections = flat_map (late_number at) connections
+
+-- those that stay open behind an event, by the last moment: where time passes, those that are late go
+abbrev pub stays_by : Event → ℕ → List Connection → List Connection
+stays_by (Accepted at conn peer limit) last connections = connections
+stays_by (Bytes at conn piece) last connections = connections
+stays_by (Ended at conn) last connections = connections
+stays_by (Datagram at peer bytes) last connections = connections
+stays_by (Tick at) last connections = timely last connections
+stays_by (Stop at) last connections = connections
+
+-- the numbers of those that go
+abbrev pub late_by : Event → ℕ → List Connection → List ℕ
+late_by (Accepted at conn peer limit) last connections = []
+late_by (Bytes at conn piece) last connections = []
+late_by (Ended at conn) last connections = []
+late_by (Datagram at peer bytes) last connections = []
+late_by (Tick at) last connections = late_numbers last connections
+late_by (Stop at) last connections = []
+
+-- the number of a connection that is open no more
+abbrev pub gone_number : Option Connection → ℕ → List ℕ
+gone_number None number = number ∷ []
+gone_number (Some connection) number = []
+
+-- the numbers of those that an event itself closes: one from a peer that is not safe, and one of which a piece came that was late, or that
+-- brought its last message
+abbrev pub done_by : Event → List Connection → List ℕ
+done_by (Accepted at conn peer limit) connections = if is_safe peer then [] else conn ∷ []
+done_by (Bytes at conn piece) connections = flat_map (λ k. gone_number (step (Bytes at conn piece) k) k.number) connections
+done_by (Ended at conn) connections = []
+done_by (Datagram at peer bytes) connections = []
+done_by (Tick at) connections = []
+done_by (Stop at) connections = []
+
+-- the numbers of all that are closed at an event, and the connections that stay open behind it
+abbrev pub closed_at : Event → List Connection → List ℕ
+closed_at e connections = done_by e connections ++ late_by e (moment e) (open_next e connections)
+
+abbrev pub stands_behind : Event → List Connection → List Connection
+stands_behind e connections = stays_by e (moment e) (open_next e connections)
+
+-- connections are closed event by event: at each exactly those that it closes, each once
+abbrev pub ClosesEach : List Connection → List Event → List ℕ → Type 0
+ClosesEach connections [] closed = closed ≡ []
+ClosesEach connections (e ∷ events) closed = (first : List ℕ) × (later : List ℕ) × (closed ≡ first ++ later)
+    × IsPermutation (closed_at e connections) first × ClosesEach (stands_behind e connections) events later
+
+-- connections were closed, as events close them one after the other, of which the first is the first of all
+pub record ClosesAs (before now : Option (List ℕ)) (events : List Event) : Type 0 where
+  pub closed : List ℕ
+  pub grown : Grows before now closed
+  pub each : ClosesEach [] events closed
+
+-- connections were closed, and these are their numbers, in some order
+pub record ShutsAll (before now : Option (List ℕ)) (numbers : List ℕ) : Type 0 where
+  pub closed : List ℕ
+  pub grown : Grows before now closed
+  pub all : IsPermutation numbers closed
 
 -- all of them stay, or those that are within their limits at a moment
 abbrev pub LetsGo : ℕ → List Connection → List Connection → Type 0
@@ -164,13 +223,16 @@ module _ {H C : Type 0} (serves : H → Ask → Settled → H → Type 0) (told 
     pub sent : Grows (told crowd).taken (told crowd_now).taken (sent_bytes outs)
     pub unread : Keeps (told crowd).left (told crowd_now).left
     pub closed : Shuts (told crowd).closed (told crowd_now).closed (numbers_of kept.connections ++ number_in e) kept_now.connections
+    pub stands : kept_now.connections ≡ stands_behind e kept.connections
+    pub shuts : ShutsAll (told crowd).closed (told crowd_now).closed (closed_at e kept.connections)
     pub last : (told crowd_now).last ≡ (told crowd).last
     pub greatest : (told crowd_now).greatest ≡ (told crowd).greatest
     pub calm : (told crowd_now).faults ≡ (told crowd).faults
 
   -- these events came; the messages that they complete, at most the first hundred of each connection, were settled in the order in which
   -- they were complete; the crowd took exactly the replies that they are owed, each for its connection; and each connection that was closed
-  -- was accepted, and is not open at the end: its peer is not safe, it had its last message, or it was late, or it ended
+  -- was accepted, and is not open at the end; they were closed in the order of the events: one whose peer is not safe when it was accepted,
+  -- one that had its last message, or came too late, with that piece, and those that were late when time passed, each once and no other
   pub record Works (before : H) (crowd : C) (after : H) (crowd_now : C) : Type 0 where
     pub happened : List Event
     pub came : Takes (told crowd).left (told crowd_now).left happened
@@ -178,6 +240,7 @@ module _ {H C : Type 0} (serves : H → Ask → Settled → H → Type 0) (told 
     pub run : Run serves before (done new_kept happened) outs after
     pub sent : Grows (told crowd).taken (told crowd_now).taken (sent_bytes outs)
     pub closed : Shuts (told crowd).closed (told crowd_now).closed (flat_map number_in happened) (kept_after new_kept happened).connections
+    pub closings : ClosesAs (told crowd).closed (told crowd_now).closed happened
     pub end : IsEmpty (told crowd_now).left
     pub calm : (told crowd_now).faults ≡ (told crowd).faults
 

@@ -4,13 +4,13 @@
 mod coming;
 mod connections;
 mod crowd;
+mod deadlines;
 mod memory_crowd;
-mod places;
 mod serving;
 mod socket_crowd;
 mod worker;
 
-pub use coming::Coming;
+pub use coming::{Coming, may_come};
 pub use crowd::Crowd;
 pub use dns_readiness::{Came, SocketCrowd};
 pub use memory_crowd::MemoryCrowd;

@@ -2,10 +2,11 @@
 
 ghost use Rattle.std.specs.Prelude.{◌≡◌, ◌<◌, ◌^◌, Some, None, IfOk, OnErr, OnOk, if◌then◌else◌};
 ghost use Rattle.dns_crowd.specs.Replies.{Falters, RepliesTo};
-ghost use Rattle.dns_server_core.specs.Steps.{fed_by, heard_messages, moved, piece_at, unread_messages};
+ghost use Rattle.dns_server_core.specs.Steps.{heard_messages, moved, piece_at};
 
 use dns_book::{AccessControl, Ask};
 use dns_io::{Octets, OutOfMemory, Protocol};
+use dns_requests::answer;
 use dns_server_core::{Heard, RequestHandler, Session};
 use std::alloc::Global;
 use std::mem;
@@ -33,39 +34,17 @@ pub(crate) fn serve_piece<H: RequestHandler>(
     match heard {
         Heard::Late { since: _since } => Ok(false),
         Heard::InTime => {
-            settle_unread(alloc, handler, access, session, buffer, at, replies)?;
+            let mut ask = Ask {
+                bytes: mem::replace(buffer, Octets::new(alloc)),
+                source: session.peer(),
+                protocol: Protocol::Tcp,
+                at,
+                client: 0,
+            };
+            answer(alloc, handler, access, &mut ask, session, replies)?;
+            let Ask { bytes, .. } = ask;
+            *buffer = bytes;
             Ok(!session.is_over())
         }
     }
-}
-
-/// Settles the whole messages that a connection has unread, no more than it may still have, and lets them go.
-fn settle_unread<H: RequestHandler>(
-    alloc: Global,
-    handler: &mut H,
-    access: &AccessControl,
-    session: &mut Session,
-    buffer: &mut Octets,
-    at: u64,
-    replies: &mut Vec<u8>,
-) -> Result<(), OutOfMemory>
-    requires { at < 2 ^ 47 }
-    ensures ran { OnOk result (RepliesTo (H.serves access.now) handler.old
-        (unread_messages at session.old) handler.new session.old.number replies.old.items replies.new.items) }
-    ensures halted { OnErr result (Falters (H.serves access.now) H.skips handler.old (unread_messages at session.old) handler.new) }
-    ensures fed { OnOk result (session.new ≡ fed_by session.old at session.old.rest) }
-{
-    let mut ask = Ask {
-        bytes: mem::replace(buffer, Octets::new(alloc)),
-        source: session.peer(),
-        protocol: Protocol::Tcp,
-        at,
-        client: 0,
-    };
-    let most = session.most();
-    let answered = handler.handle_frames(alloc, access, &mut ask, session.unread(), most, replies)?;
-    session.settled(at, answered);
-    let Ask { bytes, .. } = ask;
-    *buffer = bytes;
-    Ok(())
 }

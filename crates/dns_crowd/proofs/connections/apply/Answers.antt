@@ -2,10 +2,13 @@
 use Rattle.std.proofs.Common.{◌∙◌, ap, append-nil, sym, refl, List, ◌++◌, []}
 use Rattle.dns_server_core.specs.declared.event.Event.TheVariants.{Accepted, Ended, Tick}
 use Rattle.dns_server_core.specs.Connections.{Connection, accepted, is_safe}
-use Rattle.dns_server_core.specs.Steps.{completed_now}
+use Rattle.std.specs.List.{filter_map}
+use Rattle.dns_server_core.specs.Steps.{completed_now, step}
 use Rattle.dns_server_core.proofs.OnePiece.{on_err, on_ok, ok_lists}
 use Rattle.dns_server_core.proofs.ConnectionTurns.{idle_conns, idle_next, idle_list, ended_silent}
 use Rattle.dns_crowd.proofs.Closings.{unsafe_done}
+use Rattle.dns_crowd.proofs.Shutting.{unsafe_shuts}
+use Rattle.dns_crowd.proofs.Timed.{forget_timed, same_timed, times_same}
 use Rattle.dns_crowd.proofs.FramedReplies.{falters_none, ok_replies, replies_none, replies_same}
 use Rattle.dns_crowd.proofs.connections.apply.Goals as goal
 
@@ -62,3 +65,34 @@ returns-in_err-is_done-in-Bytes-clause-err g c = rw c.in-Bytes.is (on_err c.from
 
 pub returns-in_err-is_done-in-Bytes-clause-halted : goal.returns-in_err-is_done-in-Bytes-clause-halted
 returns-in_err-is_done-in-Bytes-clause-halted g c = rw c.in-Bytes.is (on_err c.from_residual.result (rw c.split_at.ensures.front at c.in_err-is_done-in-Bytes.ensures.halted))
+
+pub returns-in-Accepted-clause-timed : goal.returns-in-Accepted-clause-timed
+returns-in-Accepted-clause-timed g c = rw c.in-Accepted.is c.accept.ensures.timed
+
+pub returns-in_ok-is_done-in-Bytes-clause-timed : goal.returns-in_ok-is_done-in-Bytes-clause-timed
+returns-in_ok-is_done-in-Bytes-clause-timed g c = rw c.in-Bytes.is c.receive.ensures.timed
+
+pub returns-in_err-is_done-in-Bytes-clause-timed : goal.returns-in_err-is_done-in-Bytes-clause-timed
+returns-in_err-is_done-in-Bytes-clause-timed g c = rw c.in-Bytes.is c.receive.ensures.timed
+
+pub returns-in-Ended-clause-timed : goal.returns-in-Ended-clause-timed
+returns-in-Ended-clause-timed g c =
+    let e = Ended c.in-Ended.at c.in-Ended.conn in
+    rw c.in-Ended.is
+    (times_same e c.args.order.now c.forget.new.order c.args.sessions.now.items (filter_map (step e) c.args.sessions.now.items) c.forget.new.sessions.items c.forget.ensures.left
+    (forget_timed c.in-Ended.at c.in-Ended.conn c.args.order.now c.forget.new.order c.args.sessions.now.items c.forget.ensures.gone))
+
+pub returns-in-Ended-clause-ok : goal.returns-in-Ended-clause-ok
+returns-in-Ended-clause-ok g c = rw c.in-Ended.is (c.forget.ensures.left ∙ sym (append-nil _))
+
+pub returns-in-Tick-clause-timed : goal.returns-in-Tick-clause-timed
+returns-in-Tick-clause-timed g c = rw c.in-Tick.is (same_timed (Tick c.in-Tick.at) c.args.order.now c.args.sessions.now.items)
+
+pub accept-requires : goal.accept-requires
+accept-requires g c = record { moment = rw c.in-Accepted.is at c.requires.moment }
+
+pub returns-in-Accepted-clause-shuts : goal.returns-in-Accepted-clause-shuts
+returns-in-Accepted-clause-shuts g c = rw c.in-Accepted.is (unsafe_shuts c.accept.result (is_safe c.in-Accepted.peer) c.in-Accepted.conn c.accept.ensures.done)
+
+pub returns-in_ok-is_done-in-Bytes-clause-shuts : goal.returns-in_ok-is_done-in-Bytes-clause-shuts
+returns-in_ok-is_done-in-Bytes-clause-shuts g c = rw c.in-Bytes.is (rw c.split_at.ensures.front at c.in_ok-is_done-in-Bytes.ensures.shuts)

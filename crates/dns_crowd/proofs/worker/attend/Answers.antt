@@ -1,13 +1,14 @@
 -- One event was served, and its replies handed over.
-use Rattle.std.proofs.Common.{◌≡◌, ◌∙◌, ◌++◌, ℕ, List, refl, sym, ap, subst}
+use Rattle.std.proofs.Common.{◌≡◌, ◌∙◌, ◌++◌, ◌∷◌, ℕ, List, [], cond, refl, sym, ap, subst}
 use Rattle.dns_io.specs.Told.{Grows}
 use Rattle.dns_io.proofs.ToldContents.{Grows-Keeps, Keeps-more}
 use Rattle.dns_server_core.specs.Connections.{Kept}
 use Rattle.dns_server_core.specs.Events.{moment}
 use Rattle.dns_crowd.specs.Crowds.{bytes_for, event_of}
-use Rattle.dns_crowd.specs.Turns.{Fate, IsShut, LetsGo, Treats, lost, Served, Unsent, Unsettled, timely}
+use Rattle.dns_crowd.specs.Turns.{Fate, IsShut, LetsGo, Treats, closed_at, done_by, late_by, lost, Served, Unsent, Unsettled, stays_by, timely}
 use Rattle.dns_server_core.proofs.OnePiece.{on_err}
-use Rattle.dns_crowd.proofs.Closings.{attended}
+use Rattle.dns_crowd.proofs.Closings.{attended, stays_alike, stays_lets}
+use Rattle.dns_crowd.proofs.Shutting.{late_room, shuts_with, stays_room}
 use Rattle.dns_crowd.proofs.Wanting.{treats_all, treats_none, treats_unsent}
 use Rattle.dns_crowd.proofs.worker.attend.Goals as goal
 
@@ -21,21 +22,38 @@ returns-clause-attends g c =
     let closed = c.in_ok-close-3.ensures in
     let sent = c.in_ok-is_sent.ensures in
     let bytes : c.take.new.replies.items ≡ ran.bytes = ran.added ∙ ap (λ (l : List ℕ). l ++ ran.bytes) c.requires.none in
+    let taken : Kept = c.take.new.self in
+    let e = event_of [] c.args.came.now in
+    let alike : timely taken.last c.close_late.new.self.connections ≡ timely taken.last taken.connections =
+    ap (λ (k : Kept). timely taken.last k.connections) late.left ∙ stays_alike e taken.last taken.connections
+    in
+    let part : LetsGo taken.last taken.connections c.close_late.new.self.connections =
+    subst (λ (k : Kept). LetsGo taken.last taken.connections k.connections) (sym late.left) (stays_lets e taken.last taken.connections)
+    in
     record {
       outs = ran.outs;
       run = ran.run;
-      alike = subst (λ (k : Kept). timely k.last c.close_late.new.self.connections ≡ timely k.last k.connections) next late.alike;
-      part = subst (λ (k : Kept). LetsGo k.last k.connections c.close_late.new.self.connections) next late.part;
-      at = late.same.0 ∙ ap (λ (k : Kept). k.last) next;
-      accepted = late.same.1 ∙ ap (λ (k : Kept). k.greatest) next;
+      alike = subst (λ (k : Kept). timely k.last c.close_late.new.self.connections ≡ timely k.last k.connections) next alike;
+      part = subst (λ (k : Kept). LetsGo k.last k.connections c.close_late.new.self.connections) next part;
+      at = ap (λ (k : Kept). k.last) late.left ∙ ap (λ (k : Kept). k.last) next;
+      accepted = ap (λ (k : Kept). k.greatest) late.left ∙ ap (λ (k : Kept). k.greatest) next;
       sent = Grows-Keeps _ _ _ _
           (Grows-Keeps _ _ _ _
           (subst (Grows (told c.args.crowd.now).taken (told c.send.new.crowd).taken) (ap (bytes_for _) bytes ∙ sym ran.sent) (rw c.number-2.ensures at (sent.grows c.if-not-is_sent.false)))
           closed.unasked.untaken) late.unasked.untaken;
       unread = Keeps-more _ _ _ (Keeps-more _ _ _ sent.unread closed.unasked.unread) late.unasked.unread;
       closed = attended (told c.args.crowd.now).closed (told c.send.new.crowd).closed (told c.close-2.new.crowd).closed (told c.close_late.new.crowd).closed
-          (event_of c.args.room.now c.args.came.now) c.args.connections.now c.take.new.self c.close_late.new.self _ _ next late.part sent.unclosed closed.closed
+          (event_of c.args.room.now c.args.came.now) c.args.connections.now c.take.new.self c.close_late.new.self _ _ next part sent.unclosed closed.closed
           (λ h. subst (IsShut _ c.take.new.self.connections) (sym c.number-3.ensures) (c.in-Ok.ensures.done h)) late.closed;
+      stands = ap (λ (k : Kept). k.connections) late.left
+          ∙ stays_room c.args.room.now c.args.came.now taken.last taken.connections
+          ∙ ap (λ (k : Kept). stays_by (event_of c.args.room.now c.args.came.now) k.last k.connections) next;
+      shuts = shuts_with (told c.args.crowd.now).closed (told c.send.new.crowd).closed (told c.close-2.new.crowd).closed (told c.close_late.new.crowd).closed
+          (cond c.in-Ok.is_done (c.number-3.result ∷ []) []) (late_by e taken.last taken.connections) (closed_at (event_of c.args.room.now c.args.came.now) c.args.connections.now.connections)
+          (ap (λ (l : List ℕ). l ++ late_by e taken.last taken.connections) (ap (λ (n : ℕ). cond c.in-Ok.is_done (n ∷ []) []) c.number-3.ensures ∙ sym c.in-Ok.ensures.shuts)
+          ∙ ap (λ (l : List ℕ). done_by (event_of c.args.room.now c.args.came.now) c.args.connections.now.connections ++ l)
+          (late_room c.args.room.now c.args.came.now taken.last taken.connections ∙ ap (λ (k : Kept). late_by (event_of c.args.room.now c.args.came.now) k.last k.connections) next))
+          sent.unclosed closed.closed late.all;
       last = late.unasked.last ∙ closed.unasked.last ∙ sent.same.0;
       greatest = late.unasked.greatest ∙ closed.unasked.greatest ∙ sent.same.1;
       calm = late.unasked.calm ∙ closed.unasked.calm ∙ sent.calm;
@@ -48,8 +66,8 @@ returns-clause-goes g c =
     let closed = c.in_ok-close-3.ensures in
     let sent = c.in_ok-is_sent.ensures in
     record {
-      at = late.same.0 ∙ ap (λ (k : Kept). k.last) next;
-      accepted = late.same.1 ∙ ap (λ (k : Kept). k.greatest) next;
+      at = ap (λ (k : Kept). k.last) late.left ∙ ap (λ (k : Kept). k.last) next;
+      accepted = ap (λ (k : Kept). k.greatest) late.left ∙ ap (λ (k : Kept). k.greatest) next;
       last = late.unasked.last ∙ closed.unasked.last ∙ sent.same.0;
       greatest = late.unasked.greatest ∙ closed.unasked.greatest ∙ sent.same.1;
       calm = late.unasked.calm ∙ closed.unasked.calm ∙ sent.calm;

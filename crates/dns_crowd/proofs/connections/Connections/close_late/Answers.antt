@@ -1,46 +1,52 @@
 -- Those that are within their limits stay.
-use Rattle.std.proofs.Common.{◌≡◌, ◌∙◌, ℕ, List, ap, false, inr, rules, subst, sym}
+use Rattle.std.proofs.Common.{◌≡◌, ℕ, List, [], ap, false, subst, sym}
 use Rattle.std.specs.List.{AllByRecursion}
-use Rattle.std.proofs.lemmas.Fn.{filter_same}
-use Rattle.dns_server_core.specs.Connections.{Connection, Kept, is_within}
-use Rattle.dns_server_core.proofs.Leaving.{IsKept-alive}
-use Rattle.dns_merge.proofs.InTurn.{twice}
-use Rattle.dns_crowd.specs.Turns.{IsShut, LetsGo, Shuts, late_numbers, numbers_of, timely}
+use Rattle.dns_server_core.specs.Connections.{Connection, Kept}
+use Rattle.dns_crowd.specs.Crowds.{event_of}
+use Rattle.dns_crowd.specs.Turns.{IsShut, Shuts, ShutsAll, late_by, late_numbers, numbers_of, stays_by}
 use Rattle.dns_crowd.proofs.Closings.{late_shut}
+use Rattle.dns_crowd.proofs.Late.{all_moved}
 use Rattle.dns_crowd.proofs.connections.Connections.close_late.Goals as goal
 
-pub invariant_of-self : goal.invariant_of-self
-invariant_of-self g c =
-    let kept : Kept = record { last = c.self.inside.last; greatest = c.self.inside.greatest; stopped = false; connections = c.self.inside.sessions.items } in
-    IsKept-alive kept c.self.inside.last false c.self.inside.last c.retain.new.self.items
-    (filter_same _ (λ (k : Connection). is_within k.limit k.base c.self.inside.last) _ (λ x b f k. search rules) _ _ c.retain.ensures.filtered) c.self.invariant
+pub close_late-requires-clause-climbs : goal.close_late-requires-clause-climbs
+close_late-requires-clause-climbs g c = c.self.invariant.table.climbs
 
-pub returns-in-Ok-clause-part : goal.returns-in-Ok-clause-part
-returns-in-Ok-clause-part g c =
-    let stay : c.retain.new.self.items ≡ timely c.self.inside.last c.self.inside.sessions.items =
-    filter_same _ (λ (k : Connection). is_within k.limit k.base c.self.inside.last) _ (λ x b f k. search rules) _ _ c.retain.ensures.filtered
-    in
-    subst (λ (k : Kept). LetsGo k.last k.connections c.retain.new.self.items) c.self.view_is (inr stay)
+pub invariant_of-self : goal.invariant_of-self
+invariant_of-self g c = record {
+  table = c.close_late.ensures.kept c.self.inside.last c.self.inside.greatest c.self.invariant.table;
+  moment = c.self.invariant.moment;
+  timed = c.close_late.ensures.timed;
+}
+
+pub invariant_of-self-in-Tick : goal.invariant_of-self-in-Tick
+invariant_of-self-in-Tick g c = record {
+  table = c.close_late.ensures.kept c.self.inside.last c.self.inside.greatest c.self.invariant.table;
+  moment = c.self.invariant.moment;
+  timed = c.close_late.ensures.timed;
+}
+
+pub returns-in-Ok-clause-left : goal.returns-in-Ok-clause-left
+returns-in-Ok-clause-left g c =
+    let kept : Kept = record { last = c.self.inside.last; greatest = c.self.inside.greatest; stopped = false; connections = c.self.inside.sessions.items } in
+    let now : Kept = record kept { connections = c.close_late.new.sessions.items } in
+    subst (λ (k : Kept). now ≡ record k { connections = stays_by (event_of [] c.args.came.now) k.last k.connections }) c.self.view_is
+    (rw c.in-Tick.is (ap (λ (l : List Connection). record kept { connections = l }) c.in-Ok.ensures.left))
+
+pub returns-in-Ok-clause-all : goal.returns-in-Ok-clause-all
+returns-in-Ok-clause-all g c =
+    let told = g.C.Crowd.told in
+    subst (λ (k : Kept). ShutsAll (told c.args.crowd.now).closed (told c.close_late.new.crowd).closed (late_by (event_of [] c.args.came.now) k.last k.connections)) c.self.view_is (rw c.in-Tick.is c.in-Ok.ensures.all)
 
 pub returns-in-Ok-clause-closed : goal.returns-in-Ok-clause-closed
 returns-in-Ok-clause-closed g c =
-    let stay : c.retain.new.self.items ≡ timely c.self.inside.last c.self.inside.sessions.items =
-    filter_same _ (λ (k : Connection). is_within k.limit k.base c.self.inside.last) _ (λ x b f k. search rules) _ _ c.retain.ensures.filtered
-    in
     let told = g.C.Crowd.told in
     let late : List ℕ = late_numbers c.self.inside.last c.self.inside.sessions.items in
-    subst (λ (k : Kept). Shuts (told c.args.crowd.now).closed (told c.close_each.new.crowd).closed (numbers_of k.connections) c.retain.new.self.items) c.self.view_is
+    let all = c.in-Ok.ensures.all in
+    subst (λ (k : Kept). Shuts (told c.args.crowd.now).closed (told c.close_late.new.crowd).closed (numbers_of k.connections) c.close_late.new.sessions.items) c.self.view_is
     (record {
-      closed = late;
-      grown = rw c.as_slice.ensures.value at c.in-Ok.ensures.closed;
-      shut = subst (λ (l : List Connection). AllByRecursion (IsShut (numbers_of c.self.inside.sessions.items) l) late) (sym stay)
-          (late_shut c.self.inside.last c.self.inside.sessions.items c.self.invariant.climbs);
+      closed = all.closed;
+      grown = all.grown;
+      shut = all_moved (IsShut (numbers_of c.self.inside.sessions.items) c.close_late.new.sessions.items) late all.closed all.all
+          (subst (λ (l : List Connection). AllByRecursion (IsShut (numbers_of c.self.inside.sessions.items) l) late) (sym c.in-Ok.ensures.left)
+          (late_shut c.self.inside.last c.self.inside.sessions.items c.self.invariant.table.climbs));
     })
-
-pub returns-in-Ok-clause-alike : goal.returns-in-Ok-clause-alike
-returns-in-Ok-clause-alike g c =
-    let stay : c.retain.new.self.items ≡ timely c.self.inside.last c.self.inside.sessions.items =
-    filter_same _ (λ (k : Connection). is_within k.limit k.base c.self.inside.last) _ (λ x b f k. search rules) _ _ c.retain.ensures.filtered
-    in
-    subst (λ (k : Kept). timely k.last c.retain.new.self.items ≡ timely k.last k.connections) c.self.view_is
-    (ap (timely c.self.inside.last) stay ∙ sym (twice c.self.inside.last c.self.inside.sessions.items))
