@@ -36,7 +36,7 @@ counts n i p [] e same = absurd (some-ne-none p (sym e))
 counts n zero p (x ∷ ps) e same = counts_by x.number n (having n ps) (x.number == n) refl (ap (λ (q : PassSeen). q.number) (some-injective x p e) ∙ same)
 counts n (suc i) p (x ∷ ps) e same = let rest = counts n i p ps e same in omega arith
 
-there : {X : Type 0} (xs : List X) (k : ℕ) → k < length xs → (x : X) × (get_elem? xs k ≡ some x)
+pub there : {X : Type 0} (xs : List X) (k : ℕ) → k < length xs → (x : X) × (get_elem? xs k ≡ some x)
 there [] k small = absurd (omega (arith, small))
 there (x ∷ xs) zero small = (x, refl)
 there (x ∷ xs) (suc k) small = there xs k (omega (arith, small))
@@ -45,11 +45,11 @@ all_append : {X : Type 0} (P : X → Type 0) (xs ys : List X) → AllByRecursion
 all_append P [] ys a b = b
 all_append P (x ∷ xs) ys a b = (a.0, all_append P xs ys a.1 b)
 
-all_at : {X : Type 0} (P : X → Type 0) (xs : List X) → ((i : ℕ) (x : X) → get_elem? xs i ≡ some x → P x) → AllByRecursion P xs
+pub all_at : {X : Type 0} (P : X → Type 0) (xs : List X) → ((i : ℕ) (x : X) → get_elem? xs i ≡ some x → P x) → AllByRecursion P xs
 all_at P [] f = tt
 all_at P (x ∷ xs) f = (f 0 x refl, all_at P xs (λ i. f (suc i)))
 
-at_of : {X : Type 0} (P : X → Type 0) (xs : List X) → AllByRecursion P xs → (i : ℕ) (x : X) → get_elem? xs i ≡ some x → P x
+pub at_of : {X : Type 0} (P : X → Type 0) (xs : List X) → AllByRecursion P xs → (i : ℕ) (x : X) → get_elem? xs i ≡ some x → P x
 at_of P [] a i x e = absurd (some-ne-none x (sym e))
 at_of P (y ∷ xs) a zero x e = subst P (some-injective y x e) a.0
 at_of P (y ∷ xs) a (suc i) x e = at_of P xs a.1 i x e

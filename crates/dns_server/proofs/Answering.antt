@@ -22,7 +22,7 @@ or_done : (first later : Result (Unit {0}) IoFault) → or_later first later ≡
 or_done (Ok done) later e = (refl, e)
 or_done (Err fault) later e = absurd cc
 
-or_failed : (first later : Result (Unit {0}) IoFault) → or_later first later ≡ Err Failed → (first ≡ Err Failed) ⊎ (later ≡ Err Failed)
+pub or_failed : (first later : Result (Unit {0}) IoFault) → or_later first later ≡ Err Failed → (first ≡ Err Failed) ⊎ (later ≡ Err Failed)
 or_failed (Ok done) later e = inr e
 or_failed (Err fault) later e = inl e
 

@@ -29,33 +29,33 @@ use Rattle.dns_server.specs.Servers.{Matches, ServedSocket, ServedListener, thei
 use Rattle.dns_server.specs.FailedUpdates.{failed_by_step, failed_by_datagram, failed_by_datagrams, failed_by_messages, failed_by_serving, failed_by_connection, failed_by_connections, failed_by_socket, failed_by_listener, added_up}
 
 -- the pass counted so many faults more at least, or it has the mark; and a mark stays. Where these are none it counted no more
-record GrewBy (n : ℕ) (p q : PassSeen) : Type 0 where
-  few : (p.account.faults + n ≤ q.account.faults) ⊎ (q.account.marked ≡ true)
-  mark : p.account.marked ≡ true → q.account.marked ≡ true
-  still : n ≡ 0 → q.account.faults ≡ p.account.faults
+pub record GrewBy (n : ℕ) (p q : PassSeen) : Type 0 where
+  pub few : (p.account.faults + n ≤ q.account.faults) ⊎ (q.account.marked ≡ true)
+  pub mark : p.account.marked ≡ true → q.account.marked ≡ true
+  pub still : n ≡ 0 → q.account.faults ≡ p.account.faults
 
 few_more : (a b n x y z : ℕ) (marked marked' : Bool) → n ≡ a + b → (x + a ≤ y) ⊎ (marked ≡ true) → (y + b ≤ z) ⊎ (marked' ≡ true) → (marked ≡ true → marked' ≡ true) → (x + n ≤ z) ⊎ (marked' ≡ true)
 few_more a b n x y z marked marked' e (inl h) (inl k) keeps = inl (omega (arith, e, h, k))
 few_more a b n x y z marked marked' e (inl h) (inr k) keeps = inr k
 few_more a b n x y z marked marked' e (inr h) k keeps = inr (keeps h)
 
-GrewBy-more : (a b n : ℕ) (p q r : PassSeen) → n ≡ a + b → GrewBy a p q → GrewBy b q r → GrewBy n p r
+pub GrewBy-more : (a b n : ℕ) (p q r : PassSeen) → n ≡ a + b → GrewBy a p q → GrewBy b q r → GrewBy n p r
 GrewBy-more a b n p q r e g h = record {
   few = few_more a b n p.account.faults q.account.faults r.account.faults q.account.marked r.account.marked e g.few h.few h.mark;
   mark = λ m. h.mark (g.mark m);
   still = λ none. h.still (omega (arith, e, none)) ∙ g.still (omega (arith, e, none));
 }
 
-and_none : (n : ℕ) → n ≡ n + 0
+pub and_none : (n : ℕ) → n ≡ n + 0
 and_none n = omega arith
 
 GrewBy-refl : (p : PassSeen) → GrewBy 0 p p
 GrewBy-refl p = record { few = inl (omega arith); mark = λ m. m; still = λ none. refl }
 
-GrewBy-none : (p q : PassSeen) → q ≡ p → GrewBy 0 p q
+pub GrewBy-none : (p q : PassSeen) → q ≡ p → GrewBy 0 p q
 GrewBy-none p q e = rw e (GrewBy-refl p)
 
-GrewBy-left : (p q : PassSeen) → LeftBy p q → GrewBy 0 p q
+pub GrewBy-left : (p q : PassSeen) → LeftBy p q → GrewBy 0 p q
 GrewBy-left p q l = record { few = inl (let e = l.account.faults in omega (arith, e)); mark = l.account.mark; still = λ none. l.account.faults }
 
 few_by_step : (flag : Bool) (a b x y : ℕ) (marked : Bool) → b + x ≡ a + y → x ≤ y → (flag ≡ true → (a < b) ⊎ (marked ≡ true)) → (a + (if flag then 1 else 0) ≤ b) ⊎ (marked ≡ true)
@@ -68,7 +68,7 @@ no_failure false none = refl
 
 -- a run of steps by a pass
 module _ {K : Type 0} (keeper : KeeperOf K) (access : Access) where
-  step_grew : (p : PassSeen) (ask : Ask) (settled : Settled) (q : PassSeen) → (s : SettledBy keeper access p ask settled q) → GrewBy (failed_by_step keeper access p ask settled q s) p q
+  pub step_grew : (p : PassSeen) (ask : Ask) (settled : Settled) (q : PassSeen) → (s : SettledBy keeper access p ask settled q) → GrewBy (failed_by_step keeper access p ask settled q s) p q
   step_grew p ask settled q s = record {
     few = few_by_step s.account.settles.failed p.account.faults q.account.faults (keeper.told s.account.book.keeper).faults (keeper.told s.account.later.keeper).faults q.account.marked
         s.account.counted (Settles-later keeper access s.account.book s.account.later _ settled s.account.settles) s.account.failed;
@@ -175,35 +175,59 @@ rose_by_both a b n k start now ps qs (inl h) (inl j) rise marked = let both = to
 rose_by_both a b n k start now ps qs (inl h) (inr m) rise marked = let e = marked (marked_behind ps qs m) in omega (arith, e)
 rose_by_both a b n k start now ps qs (inr m) j rise marked = let e = marked (marked_before ps qs m) in omega (arith, e)
 
--- of a book that was closed for the passes of all workers, at most as many steps answered an update with ServFail as the keeper's count
--- rose since it was shared, or that stands at its last value
-pub few_failed_updates : {K U T R W C : Type 0} (keeper : KeeperOf K) (access : Access) (socket : U → UdpTold) (listener : ListenerOf T R W C)
-    (xs ys : List (Worker U)) (m : Matches (ServedSocket keeper socket access) xs ys) (vs ws : List (Worker T)) (n : Matches (ServedListener keeper listener access) vs ws)
+-- of a book that was closed for the passes of workers of two kinds, at most as many steps answered an update with ServFail as the keeper's
+-- count rose since it was shared, or that stands at its last value
+pub few_failed : {K P Q : Type 0} {R : Worker P → Worker P → Type 0} {S : Worker Q → Worker Q → Type 0} (keeper : KeeperOf K)
+    (f : (x y : Worker P) → R x y → ℕ) (f_grew : (x y : Worker P) (r : R x y) → GrewBy (f x y r) x.pass y.pass)
+    (g : (x y : Worker Q) → S x y → ℕ) (g_grew : (x y : Worker Q) (s : S x y) → GrewBy (g x y s) x.pass y.pass)
+    (xs ys : List (Worker P)) (m : Matches R xs ys) (vs ws : List (Worker Q)) (n : Matches S vs ws)
     (t : Terms) (book : SeenOf K) → ClosedFor keeper t (their_passes ys ++ their_passes ws) book
-    → RoseBy (added_up (failed_by_socket keeper access socket) xs ys m + added_up (failed_by_listener keeper access listener) vs ws n) t.start (keeper.told book.keeper).faults
-few_failed_updates keeper access socket listener xs ys m vs ws n t book closed =
+    → RoseBy (added_up f xs ys m + added_up g vs ws n) t.start (keeper.told book.keeper).faults
+few_failed keeper f f_grew g g_grew xs ys m vs ws n t book closed =
     rose_by_both _ _ _ _ t.start (keeper.told book.keeper).faults (their_passes ys) (their_passes ws)
-    (workers_grew (failed_by_socket keeper access socket) (λ x y s. datagrams_grew keeper access x.pass s.works.work.handled y.pass s.works.work.run) xs ys m)
-    (workers_grew (failed_by_listener keeper access listener)
-    (λ x y s. connections_grew keeper access listener.input listener.output listener.time x.limit x.pass s.works.work.handled y.pass s.works.work.run) vs ws n)
+    (workers_grew f f_grew xs ys m) (workers_grew g g_grew vs ws n)
     closed.rise (by_mark ((keeper.told book.keeper).faults ≡ last) (their_passes ys ++ their_passes ws) closed.marked)
 
 -- where no step did, and the passes had counted nothing at first, that count is as it was when the book was shared. Other passes may be
 -- among those for which it is closed, which have counted nothing
+pub still_failed : {K P Q : Type 0} {R : Worker P → Worker P → Type 0} {S : Worker Q → Worker Q → Type 0} (keeper : KeeperOf K)
+    (f : (x y : Worker P) → R x y → ℕ) (f_grew : (x y : Worker P) (r : R x y) → GrewBy (f x y r) x.pass y.pass)
+    (g : (x y : Worker Q) → S x y → ℕ) (g_grew : (x y : Worker Q) (s : S x y) → GrewBy (g x y s) x.pass y.pass)
+    (xs ys : List (Worker P)) (m : Matches R xs ys) (vs ws : List (Worker Q)) (n : Matches S vs ws)
+    (t : Terms) (book : SeenOf K) (free : List PassSeen) → ClosedFor keeper t (free ++ (their_passes ys ++ their_passes ws)) book
+    → total pass_faults free ≡ 0 → total pass_faults (their_passes xs) ≡ 0 → total pass_faults (their_passes vs) ≡ 0
+    → added_up f xs ys m + added_up g vs ws n ≡ 0 → (keeper.told book.keeper).faults ≡ t.start
+still_failed keeper f f_grew g g_grew xs ys m vs ws n t book free closed others first second none =
+    let one : total pass_faults (their_passes ys) ≡ total pass_faults (their_passes xs) = workers_still f f_grew xs ys m (omega (arith, none)) in
+    let two : total pass_faults (their_passes ws) ≡ total pass_faults (their_passes vs) = workers_still g g_grew vs ws n (omega (arith, none)) in
+    let all = total_append pass_faults free (their_passes ys ++ their_passes ws) in
+    let both = total_append pass_faults (their_passes ys) (their_passes ws) in
+    let rise = closed.rise in
+    omega (arith, rise, all, both, one, two, others, first, second)
+
+-- the worker of a socket
+pub socket_grew : {K U : Type 0} (keeper : KeeperOf K) (access : Access) (socket : U → UdpTold) (x y : Worker U) (s : ServedSocket keeper socket access x y)
+    → GrewBy (failed_by_socket keeper access socket x y s) x.pass y.pass
+socket_grew keeper access socket x y s = datagrams_grew keeper access x.pass s.works.work.handled y.pass s.works.work.run
+
+-- that of a listener
+listener_grew : {K T R W C : Type 0} (keeper : KeeperOf K) (access : Access) (listener : ListenerOf T R W C) (x y : Worker T) (s : ServedListener keeper listener access x y)
+    → GrewBy (failed_by_listener keeper access listener x y s) x.pass y.pass
+listener_grew keeper access listener x y s =
+    connections_grew keeper access listener.input listener.output listener.time x.limit x.pass s.works.work.handled y.pass s.works.work.run
+
+-- of a server's sockets and listeners
+pub few_failed_updates : {K U T R W C : Type 0} (keeper : KeeperOf K) (access : Access) (socket : U → UdpTold) (listener : ListenerOf T R W C)
+    (xs ys : List (Worker U)) (m : Matches (ServedSocket keeper socket access) xs ys) (vs ws : List (Worker T)) (n : Matches (ServedListener keeper listener access) vs ws)
+    (t : Terms) (book : SeenOf K) → ClosedFor keeper t (their_passes ys ++ their_passes ws) book
+    → RoseBy (added_up (failed_by_socket keeper access socket) xs ys m + added_up (failed_by_listener keeper access listener) vs ws n) t.start (keeper.told book.keeper).faults
+few_failed_updates keeper access socket listener =
+    few_failed keeper (failed_by_socket keeper access socket) (socket_grew keeper access socket) (failed_by_listener keeper access listener) (listener_grew keeper access listener)
+
 pub still_failed_updates : {K U T R W C : Type 0} (keeper : KeeperOf K) (access : Access) (socket : U → UdpTold) (listener : ListenerOf T R W C)
     (xs ys : List (Worker U)) (m : Matches (ServedSocket keeper socket access) xs ys) (vs ws : List (Worker T)) (n : Matches (ServedListener keeper listener access) vs ws)
     (t : Terms) (book : SeenOf K) (free : List PassSeen) → ClosedFor keeper t (free ++ (their_passes ys ++ their_passes ws)) book
     → total pass_faults free ≡ 0 → total pass_faults (their_passes xs) ≡ 0 → total pass_faults (their_passes vs) ≡ 0
     → added_up (failed_by_socket keeper access socket) xs ys m + added_up (failed_by_listener keeper access listener) vs ws n ≡ 0 → (keeper.told book.keeper).faults ≡ t.start
-still_failed_updates keeper access socket listener xs ys m vs ws n t book free closed others first second none =
-    let sockets : total pass_faults (their_passes ys) ≡ total pass_faults (their_passes xs) =
-    workers_still (failed_by_socket keeper access socket) (λ x y s. datagrams_grew keeper access x.pass s.works.work.handled y.pass s.works.work.run) xs ys m (omega (arith, none))
-    in
-    let listeners : total pass_faults (their_passes ws) ≡ total pass_faults (their_passes vs) =
-    workers_still (failed_by_listener keeper access listener)
-    (λ x y s. connections_grew keeper access listener.input listener.output listener.time x.limit x.pass s.works.work.handled y.pass s.works.work.run) vs ws n (omega (arith, none))
-    in
-    let all = total_append pass_faults free (their_passes ys ++ their_passes ws) in
-    let both = total_append pass_faults (their_passes ys) (their_passes ws) in
-    let rise = closed.rise in
-    omega (arith, rise, all, both, sockets, listeners, others, first, second)
+still_failed_updates keeper access socket listener =
+    still_failed keeper (failed_by_socket keeper access socket) (socket_grew keeper access socket) (failed_by_listener keeper access listener) (listener_grew keeper access listener)

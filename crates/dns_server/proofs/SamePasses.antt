@@ -16,13 +16,13 @@ use Rattle.dns_server.specs.Listeners.{HandedBack, TreatsBy, Run as ConnectionRu
 use Rattle.dns_server.specs.declared.worker.Worker.{Worker}
 use Rattle.dns_server.specs.Servers.{IsServer, KeepsPasses, Matches, ServerSeen, their_passes}
 
-Same-refl : (p : PassSeen) → IsSame p p
+pub Same-refl : (p : PassSeen) → IsSame p p
 Same-refl p = record { book = refl; terms = refl; number = refl }
 
-Same-of : (p q : PassSeen) → q ≡ p → IsSame p q
+pub Same-of : (p q : PassSeen) → q ≡ p → IsSame p q
 Same-of p q e = subst (λ (x : PassSeen). IsSame x q) e (Same-refl q)
 
-Same-trans : (p q r : PassSeen) → IsSame p q → IsSame q r → IsSame p r
+pub Same-trans : (p q r : PassSeen) → IsSame p q → IsSame q r → IsSame p r
 Same-trans p q r a b = record { book = b.book ∙ a.book; terms = b.terms ∙ a.terms; number = b.number ∙ a.number }
 
 -- the meaning of a keeper, and who is let in
@@ -64,17 +64,17 @@ module _ {K : Type 0} (keeper : KeeperOf K) (access : Access) where
     connections_same p (one ∷ others) q run = Same-trans p run.0 q (treats_same p one.came one.back one.answer run.0 run.1) (connections_same run.0 others q run.2)
 
 -- each at its place
-passes_same : {P : Type 0} (R : Worker P → Worker P → Type 0) → ((a b : Worker P) → R a b → IsSame a.pass b.pass) → (xs ys : List (Worker P)) → Matches R xs ys → Matches IsSame (their_passes xs) (their_passes ys)
+pub passes_same : {P : Type 0} (R : Worker P → Worker P → Type 0) → ((a b : Worker P) → R a b → IsSame a.pass b.pass) → (xs ys : List (Worker P)) → Matches R xs ys → Matches IsSame (their_passes xs) (their_passes ys)
 passes_same R same [] [] m = tt
 passes_same R same [] (y ∷ ys) m = absurd m
 passes_same R same (x ∷ xs) [] m = absurd m
 passes_same R same (x ∷ xs) (y ∷ ys) m = (same x y m.0, passes_same R same xs ys m.1)
 
-free_same : (ps : List PassSeen) → Matches IsSame ps ps
+pub free_same : (ps : List PassSeen) → Matches IsSame ps ps
 free_same [] = tt
 free_same (p ∷ ps) = (Same-refl p, free_same ps)
 
-both_same : (ps qs rs ss : List PassSeen) → Matches IsSame ps qs → Matches IsSame rs ss → Matches IsSame (ps ++ rs) (qs ++ ss)
+pub both_same : (ps qs rs ss : List PassSeen) → Matches IsSame ps qs → Matches IsSame rs ss → Matches IsSame (ps ++ rs) (qs ++ ss)
 both_same [] [] rs ss m n = n
 both_same [] (q ∷ qs) rs ss m n = absurd m
 both_same (p ∷ ps) [] rs ss m n = absurd m

@@ -51,11 +51,7 @@ fn make_room<P>(workers: &mut Vec<Worker<P>>, room: &mut Vec<P>) -> Result<(), O
 }
 
 /// Dismisses workers: their passes come behind the free ones, and their ports into `room`, in order.
-pub(crate) fn dismiss<P: Drop>(
-    workers: Vec<Worker<P>>,
-    room: Vec<P>,
-    free: &mut Vec<Pass>,
-) -> Vec<P>
+pub fn dismiss<P: Drop>(workers: Vec<Worker<P>>, room: Vec<P>, free: &mut Vec<Pass>) -> Vec<P>
     requires empty { room.items ≡ [] }
     requires room { vec_len workers ≤ vec_capacity room }
     requires passes { length free.old.items + vec_len workers ≤ vec_capacity free.old }

@@ -15,13 +15,17 @@ mod socket_worker;
 mod until;
 mod worker;
 
+pub use crew::dismiss;
 pub use dns_ports::{Accepted, Arrived, Hub, Opening, StopToken, TcpPort, UdpPort};
 pub use dns_ticket_lock::{Pass, Seated, TicketBook};
 pub use fault::RegisterFault;
 pub use limit::Limit;
 pub use listener_worker::serve_listener;
+pub use running::{first_fault, or_later};
 pub use server::ThreadServer;
+pub use socket_threads::run_sockets;
 pub use socket_worker::serve_socket;
+pub use until::read_out;
 pub use worker::Worker;
 
 /// The version of the server that this one behaves like.

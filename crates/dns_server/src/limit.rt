@@ -22,7 +22,7 @@ impl Model for Limit {
 
 impl Limit {
     /// A limit.
-    pub(crate) fn new(milliseconds: u64) -> Limit
+    pub fn new(milliseconds: u64) -> Limit
         requires { milliseconds < 2 ^ 47 }
         ensures { result ≡ milliseconds }
     {

@@ -163,7 +163,7 @@ fn as_net(answer: Result<(), IoFault>) -> Result<(), NetError>
 }
 
 /// The first of two faults.
-fn or_later(first: Result<(), IoFault>, later: Result<(), IoFault>) -> Result<(), IoFault>
+pub fn or_later(first: Result<(), IoFault>, later: Result<(), IoFault>) -> Result<(), IoFault>
     ensures { result ≡ or_later first later }
 {
     match first {
@@ -173,7 +173,7 @@ fn or_later(first: Result<(), IoFault>, later: Result<(), IoFault>) -> Result<()
 }
 
 /// The first fault of workers.
-fn first_fault<P>(workers: &[Worker<P>]) -> Result<(), IoFault>
+pub fn first_fault<P>(workers: &[Worker<P>]) -> Result<(), IoFault>
     ensures { result ≡ first_fault workers.now }
 {
     for worker in workers {

@@ -16,7 +16,7 @@ use std::sync::Wait;
 use std::thread::{self, Threads};
 
 /// Runs the workers, each on a thread of its own, and waits until they have ended.
-pub(crate) fn run_sockets<K: Keeper + Send, U: UdpPort + Send, R: Threads + Wait + Sync>(
+pub fn run_sockets<K: Keeper + Send, U: UdpPort + Send, R: Threads + Wait + Sync>(
     rt: &R,
     alloc: Global,
     book: &TicketBook<K>,

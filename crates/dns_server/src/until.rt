@@ -11,11 +11,7 @@ use dns_ports::StopToken;
 use std::sync::Wait;
 
 /// Reads a source to its end or first fault, and then stops the token. An error says that no memory was found to read on.
-pub(crate) fn read_out<E: Source, R: Wait>(
-    rt: &R,
-    until: &mut E,
-    token: &StopToken,
-) -> Result<(), IoFault>
+pub fn read_out<E: Source, R: Wait>(rt: &R, until: &mut E, token: &StopToken) -> Result<(), IoFault>
     ensures ended { EndsReading (around E.source.told until.old until.new) result }
     ensures read { (bytes : List ℕ) × Takes (E.source.told until.old).left (E.source.told until.new).left bytes }
     ensures later { (E.source.told until.old).faults ≤ (E.source.told until.new).faults }

@@ -1,0 +1,8 @@
+mod SomeFault
+pub mod SamePasses
+pub mod FailedUpdates
+pub mod AllPasses
+pub mod Faults
+pub mod PortsServed
+pub mod Taken
+pub mod BookServed

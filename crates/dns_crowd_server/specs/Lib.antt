@@ -1,0 +1,5 @@
+pub mod Crews
+pub mod FailedUpdates
+pub mod Hubs
+pub mod Memory
+pub mod Serving

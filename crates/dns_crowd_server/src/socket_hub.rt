@@ -1,0 +1,254 @@
+//! A hub over the operating system.
+
+ghost use Rattle.std.specs.Prelude.{◌≡◌, ◌<◌, ◌≤◌, ◌+◌, ◌++◌, ◌∷◌, ◌^◌, [], All, length, min, nat_lt, IfOk, IfSome, OnOk};
+ghost use Rattle.std.specs.List.{sum_by};
+ghost use Rattle.dns_io.specs.Told.{counted};
+ghost use Rattle.dns_ports.specs.Ports.{CountsPort, IsFreshSocket};
+ghost use Rattle.dns_ports.specs.Sockets.{untold_socket};
+ghost use Rattle.dns_crowd.specs.Crowds.{untold_crowd};
+ghost use Rattle.dns_crowd_server.specs.Hubs.{ClosesPlaces, IsFreshCrowd, OpensPlaces, count_at, crowds_of, part_of, sockets_of, their_faults};
+ghost use Rattle.dns_crowd_server.specs.Memory.{untold_crowd_hub};
+
+use crate::hub::{CrowdHub, Places, count_at};
+use dns_crowd::SocketCrowd;
+use dns_io::{IoFault, Peer};
+use dns_ports::{SocketPort, StopToken, address_of, count, faults_behind};
+use mio::net::TcpListener as QuickListener;
+use std::alloc::Global;
+use std::marker::Model;
+use std::net::{Net, TcpListener, TcpStream};
+use std::rt;
+
+/// Opens sockets and crowds of the operating system. What is taken back is closed.
+#[derive(Drop)]
+pub struct SocketCrowdHub<R> {
+    alloc: Global,
+    runtime: R,
+    lent_sockets: u64,
+    lent_crowds: u64,
+    faults: u64,
+}
+
+impl<R> Model for SocketCrowdHub<R> {
+    ghost use Rattle.dns_crowd_server.specs.Memory.{SocketHubCounts};
+
+    ghost Value = { SocketHubCounts };
+
+    ghost view = { λ h. record { lent_sockets = h.lent_sockets; lent_crowds = h.lent_crowds; faults = h.faults } };
+}
+
+impl<R> SocketCrowdHub<R> {
+    /// A hub that opened nothing.
+    pub fn new(alloc: Global, runtime: R) -> SocketCrowdHub<R>
+        ensures { result ≡ record { lent_sockets = 0; lent_crowds = 0; faults = 0 } }
+    {
+        SocketCrowdHub {
+            alloc,
+            runtime,
+            lent_sockets: 0,
+            lent_crowds: 0,
+            faults: 0,
+        }
+    }
+}
+
+impl<R: Net<Listener = TcpListener, Stream = TcpStream> + rt::Clock + Copy> CrowdHub
+    for SocketCrowdHub<R> {
+    type Udp = SocketPort<R>;
+
+    type Connections = SocketCrowd<R>;
+
+    ghost told = { untold_crowd_hub };
+
+    fn open(
+        &mut self,
+        places: &Places,
+        stop: &StopToken,
+    ) -> Result<(Vec<SocketPort<R>>, Vec<SocketCrowd<R>>), IoFault>
+        requires limit { places.now.limit < 2 ^ 47 }
+        ensures sockets { IfOk result (λ ports. length ports.0.items ≡ sockets_of places.now) }
+        ensures crowds { IfOk result (λ ports. length ports.1.items ≡ crowds_of places.now) }
+        ensures fresh_sockets { IfOk result (λ ports. All (λ one. IsFreshSocket (untold_socket one)) ports.0.items) }
+        ensures fresh_crowds { IfOk result (λ ports. All (λ one. IsFreshCrowd (untold_crowd one)) ports.1.items) }
+        ensures told { OpensPlaces (untold_crowd_hub self.old) (untold_crowd_hub self.new) places.now result }
+        ensures faults { self.new.faults ≡ counted self.old.faults result }
+    {
+        let Some(lent) = lent_behind(self.lent_sockets, self.lent_crowds, places) else {
+            return Err(IoFault::OutOfMemory);
+        };
+        let opened = opened(self.alloc, self.runtime, places, stop);
+        let ports = count(opened, &mut self.faults)?;
+        self.lent_sockets = lent.0;
+        self.lent_crowds = lent.1;
+        Ok(ports)
+    }
+
+    fn close(&mut self, sockets: Vec<SocketPort<R>>, crowds: Vec<SocketCrowd<R>>)
+        requires sockets { length sockets.items ≤ self.old.lent_sockets }
+        requires crowds { length crowds.items ≤ self.old.lent_crowds }
+        ensures told { ClosesPlaces (untold_crowd_hub self.old) (untold_crowd_hub self.new) sockets.items crowds.items
+            (their_faults untold_socket untold_crowd sockets.items crowds.items) }
+    {
+        self.faults = faults_after(self.faults, sockets.as_slice(), crowds.as_slice());
+        self.lent_sockets -= sockets.len() as u64;
+        self.lent_crowds -= crowds.len() as u64;
+    }
+}
+
+/// How many sockets and how many crowds are out behind an opening at these places.
+fn lent_behind(sockets: u64, crowds: u64, places: &Places) -> Option<(u64, u64)>
+    ensures { IfSome result (λ lent. (lent.0 ≡ sockets + sockets_of places.now) × (lent.1 ≡ crowds + crowds_of places.now)) }
+{
+    let sockets = sockets.checked_add(u64::from(count_at(1, &places.udp)))?;
+    let crowds = crowds.checked_add(u64::from(count_at(places.workers, &places.tcp)))?;
+    Some((sockets, crowds))
+}
+
+/// The sockets and crowds of these places.
+fn opened<R: Net<Listener = TcpListener, Stream = TcpStream> + rt::Clock + Copy>(
+    alloc: Global,
+    runtime: R,
+    places: &Places,
+    stop: &StopToken,
+) -> Result<(Vec<SocketPort<R>>, Vec<SocketCrowd<R>>), IoFault>
+    requires limit { places.now.limit < 2 ^ 47 }
+    ensures sockets { IfOk result (λ ports. length ports.0.items ≡ sockets_of places.now) }
+    ensures crowds { IfOk result (λ ports. length ports.1.items ≡ crowds_of places.now) }
+    ensures fresh_sockets { IfOk result (λ ports. All (λ one. IsFreshSocket (untold_socket one)) ports.0.items) }
+    ensures fresh_crowds { IfOk result (λ ports. All (λ one. IsFreshCrowd (untold_crowd one)) ports.1.items) }
+{
+    let sockets = sockets_at(alloc, runtime, places.udp, stop)?;
+    let crowds = crowds_at(alloc, runtime, places, stop)?;
+    Ok((sockets, crowds))
+}
+
+/// A socket at this address, where it is one.
+fn sockets_at<R: Net + rt::Clock + Copy>(
+    alloc: Global,
+    runtime: R,
+    at: Option<Peer>,
+    stop: &StopToken,
+) -> Result<Vec<SocketPort<R>>, IoFault>
+    ensures count { IfOk result (λ ports. length ports.items ≡ count_at 1 at) }
+    ensures fresh { IfOk result (λ ports. All (λ one. IsFreshSocket (untold_socket one)) ports.items) }
+{
+    let mut sockets = Vec::new(alloc);
+    let Some(at) = at else {
+        return Ok(sockets);
+    };
+    let socket = SocketPort::open(runtime, at, stop)?;
+    if sockets.push(socket).is_err() {
+        return Err(IoFault::OutOfMemory);
+    }
+    Ok(sockets)
+}
+
+/// So many crowds as are asked for at their address, where it is one, over one queue of connections. Of the connections that may be open at
+/// once each crowd may have its part, and at least one.
+fn crowds_at<R: Net<Listener = TcpListener, Stream = TcpStream> + rt::Clock + Copy>(
+    alloc: Global,
+    runtime: R,
+    places: &Places,
+    stop: &StopToken,
+) -> Result<Vec<SocketCrowd<R>>, IoFault>
+    requires limit { places.now.limit < 2 ^ 47 }
+    ensures count { IfOk result (λ crowds. length crowds.items ≡ crowds_of places.now) }
+    ensures fresh { IfOk result (λ crowds. All (λ one. one.faults ≡ 0) crowds.items) }
+{
+    let mut crowds = Vec::new(alloc);
+    let Some(at) = places.tcp else {
+        return Ok(crowds);
+    };
+    let listener = TcpListener::from(QuickListener::bind(&runtime, address_of(at))?);
+    let most = part_of(places.connections, places.workers);
+    for _place in 0..places.workers {
+        let crowd = crowd_over(alloc, runtime, &listener, places.limit, most, stop)?;
+        put(&mut crowds, crowd)?;
+    }
+    Ok(crowds)
+}
+
+/// Adds an item at the end.
+fn put<T: Drop>(items: &mut Vec<T>, item: T) -> Result<(), IoFault>
+    ensures { OnOk result (items.new.items ≡ items.old.items ++ item ∷ []) }
+{
+    match items.push(item) {
+        Ok(()) => Ok(()),
+        Err(_) => Err(IoFault::OutOfMemory),
+    }
+}
+
+/// One more crowd over the same queue of connections.
+fn crowd_over<R: Net<Listener = TcpListener, Stream = TcpStream> + rt::Clock + Copy>(
+    alloc: Global,
+    runtime: R,
+    listener: &TcpListener,
+    limit: u64,
+    most: usize,
+    stop: &StopToken,
+) -> Result<SocketCrowd<R>, IoFault>
+    requires limit { limit < 2 ^ 47 }
+    ensures fresh { IfOk result (λ crowd. crowd.faults ≡ 0) }
+{
+    let own = QuickListener::from_std(listener.try_clone()?);
+    let token = stop.again()?;
+    SocketCrowd::over(alloc, runtime, own, limit, most, token)
+}
+
+/// The part of each of so many workers, and at least one.
+fn part_of(connections: u32, workers: u32) -> usize
+    ensures { result ≡ part_of connections workers }
+{
+    if workers == 0 {
+        return 1;
+    }
+    (connections / workers).max(1) as usize
+}
+
+/// The count of faults of a hub behind these: it rises by one where one of them has a count above 0.
+fn faults_after<R: Net + rt::Clock + Copy>(
+    faults: u64,
+    sockets: &[SocketPort<R>],
+    crowds: &[SocketCrowd<R>],
+) -> u64
+    ensures { CountsPort (their_faults untold_socket untold_crowd sockets.now crowds.now) faults result }
+{
+    faults_behind(faults, faulty(sockets, crowds))
+}
+
+/// 1 where one of these has a count of faults above 0, else 0.
+fn faulty<R: Net + rt::Clock + Copy>(sockets: &[SocketPort<R>], crowds: &[SocketCrowd<R>]) -> u64
+    ensures { result ≡ min (their_faults untold_socket untold_crowd sockets.now crowds.now) 1 }
+{
+    if has_faulty_socket(sockets) {
+        return 1;
+    }
+    if has_faulty_crowd(crowds) {
+        return 1;
+    }
+    0
+}
+
+/// Whether one of these has a count of faults above 0.
+fn has_faulty_socket<R>(sockets: &[SocketPort<R>]) -> bool
+    ensures { result ≡ nat_lt 0 (sum_by (λ one. (untold_socket one).faults) sockets.now) }
+{
+    for socket in sockets {
+        if socket.faults() > 0 {
+            return true;
+        }
+    }
+    false
+}
+
+/// Whether one of these has a count of faults above 0.
+fn has_faulty_crowd<R: Net + rt::Clock + Copy>(crowds: &[SocketCrowd<R>]) -> bool
+    ensures { result ≡ nat_lt 0 (sum_by (λ one. (untold_crowd one).faults) crowds.now) }
+{
+    for crowd in crowds {
+        if crowd.faults() > 0 {
+            return true;
+        }
+    }
+    false
+}
