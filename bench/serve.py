@@ -30,7 +30,7 @@ import wire
 ZONES = (7, 50_000, 500_000)  # names
 WINDOW = {"udp": 64, "tcp": 64}
 WINDOWS = (1, 8, 64)  # queries under way on each of two connections
-CROWDS = (1, 4, 8, 16)  # connections at once, each with a worker of its own
+CROWDS = (1, 4, 8, 16)  # connections at once, of as many workers as the last of these
 UPDATES = 2_000
 TURNS = 10  # in which what is compared takes turns
 UPDATE_TURNS = 3  # of which the fastest counts
@@ -118,7 +118,7 @@ def replies_of(load, port, seconds, names, connections, window):
 
 
 def second_worker(load, seconds, folder):
-    """What a second worker adds: two connections, each served by a worker of its own, beside one."""
+    """What a second worker adds: two connections, which come to either worker, beside one."""
     zone, names = zone_of(ZONES[0], folder)
     with clients.Serving(zone=zone, workers=2) as server:
         for window in WINDOWS:
@@ -131,7 +131,7 @@ def second_worker(load, seconds, folder):
 
 
 def crowds(load, seconds, folder):
-    """Replies a second over many connections at once, each with a worker of its own."""
+    """Replies a second over many connections at once, with a worker for each, though several may come to one."""
     zone, names = zone_of(ZONES[0], folder)
     with clients.Serving(zone=zone, workers=max(CROWDS)) as server:
         for window in WINDOWS:

@@ -19,7 +19,7 @@ from pathlib import Path
 
 TOP = Path(__file__).resolve().parent.parent
 PAGES = {
-    "man/dns.8": "crates/dns_command/src/help.rt",
+    "man/dns.8": "crates/dns_serve/src/help.rt",
     "man/dns-nsupdate.1": "crates/dns_update_client/src/help.rt",
     "man/dns-audit.1": "crates/dns_audit/src/help.rt",
     "man/dns-follow.1": "crates/dns_follow/src/help.rt",

@@ -1,15 +1,15 @@
 mod EventWords
 mod TextsRead
 mod LinesWritten
-mod Told
+pub mod Told
 mod Drawn
 mod ExampleRead
 mod Settled
-mod Endings
-mod Completing
-mod Counting
-mod Loops
+pub mod Endings
+pub mod Completing
+pub mod Counting
+pub mod Loops
 mod Crews
 mod Served
-mod ServeEndings
-mod RunEndings
+pub mod ServeEndings
+pub mod RunEndings

@@ -41,7 +41,7 @@ use Rattle.dns_command.specs.declared.listening_words.Listening.{Listening}
 use Rattle.dns_command.specs.Serving.{Crew, passes_of, IsNewWorker, IsNewSocket, IsNewListener, IsNewCrew, Works, WorksToItsEnd, SharesPasses, ClosedForAll}
 use Rattle.dns_command.specs.Serving.{failed_updates, failed_so_far, IsPortCause, MayBeRead, opening_journal, BeginsServing, Serves, StopsServing, IsUnserved, without_memory, at_finding, at_opening, at_sharing, RefusesServing, unserved, stopped}
 use Rattle.dns_command.specs.ServingParts.{ServesBook, ServesNot, unshared, closed, ServesNone, not_opened, not_served}
-use Rattle.dns_command.specs.ServeEnds.{IsCutServing, in_refusal, in_closing, ServeEnds, with_closing, with_refusal, with_write_fault, cut_for_memory, refused_for_memory, IsSoundServing}
+use Rattle.dns_command.specs.ServeEnds.{IsCutOf, IsCutServing, in_refusal, in_closing, ServeEnds, ServingEnds, with_closing, with_refusal, with_write_fault, cut_for_memory, refused_for_memory, IsSoundServing}
 use Rattle.dns_command.specs.Counts.{ComesOf, with_line, cut_by_fault, cut_for_memory as cut_for_want, CountsWriting, HasServed, TakesSomeFaulty, FailsServing, in_serving, in_stopping, RunCounts}
 use Rattle.dns_command.proofs.Completing.{of_finding, of_opening}
 use Rattle.dns_command.proofs.Counting.{Kept, untouched, unwritten, of_found, of_unfound, of_unfound_journal, of_unopened}
@@ -49,28 +49,32 @@ use Rattle.dns_command.proofs.Loops.{zero_or_more}
 use Rattle.dns_command.proofs.Told.{NeverBegins-told}
 use Rattle.dns_command.proofs.Endings.{journal_of, Finds-on, OpensNot-earlier, IsOpened-earlier, IsOpened-told, IsOpened-still}
 
+module _ (w : World) (IsServed : List ℕ → Type 0) (IsRefused : Status → Type 0) where
+  abbrev Told : Status → Type 0
+  Told s = ServingEnds w IsServed IsRefused s
+
+  -- a text was written, or was not written to its end
+  whole : (text : List ℕ) (meant : Status) (result : Result (Unit {0}) IoFault)
+      → (IsWritten w.output text → Told meant) → (TookFront w text → IsCutOf w IsServed IsRefused) → WritesWhole w.output text result → Told (after_writing meant result)
+  whole text meant (Ok done) good cut v = good (record { taken = v.written.ok; flushed = v.flushed; faults = v.written.cause.counts })
+  whole text meant (Err Failed) good cut v = with_write_fault v.written.cause.counts (cut v.written.err)
+  whole text meant (Err OutOfMemory) good cut v = cut_for_memory v.written.cause.counts (cut v.written.err)
+
+  -- a refusal
+  pub refused : (s t : Status) → IsRefused s → EndsRefusing w.output s t → Told t
+  refused s t r (silent m is u) = subst (λ (x : Status). Told x) (sym is) (refused_for_memory (subst (λ (x : Status). IsRefused x) m r) u)
+  refused s t r (by_line ne e) = subst (λ (x : Status). Told x) (sym e.status) (whole (refusal_line s) s e.result (with_refusal ne r) (in_refusal s ne r) e.written)
+
+  -- the closing lines
+  pub closing : (text : List ℕ) (t : Status) → IsServed text → EndsWriting w.output text status.Ok t → Told t
+  closing text t a e = subst (λ (x : Status). Told x) (sym e.status) (whole text status.Ok e.result (with_closing text a) (in_closing text a) e.written)
+
 module _ {K U T R W C : Type 0} (m : Meanings K U T R W C) (w : World) (hub : Around (HubTold U T)) where
   abbrev Ending : Status → Type 0
   Ending s = ServeEnds m w hub s
 
   abbrev Refusing : Status → Type 0
   Refusing s = RefusesServing m w hub s
-
-  -- a text was written, or was not written to its end
-  whole : (text : List ℕ) (meant : Status) (result : Result (Unit {0}) IoFault)
-      → (IsWritten w.output text → Ending meant) → (TookFront w text → IsCutServing m w hub) → WritesWhole w.output text result → Ending (after_writing meant result)
-  whole text meant (Ok done) good cut v = good (record { taken = v.written.ok; flushed = v.flushed; faults = v.written.cause.counts })
-  whole text meant (Err Failed) good cut v = with_write_fault v.written.cause.counts (cut v.written.err)
-  whole text meant (Err OutOfMemory) good cut v = cut_for_memory v.written.cause.counts (cut v.written.err)
-
-  -- a refusal
-  pub refused : (s t : Status) → Refusing s → EndsRefusing w.output s t → Ending t
-  refused s t r (silent m is u) = subst (λ (x : Status). Ending x) (sym is) (refused_for_memory (subst (λ (x : Status). Refusing x) m r) u)
-  refused s t r (by_line ne e) = subst (λ (x : Status). Ending x) (sym e.status) (whole (refusal_line s) s e.result (with_refusal ne r) (in_refusal s ne r) e.written)
-
-  -- the closing lines
-  pub closing : (text : List ℕ) (t : Status) → Serves m w hub text → EndsWriting w.output text status.Ok t → Ending t
-  closing text t a e = subst (λ (x : Status). Ending x) (sym e.status) (whole text status.Ok e.result (with_closing text a) (in_closing text a) e.written)
 
   -- nothing is at fault
   of_port : (us : List U) (ts : List T) (s : Status) → (Rose hub.before.faults hub.after.faults → ⊥) → IsPortCause m hub us ts s → s ≡ status.OutOfMemory

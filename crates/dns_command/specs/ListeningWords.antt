@@ -6,7 +6,7 @@ use Rattle.std.specs.Str.{bytes_eq}
 use Rattle.dns_io.specs.declared.peer.Peer.{Peer}
 use Rattle.dns_words.specs.Values.{◌>>=◌, decimal_of, address_of}
 use Rattle.dns_words.specs.Keys.{behind, first_behind}
-use Rattle.dns_command.specs.CommandLine.{is_option, has_no_double, options_behind, options_of}
+use Rattle.dns_command.specs.CommandLine.{is_option, has_no_double, options_behind}
 use Rattle.dns_command.specs.declared.listening_words.Listening.{Listening}
 use Rattle.dns_command.specs.declared.listening_words.Service.{Service}
 
@@ -55,13 +55,17 @@ listening_of words = record {
   workers = unwrap_or (workers_in words) 16;
 }
 
--- options of `serve`: each at most once but for the networks, and at least one place to listen at
-abbrev pub are_serve_options : List (List ℕ) → Bool
-are_serve_options words =
-    list_all is_serve_option words && has_no_double words
+-- each at most once but for the networks, and at least one place to listen at
+abbrev pub are_single : List (List ℕ) → Bool
+are_single words =
+    has_no_double words
     && nat_le (count_by (is_address_word (codes "--udp=")) words) 1 && nat_le (count_by (is_address_word (codes "--tcp=")) words) 1
     && nat_le (count_by is_limit_word words) 1 && nat_le (count_by is_workers_word words) 1
     && (is_some (address_in (codes "--udp=") words) || is_some (address_in (codes "--tcp=") words))
+
+-- options of `serve`
+abbrev pub are_serve_options : List (List ℕ) → Bool
+are_serve_options words = list_all is_serve_option words && are_single words
 
 -- what legal words of `serve` ask for: the command, an origin, and options
 unfoldable pub service_of : List (List ℕ) → Option Service
@@ -86,7 +90,3 @@ listeners_of listening = count_at listening.workers listening.tcp
 
 abbrev pub seats_of : Listening → ℕ
 seats_of listening = sockets_of listening + listeners_of listening
-
--- the words are a command: those of `serve`, or those of `events` or `load`
-abbrev pub is_command : List (List ℕ) → Bool
-is_command words = is_some (service_of words) || is_some (options_of words)

@@ -18,20 +18,29 @@ use Rattle.dns_command.specs.Completeness.{HasZone, Completes}
 use Rattle.dns_command.specs.Serving.{Serves, RefusesServing}
 use Rattle.dns_command.specs.Counts.{Counts, RunCounts}
 
-module _ {K U T R W C : Type 0} (m : Meanings K U T R W C) (w : World) (hub : Around (HubTold U T)) where
+module _ (w : World) (Serves : List ℕ → Type 0) (Refuses : Status → Type 0) where
   -- some of the bytes were not written, or not handed on: of the line of a refusal, or of the two closing lines
-  pub data IsCutServing : Type 0 where
-    in_refusal : (s : Status) → s ≢ status.OutOfMemory → RefusesServing m w hub s → TookFront w (refusal_line s) → IsCutServing
-    in_closing : (text : List ℕ) → Serves m w hub text → TookFront w text → IsCutServing
+  pub data IsCutOf : Type 0 where
+    in_refusal : (s : Status) → s ≢ status.OutOfMemory → Refuses s → TookFront w (refusal_line s) → IsCutOf
+    in_closing : (text : List ℕ) → Serves text → TookFront w text → IsCutOf
 
-  -- what each status of `serve` means. Status 0 and each status with a line say that the output took all the bytes, and handed
-  -- on all that it took. Status 7 says that the output's count of faults rose, and no other does
-  pub data ServeEnds : Status → Type 0 where
-    with_closing : (text : List ℕ) → Serves m w hub text → IsWritten w.output text → ServeEnds status.Ok
-    with_refusal : {s : Status} → s ≢ status.OutOfMemory → RefusesServing m w hub s → IsWritten w.output (refusal_line s) → ServeEnds s
-    with_write_fault : Rose w.output.before.faults w.output.after.faults → IsCutServing → ServeEnds status.WriteFault
-    cut_for_memory : w.output.after.faults ≡ w.output.before.faults → IsCutServing → ServeEnds status.OutOfMemory
-    refused_for_memory : RefusesServing m w hub status.OutOfMemory → IsUntouched w.output → ServeEnds status.OutOfMemory
+  -- what each status means of what serves, with this output, or is refused. Status 0 and each status with a line say that the output took
+  -- all the bytes, and handed on all that it took. Status 7 says that the output's count of faults rose, and no other does
+  pub data ServingEnds : Status → Type 0 where
+    with_closing : (text : List ℕ) → Serves text → IsWritten w.output text → ServingEnds status.Ok
+    with_refusal : {s : Status} → s ≢ status.OutOfMemory → Refuses s → IsWritten w.output (refusal_line s) → ServingEnds s
+    with_write_fault : Rose w.output.before.faults w.output.after.faults → IsCutOf → ServingEnds status.WriteFault
+    cut_for_memory : w.output.after.faults ≡ w.output.before.faults → IsCutOf → ServingEnds status.OutOfMemory
+    refused_for_memory : Refuses status.OutOfMemory → IsUntouched w.output → ServingEnds status.OutOfMemory
+
+module _ {K U T R W C : Type 0} (m : Meanings K U T R W C) (w : World) (hub : Around (HubTold U T)) where
+  -- the closing lines of `serve`, or the line of its refusal, were cut
+  abbrev pub IsCutServing : Type 0
+  IsCutServing = IsCutOf w (Serves m w hub) (RefusesServing m w hub)
+
+  -- what each status of `serve` means
+  abbrev pub ServeEnds : Status → Type 0
+  ServeEnds s = ServingEnds w (Serves m w hub) (RefusesServing m w hub) s
 
   -- how the top call ends: words of `serve` are served, and any others are those of a list of events, with no hub
   pub data RunEnds (s : Status) : Type 0 where

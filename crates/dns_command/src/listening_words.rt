@@ -3,18 +3,18 @@
 ghost use Rattle.std.specs.Prelude.{◌≡◌, ◌<◌, ◌≤◌, ◌^◌, IfOk, IfSome, map, count_by, string_bytes};
 ghost use Rattle.std.specs.List.{list_all};
 ghost use Rattle.dns_name.specs.Name.{fold_of};
-ghost use Rattle.dns_command.specs.ListeningWords.{limit_of, workers_of, is_address_word, is_limit_word, is_workers_word, is_serve_option, address_in, limit_in, workers_in, listening_of, are_serve_options, service_of, count_at, seats_of, is_command};
+ghost use Rattle.dns_command.specs.ListeningWords.{limit_of, workers_of, is_address_word, is_limit_word, is_workers_word, is_serve_option, address_in, limit_in, workers_in, listening_of, are_single, are_serve_options, service_of, count_at, seats_of};
 
-use crate::command_line::{Options, has_no_double, is_option, options_behind, options_of};
+use crate::command_line::{Options, has_no_double, is_option, options_behind};
 use dns_io::{OutOfMemory, Peer};
 use dns_words::{address_of, behind, decimal_of, first_behind};
 use std::alloc::Global;
 
 /// The key of the address and port where datagrams are taken.
-const UDP: &str = "--udp=";
+pub const UDP: &str = "--udp=";
 
 /// The key of the address and port where connections are taken.
-const TCP: &str = "--tcp=";
+pub const TCP: &str = "--tcp=";
 
 /// The key of a connection's limit.
 const LIMIT: &str = "--limit=";
@@ -23,7 +23,7 @@ const LIMIT: &str = "--limit=";
 const WORKERS: &str = "--workers=";
 
 /// The limit where no other stands, in milliseconds.
-const USUAL_LIMIT: u64 = 5_000;
+pub const USUAL_LIMIT: u64 = 5_000;
 
 /// How many connections are served at once where no other number stands.
 const USUAL_WORKERS: u32 = 16;
@@ -102,21 +102,17 @@ pub fn service_of(alloc: Global, words: &[String]) -> Result<Option<Service>, Ou
     }
 }
 
-/// Whether the words are a command: those of `serve`, or those of `events`.
-pub fn is_command(alloc: Global, words: &[String]) -> Result<bool, OutOfMemory>
-    ensures { IfOk result (λ is. is ≡ is_command (map string_bytes words.now)) }
-{
-    if service_of(alloc, words)?.is_some() {
-        return Ok(true);
-    }
-    Ok(options_of(alloc, words)?.is_some())
-}
-
 fn are_serve_options(words: &[String]) -> bool
     ensures { result ≡ are_serve_options (map string_bytes words.now) }
 {
-    are_each_serve_option(words)
-        && has_no_double(words)
+    are_each_serve_option(words) && are_single(words)
+}
+
+/// Whether each stands at most once but for the networks, and there is a place to listen at.
+pub fn are_single(words: &[String]) -> bool
+    ensures { result ≡ are_single (map string_bytes words.now) }
+{
+    has_no_double(words)
         && address_words(words, UDP) <= 1
         && address_words(words, TCP) <= 1
         && limit_words(words) <= 1
@@ -174,7 +170,8 @@ fn workers_words(words: &[String]) -> usize
     count
 }
 
-fn is_serve_option(word: &str) -> bool
+/// Whether a word is an option of `serve`.
+pub fn is_serve_option(word: &str) -> bool
     ensures { result ≡ is_serve_option word.now }
 {
     is_option(word)
@@ -224,7 +221,8 @@ fn listening_of(words: &[String]) -> Listening
     }
 }
 
-fn address_in(words: &[String], key: &str) -> Option<Peer>
+/// The address and port behind a key, where one stands.
+pub fn address_in(words: &[String], key: &str) -> Option<Peer>
     ensures { result ≡ address_in key.now (map string_bytes words.now) }
 {
     match first_behind(words, key) {
@@ -233,7 +231,8 @@ fn address_in(words: &[String], key: &str) -> Option<Peer>
     }
 }
 
-fn limit_in(words: &[String]) -> Option<u64>
+/// The limit of connections, where one stands.
+pub fn limit_in(words: &[String]) -> Option<u64>
     ensures is { result ≡ limit_in (map string_bytes words.now) }
     ensures below { IfSome result (λ limit. limit < 2 ^ 47) }
 {
@@ -243,7 +242,8 @@ fn limit_in(words: &[String]) -> Option<u64>
     }
 }
 
-fn workers_in(words: &[String]) -> Option<u32>
+/// The number of workers, where one stands.
+pub fn workers_in(words: &[String]) -> Option<u32>
     ensures is { result ≡ workers_in (map string_bytes words.now) }
     ensures some { IfSome result (λ workers. 0 < workers) }
     ensures few { IfSome result (λ workers. workers ≤ 64) }

@@ -120,7 +120,7 @@ fn open_socket<K: Keeper, H: Hub>(
 }
 
 /// The status of ports that could not be opened.
-fn port_status(fault: IoFault) -> Status
+pub fn port_status(fault: IoFault) -> Status
     ensures { result ≡ port_status fault }
 {
     match fault {

@@ -248,7 +248,7 @@ fn refused<K: Keeper>(book: Book<K>, status: Status) -> Refusal<K>
 }
 
 /// Writes the two closing lines, and tells how the program ends.
-fn finish<K: Keeper, W: Sink>(alloc: Global, book: &Book<K>, out: &mut W) -> Status
+pub fn finish<K: Keeper, W: Sink>(alloc: Global, book: &Book<K>, out: &mut W) -> Status
     ensures ends { EndsWriting (around W.sink.told out.old out.new)
         (serve_lines (serial_of book.now.zone.records) book.now.row_count) status.Ok result }
     ensures later { (W.sink.told out.old).faults ≤ (W.sink.told out.new).faults }

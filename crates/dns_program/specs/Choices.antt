@@ -1,7 +1,7 @@
 -- What the words of the command line choose: over which journal a command is done, and from which file the zone text comes.
 use Rattle.std.specs.Prelude.{◌≡◌, ◌⊎◌, List, [], ℕ, Option, Some, None, IsSome, if◌then◌else◌, codes}
 use Rattle.dns_command.specs.CommandLine.{path_of}
-use Rattle.dns_command.specs.ListeningWords.{is_command}
+use Rattle.dns_serve.specs.Words.{is_command}
 
 -- the file of the journal: the one that the words of a command name. For words that are no command none is opened
 abbrev pub journal_path : List (List ℕ) → Option (List ℕ)

@@ -4,8 +4,8 @@ ghost use Rattle.std.specs.Prelude.{◌≡◌, IfOk, map, string_bytes};
 ghost use Rattle.std.specs.Option.{option_map};
 ghost use Rattle.dns_program.specs.Choices.{journal_path, zone_path};
 
-use dns_command::{JOURNAL, ZONE, is_command, path_of};
 use dns_io::OutOfMemory;
+use dns_serve::{JOURNAL, ZONE, is_command, path_of};
 use std::alloc::Global;
 
 /// The path of the journal's file: the one that the words of a command name. For words that are no command no file is opened.

@@ -4,13 +4,13 @@
 mod choices;
 
 use crate::choices::{journal_path, zone_path};
-use dns_command::run::run;
-use dns_command::{Ended, HELP, Status, VERSION, after_writing};
+use dns_crowd_server::SocketCrowdHub;
 use dns_edges::{FileSource, Reading, SystemClock, Writing};
 use dns_io::OutOfMemory;
 use dns_journal::{ClosedJournal, FileJournal, PersistenceError, tell_unopened};
 use dns_keeper::{Keeper, MemoryKeeper};
-use dns_ports::SocketHub;
+use dns_serve::run::run;
+use dns_serve::{Ended, HELP, Status, VERSION, after_writing};
 use dns_words::{Action, action_of, command_words, hex_words, put_text};
 use std::fs::{self, File};
 use std::io::{self, BufWriter, Write};
@@ -93,7 +93,7 @@ fn command_over<
 >(rt: &HostRuntime, sockets: &S, words: &Vec<String>, keeper: K, out: &mut Writing<W>) -> Status {
     let mut zone = zone_source(rt, words);
     let mut events = Reading::new(rt.reader());
-    let mut hub = SocketHub::new(rt.alloc(), sockets);
+    let mut hub = SocketCrowdHub::new(rt.alloc(), sockets);
     let mut clock = SystemClock::new(rt);
     let Ended { status, keeper: _ } = run(
         sockets,

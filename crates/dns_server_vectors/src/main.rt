@@ -1,4 +1,4 @@
-//! Rows from the specifications, each tried on the compiled libraries: the program's top call, and the server of threads. A row is a line of
+//! Rows from the specifications, each tried on the compiled libraries: the library's top call, and the server of threads. A row is a line of
 //! standard input, `KIND|GIVEN|WANTED`: what is called, what it is given, and the answer that is due. A row with another answer is written
 //! with that answer, and at the end the number of rows. A line that begins with `#` says what the rows below it show.
 #![tactic(auto)]

@@ -1,4 +1,4 @@
-//! Runs of the program's top call over objects in memory: over a journal that fails, over texts that are not read to their end, over an output
+//! Runs of the library's top call over objects in memory: over a journal that fails, over texts that are not read to their end, over an output
 //! that is not taken whole; and the words of `serve` over a hub.
 
 use crate::hubs::{hub_of, put_taken};

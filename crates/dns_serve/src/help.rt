@@ -7,7 +7,7 @@ pub const VERSION: &str = "dns 0.1.0\n";
 pub const HELP: &str = "\
 dns: an authoritative DNS server for one zone
 
-usage: dns serve ORIGIN [--udp=IP:PORT] [--tcp=IP:PORT] [--workers=N] [--limit=MS] [OPTION]...
+usage: dns serve ORIGIN [--udp=IP:PORT] [--tcp=IP:PORT] [--connections=N] [--limit=MS] [--workers=N] [OPTION]...
        dns events ORIGIN [OPTION]...
        dns load SEED COUNT
        dns --help | --version
@@ -18,9 +18,11 @@ options of serve and events:
 serve answers what comes by UDP and by TCP at these addresses, at least one of them, until its standard input ends. Then
 it writes its two closing lines. IP:PORT is 127.0.0.1:53 or [::1]:53; 0.0.0.0:53 is every IPv4 address, [::]:53 every address.
 In the place of an IP may stand its 8 hex digits (IPv4) or 32 (IPv6), as in what events reads and writes: 7f000001:53.
-  --workers=  how many connections are served at once, 1 to 64; 16 where it does not stand. Others wait.
-  --limit=    for how many milliseconds a connection may stay without a whole message; 5000 where it does not stand, 0 for
-              any time.
+  --connections=  how many connections may be open at once, 1 to 65536; 4096 where it does not stand. Where as many are open, the one
+                  that has been silent for the longest time and is owed nothing is closed for a newcomer.
+  --limit=        for how many milliseconds a connection may stay without a whole message; 5000 where it does not stand, 0 for
+                  any time.
+  --workers=      how many threads serve connections, 1 to 64; 1 where it does not stand. They share the connections that may be open.
 A connection has at most 100 messages: the 100th is answered, then it is closed, and what came behind it is dropped.
 
 events answers a list of events from standard input, and writes a line for each reply: the same server without a network.

@@ -1,0 +1,2 @@
+mod SameWords
+mod Endings

@@ -1,0 +1,4 @@
+pub mod Words
+pub mod Serving
+pub mod Counts
+pub mod Ends
