@@ -3,9 +3,7 @@
 of many names, instructions for a line of zone text, and memory for a name.
 
 The program is run with two numbers of turns over a list of messages of one kind, and the difference is divided by the messages
-between them, so that reading the zone is not in it. Most queries come again then, and are answered by the replies that are kept; those
-of the kinds whose titles say "for the first time" come once each, told apart by the sizes that their OPTs give, in two lists of which one
-is twice as long, so that what is done once is not in the difference. Instructions are counted by `perf stat`, or by `valgrind --tool=cachegrind`
+between them, so that reading the zone is not in it. Instructions are counted by `perf stat`, or by `valgrind --tool=cachegrind`
 where there is no such counter; where there is neither, that is said and nothing is counted. Memory is the greatest resident
 memory that the operating system tells of a run.
 
@@ -28,9 +26,7 @@ CRATE = os.path.join(TOP, "crates", "dns_bench")
 PROGRAM = os.path.join(CRATE, "out", "dns_bench")
 SIZES = (7, 50_000, 500_000)  # names
 ASKED = 100  # names that are asked in one turn, all over the zone
-ASKED_ONCE = 40_000  # queries that come once, half of them in a shorter list
 TURNS = (20, 120)
-FIRST_TURN = (0, 1)
 UPDATE_TURNS = (5, 25)
 BOUND = 1800  # seconds
 ORIGIN = "z."
@@ -112,16 +108,6 @@ def kinds(names):
     yield "update", [update(1, "u.z.", IN, 60, address), update(2, "u.z.", NONE, 0, address)]
 
 
-def kinds_once(names):
-    """The kinds of queries that come for the first time, each with an OPT of another size."""
-    numbers = [step * hosts_of(names) // ASKED_ONCE for step in range(ASKED_ONCE)]
-    sizes = range(512, 512 + ASKED_ONCE)
-    yield "hit", [query(n % 65536, f"h{n:x}.z.", A, opt(size)) for n, size in zip(numbers, sizes)]
-    yield "alias", [query(n % 65536, "alias.z.", A, opt(size)) for n, size in zip(numbers, sizes)]
-    yield "wildcard", [query(n % 65536, f"x{n:x}.wild.z.", TXT, opt(size)) for n, size in zip(numbers, sizes)]
-    yield "no such name, two labels below", [query(n % 65536, f"x.h{n:x}g.z.", A, opt(size)) for n, size in zip(numbers, sizes)]
-
-
 def counts_instructions():
     """Whether `perf stat` counts instructions here."""
     if not shutil.which("perf"):
@@ -165,13 +151,6 @@ def instructions_each(count, zone, messages, turns, folder):
     return (many - few) / ((turns[1] - turns[0]) * len(messages))
 
 
-def instructions_first(count, zone, messages, folder):
-    """Instructions for one of these messages, each of which comes for the first time."""
-    half = len(messages) // 2
-    whole, front = (instructions_each(count, zone, some, FIRST_TURN, folder) * len(some) for some in (messages, messages[:half]))
-    return (whole - front) / (len(messages) - half)
-
-
 def resident(command):
     """The greatest resident memory of a run, in bytes."""
     child = subprocess.Popen(command, stdin=subprocess.DEVNULL, stdout=subprocess.DEVNULL)
@@ -188,8 +167,6 @@ def report_kinds(pool, count, zones, folder):
         for title, messages in kinds(names):
             turns = UPDATE_TURNS if title == "update" else TURNS
             rows.append((title, pool.submit(instructions_each, count, zone, messages, turns, folder)))
-        for title, messages in kinds_once(names):
-            rows.append((f"{title} for the first time, with OPT", pool.submit(instructions_first, count, zone, messages, folder)))
         for title, used in rows:
             print(f"{names:,} names, {title}: {used.result():,.0f} instructions a message", flush=True)
 

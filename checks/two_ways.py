@@ -3,9 +3,6 @@
 additional section, which no reply depends on (RFC 1035 4.1.1). The first is looked at in place where it has the plain form, the
 second is read whole, since it has more than an OPT there. Both replies have to be the same, byte for byte.
 
-As it is a plain query comes three times in a row, each time with another id, so that the second reply or the third is one that was
-kept: all three have to be the same but for the id.
-
 A message that is no plain query after it was mutated is sent too, but has no second form; that it is one is judged here by a
 reader of its own. Uses the standard library alone, and no network. The run of the program is bounded in time.
 """
@@ -21,7 +18,6 @@ import wire
 TOP = Path(__file__).resolve().parent.parent
 PROGRAM = TOP / "crates" / "dns_program" / "out" / "dns_program"
 MESSAGES = 20_000
-AGAIN = (0, 1, 257)  # by how much the ids of a query differ that comes three times
 BOUND = 60  # seconds
 ORIGIN = "example.com."
 OPT = 41
@@ -122,16 +118,6 @@ def with_more(message, end):
     return message[:10] + bytes([0, message[11] + 1]) + message[12:end] + MORE
 
 
-def with_id(message, more):
-    """The same query with an id that is greater by so many, or less where that is too great."""
-    return ((int.from_bytes(message[:2], "big") + more) % 65536).to_bytes(2, "big") + message[2:]
-
-
-def is_again(first, other, more):
-    """Whether a reply is another but for its id, which is greater by so many; both may be none."""
-    return other == (first and with_id(bytes.fromhex(first), more).hex())
-
-
 def replies(messages):
     """The reply of the program to each message, none where there is none."""
     events = "".join(f"D 0 0a0000{number >> 14:02x} {1024 + (number & 0x3FFF)} {one.hex()}\n" for number, one in enumerate(messages))
@@ -159,20 +145,13 @@ def main():
     messages = [one + chance.randbytes(chance.choice([0, 0, 0, 1, 7])) for one in messages]
     ends = [plain_end(one) for one in messages]
     plain = [number for number, end in enumerate(ends) if end is not None]
-    is_plain = [end is not None for end in ends]
-    times = [AGAIN if one else (0,) for one in is_plain]
-    given = iter(replies([with_id(one, more) if more else one for one, all_times in zip(messages, times) for more in all_times]))
-    in_place = [[next(given) for _ in all_times] for all_times in times]
-    otherwise = [number for number in plain if not all(is_again(in_place[number][0], reply, more) for reply, more in zip(in_place[number], AGAIN))]
+    in_place = replies(messages)
     whole = replies([with_more(messages[number], ends[number]) for number in plain])
-    wrong = [number for number, reply in zip(plain, whole) if reply is None or in_place[number][0] != reply]
+    wrong = [number for number, reply in zip(plain, whole) if reply is None or in_place[number] != reply]
     for number in wrong[:5]:
-        print(f"query:   {messages[number].hex()}\nin place: {in_place[number][0]}\nwhole:    {whole[plain.index(number)]}")
-    for number in otherwise[:5]:
-        print(f"query:   {messages[number].hex()}\nthree times: {' '.join(str(one) for one in in_place[number])}")
-    print(f"two ways: {MESSAGES:,} messages, {len(plain):,} of them plain queries, {len(wrong)} of these answered otherwise when read whole, "
-          f"{len(otherwise)} when they came again")
-    sys.exit(1 if wrong or otherwise or len(plain) < MESSAGES // 2 else 0)
+        print(f"query:   {messages[number].hex()}\nin place: {in_place[number]}\nwhole:    {whole[plain.index(number)]}")
+    print(f"two ways: {MESSAGES:,} messages, {len(plain):,} of them plain queries, {len(wrong)} of these answered otherwise when read whole")
+    sys.exit(1 if wrong or len(plain) < MESSAGES // 2 else 0)
 
 
 if __name__ == "__main__":

@@ -17,7 +17,7 @@ use Rattle.dns_book.specs.declared.decision.Case.TheVariants.{Query}
 use Rattle.dns_book.specs.declared.decision.Decision.{Decision}
 use Rattle.dns_book.specs.declared.outcome.Outcome.{Outcome}
 use Rattle.dns_book.specs.Outcome.{IsReady, IsOutcome, IsMade, IsPut, IsAnswered, IsAnsweredBy, ComesTo, idle_outcome}
-use Rattle.dns_book.specs.ReplyCache.{question_in, request_in, looked_for, IsHeard, IsOwn}
+use Rattle.dns_book.specs.Plain.{question_in, request_in, looked_for, IsHeard, IsOwn}
 use Rattle.dns_book.specs.Access.{Access}
 use Rattle.dns_book.specs.Sources.{sanitized}
 use Rattle.dns_book.specs.Cases.{is_newer, is_foreign, message_case, request_of, Decides, read}

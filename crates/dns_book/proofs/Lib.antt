@@ -10,5 +10,4 @@ pub mod Replying
 pub mod FirstBits
 pub mod Fronts
 pub mod InPlace
-pub mod Repeating
 pub mod IntoBuffer

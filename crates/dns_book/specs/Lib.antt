@@ -9,5 +9,5 @@ pub mod Crash
 pub mod Framed
 pub mod Into
 pub mod Outcome
-pub mod ReplyCache
+pub mod Plain
 pub mod Opening

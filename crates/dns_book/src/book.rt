@@ -1,4 +1,4 @@
-//! The book: a store, with who may change it, what was counted of it, and the replies that are kept.
+//! The book: a store, with who may change it, and what was counted of it.
 
 ghost use Rattle.std.specs.Prelude.{◌≡◌, ◌≤◌, ◌<◌, ◌^◌, length, IfOk, OnOk, OnErr, None};
 ghost use Rattle.dns_zone_map.specs.Zone.{serial_of};
@@ -30,13 +30,12 @@ pub struct Book<K: Keeper> {
 impl<K: Keeper> Model for Book<K> {
     ghost use Rattle.dns_book.specs.Book.{SeenOf, seen};
     ghost use Rattle.dns_store.specs.Store.{IsStored};
-    ghost use Rattle.dns_book.specs.ReplyCache.{AreOf};
 
     ghost Value = { SeenOf K };
 
     ghost view = { λ b. seen b.store b.allow_update b.counts };
 
-    ghost invariant = { λ b. IsStored K.keeper b.store × AreOf b.store.zone b.in_place.replies };
+    ghost invariant = { λ b. IsStored K.keeper b.store };
 }
 
 impl<K: Keeper> Book<K> {

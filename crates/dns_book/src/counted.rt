@@ -1,13 +1,13 @@
 //! What the counters are told of a message and its reply.
 
 ghost use Rattle.std.specs.Prelude.{◌≡◌, ◌++◌, length, replicate, IsTrue, IfOk, OnOk};
-ghost use Rattle.dns_wire.specs.Given.{in_parts, kinds};
+ghost use Rattle.dns_wire.specs.Given.{kinds};
 ghost use Rattle.dns_book.specs.Counted.{counted_question, asked_of, kinds_of, counts_of_zone};
 
 use crate::decision::{Case, Decision};
 use dns_counts::{Asked, Counts, Pairs, Replied};
 use dns_io::OutOfMemory;
-use dns_wire::{LentRecords, Record, Reply, WrittenReply};
+use dns_wire::{Record, Reply, WrittenReply};
 use dns_zone::Zone;
 use std::alloc::Global;
 
@@ -64,26 +64,6 @@ fn kinds_of(alloc: Global, records: &[Record], count: usize) -> Result<Pairs, Ou
     }
     let mut pairs = Vec::new(alloc);
     add_kinds(records, count, &mut pairs)?;
-    Ok(Pairs::from_vec(pairs))
-}
-
-/// The type and class of each of the first `count` records that parts give. Where these are one part, as of a set, that takes no memory.
-pub(crate) fn kinds_of_parts(
-    alloc: Global,
-    parts: &[LentRecords<'_>],
-    count: usize,
-) -> Result<Pairs, OutOfMemory>
-    ensures { IfOk result (λ pairs. pairs ≡ kinds_of count (in_parts parts.now)) }
-{
-    if let [one] = parts {
-        return kinds_of(alloc, one.as_kept(), count);
-    }
-    let mut pairs = Vec::new(alloc);
-    let mut left = count;
-    for part in parts {
-        add_kinds(part.as_kept(), left, &mut pairs)?;
-        left = left.saturating_sub(part.len());
-    }
     Ok(Pairs::from_vec(pairs))
 }
 

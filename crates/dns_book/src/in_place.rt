@@ -1,25 +1,22 @@
 //! The short way of a query: it is looked at and not built, and its reply is written from what the zone lends (RFC 1034 4.3.2).
 
 ghost use Rattle.std.specs.Prelude.{◌≡◌, ◌≤◌, Bool, true, false, IfOk, IfSome, IsTrue, OnOk, OnErr};
-ghost use Rattle.dns_wire.specs.Written.{Appends};
-ghost use Rattle.dns_zone_map.specs.Zone.{Contents};
 ghost use Rattle.dns_book.specs.declared.decision.Case.TheVariants.{Query as Asks};
 ghost use Rattle.dns_book.specs.Cases.{is_foreign};
 ghost use Rattle.dns_book.specs.Counted.{asked_of};
 ghost use Rattle.dns_book.specs.Owed.{HasRoom, limit_of, looked_reply};
 ghost use Rattle.dns_book.specs.Outcome.{IsAnswered, IsAnsweredBy, IsPut};
-ghost use Rattle.dns_book.specs.ReplyCache.{AreOf, IsHeard, IsOwn};
+ghost use Rattle.dns_book.specs.Plain.{IsHeard, IsOwn};
 
 use crate::access::AccessControl;
 use crate::ask::{Ask, sanitize_src_address};
 use crate::decision::{Request, is_foreign, is_newer};
 use crate::owed::{edns_for, id_for, limit_of};
-use crate::reply_cache::{ReplyCache, hash_of};
 use dns_counts::{Counts, LentReplied};
 use dns_io::{OutOfMemory, Protocol};
 use dns_name::Name;
 use dns_query::{Query, read_query};
-use dns_wire::{Appended, LentReply, Question};
+use dns_wire::{LentReply, Question};
 use dns_zone::{Answer, Zone};
 use std::alloc::Global;
 
@@ -28,37 +25,25 @@ use std::alloc::Global;
 pub(crate) struct InPlace {
     /// The question that is looked up: the room of its name is used for one after the other.
     question: Question,
-    /// The replies to queries that may come again.
-    pub(crate) replies: ReplyCache,
     alloc: Global,
 }
 
 impl InPlace {
-    /// With no reply that is kept. Takes no memory.
-    pub(crate) fn new(alloc: Global) -> InPlace
-        ensures { (zone : Contents) → AreOf zone result.replies }
-    {
+    /// With the room of the root. Takes no memory.
+    pub(crate) fn new(alloc: Global) -> InPlace {
         InPlace {
             question: Question {
                 name: Name::root(alloc),
                 qtype: 0,
                 qclass: 0,
             },
-            replies: ReplyCache::new(alloc),
             alloc,
         }
     }
 
-    /// Forgets the replies that are kept, as the zone may change.
-    pub(crate) fn forget(&mut self)
-        ensures { (zone : Contents) (other : Contents) → AreOf zone self.old.replies → AreOf other self.new.replies }
-    {
-        self.replies.forget();
-    }
-
-    /// Answers a query of plain form which the zone is looked up for, from a source that is let in, at the end of a buffer, and counts it:
-    /// by a reply that is kept, where it came before, and else by a look. `false` says nothing of the message, and nothing was done: it
-    /// has to be read whole. Where memory runs out, part of the reply may be written, and nothing is counted.
+    /// Answers a query of plain form which the zone is looked up for, from a source that is let in, at the end of a buffer, and counts it.
+    /// `false` says nothing of the message, and nothing was done: it has to be read whole. Where memory runs out, part of the reply may be
+    /// written, and nothing is counted.
     pub(crate) fn answer(
         &mut self,
         zone: &Zone,
@@ -68,54 +53,41 @@ impl InPlace {
         out: &mut Vec<u8>,
         is_framed: bool,
     ) -> Result<bool, OutOfMemory>
-        requires { AreOf zone.now self.old.replies }
         ensures ok { (allow_update : Bool) → IfOk result (λ is_done. IsTrue is_done
             → IsAnswered zone.now allow_update access.now ask.now is_framed out.old.items out.new.items counts.old counts.new) }
         ensures left { IfOk result (λ is_done. is_done ≡ false → (out.new.items ≡ out.old.items) × (counts.new ≡ counts.old)) }
         ensures err { OnErr result (counts.new ≡ counts.old) }
-        ensures kept { AreOf zone.now self.new.replies }
     {
         let Some(query) = plain_query(access, ask) else {
             return Ok(false);
         };
-        let hash = hash_of(ask.protocol, &query);
-        self.replies.touch(hash);
-        if let Some(kept) = self.replies.find(hash, ask.protocol, &query) {
-            kept.put(&query.header, counts, out, is_framed)?;
-            return Ok(true);
-        }
         let Some(request) = own_query(zone, ask.protocol, &query, &mut self.question)? else {
             return Ok(false);
         };
-        self.look_up(zone, hash, &request, counts, out, is_framed)?;
+        self.look_up(zone, &request, counts, out, is_framed)?;
         Ok(true)
     }
 
-    /// Answers the question, for which the zone is looked up, at the end of a buffer, and counts it; the reply may be kept. Where memory runs
-    /// out, part of the reply may be written, and nothing is counted.
+    /// Answers the question, for which the zone is looked up, at the end of a buffer, and counts it. Where memory runs out, part of the
+    /// reply may be written, and nothing is counted.
     fn look_up(
         &mut self,
         zone: &Zone,
-        hash: u32,
         request: &Request,
         counts: &mut Counts,
         out: &mut Vec<u8>,
         is_framed: bool,
     ) -> Result<(), OutOfMemory>
         requires own { is_foreign zone.now self.old.question ≡ false }
-        requires kept { AreOf zone.now self.old.replies }
         ensures ok { (allow_update : Bool) → OnOk result (IsAnsweredBy zone.now allow_update request.now.protocol
             (record { request = request.now; case = Asks self.old.question }) is_framed out.old.items out.new.items counts.old counts.new) }
         ensures err { OnErr result (counts.new ≡ counts.old) }
-        ensures kept { AreOf zone.now self.new.replies }
     {
         let (alloc, question) = (self.alloc, &self.question);
         let mut answer = Answer::none();
         zone.answer_into(alloc, question, &mut answer)?;
         let reply = lent_reply(request, question, &answer);
-        let appended = put_lent(request, question, &reply, counts, out, is_framed)?;
-        self.replies
-            .learn(hash, zone.len(), request, &reply, &appended, out);
+        put_lent(request, question, &reply, counts, out, is_framed)?;
         Ok(())
     }
 }
@@ -192,9 +164,8 @@ fn put_lent(
     counts: &mut Counts,
     out: &mut Vec<u8>,
     is_framed: bool,
-) -> Result<Appended, OutOfMemory>
+) -> Result<(), OutOfMemory>
     requires { HasRoom reply.now }
-    ensures appends { IfOk result (Appends reply.now (limit_of request.now.protocol reply.now.edns) is_framed out.old.items out.new.items) }
     ensures ok { OnOk result (IsPut request.now.protocol
         (asked_of (record { request = request.now; case = Asks question.now })) reply.now is_framed out.old.items out.new.items counts.old counts.new) }
     ensures err { OnErr result (counts.new ≡ counts.old) }
@@ -208,5 +179,5 @@ fn put_lent(
     };
     let asked = (question.qtype, question.qclass);
     counts.record_lent(request.protocol, &request.header, asked, &replied);
-    Ok(appended)
+    Ok(())
 }

@@ -4,7 +4,6 @@
 mod access;
 mod ask;
 mod book;
-mod cached_reply;
 mod counted;
 mod decision;
 mod in_place;
@@ -13,7 +12,6 @@ mod opening;
 mod outcome;
 mod owed;
 mod reply_bytes;
-mod reply_cache;
 mod settling;
 
 pub use access::{AccessControl, IpNet};

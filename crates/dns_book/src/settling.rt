@@ -58,7 +58,6 @@ impl<K: Keeper> Book<K> {
             (batch_of self.old.zone.origin self.old.zone.records updates.now) (receipt_in result) self.new }
         ensures left_on { LeavesOn K.keeper self.old → LeavesOn K.keeper self.new }
     {
-        self.in_place.forget();
         let batch = match self.store.journal(ask.client, ask.at, updates) {
             Ok(batch) => batch,
             Err(fault) => return Err(fault),

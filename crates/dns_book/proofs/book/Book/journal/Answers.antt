@@ -7,15 +7,6 @@ use Rattle.dns_book.specs.Outcome.{Journals}
 use Rattle.dns_book.proofs.Growing.{journals_refused, journals_idle, more_rows, journals_grown}
 use Rattle.dns_book.proofs.book.Book.journal.Goals as goal
 
-pub invariant_of-self : goal.invariant_of-self
-invariant_of-self g c = (c.journal.ensures.stored, c.forget.ensures c.self.inside.store.zone c.journal.new.self.zone c.self.invariant.1)
-
-pub invariant_of-self-then-count-eq0 : goal.invariant_of-self-then-count-eq0
-invariant_of-self-then-count-eq0 g c = (c.journal.ensures.stored, c.forget.ensures c.self.inside.store.zone c.journal.new.self.zone c.self.invariant.1)
-
-pub invariant_of-self-2 : goal.invariant_of-self-2
-invariant_of-self-2 g c = (c.journal.ensures.stored, c.forget.ensures c.self.inside.store.zone c.journal.new.self.zone c.self.invariant.1)
-
 pub returns-in-Err-clause-is : goal.returns-in-Err-clause-is
 returns-in-Err-clause-is g c =
     subst (λ (before : SeenOf g.row.K.Denot). Journals g.K.Keeper.keeper before c.args.ask.now (batch_of before.zone.origin before.zone.records c.args.updates.now) (Err c.in-Err.fault)

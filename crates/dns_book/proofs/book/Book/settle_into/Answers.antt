@@ -24,7 +24,7 @@ returns-then-branch-clause-left g c =
     let answered = rw c.zone.ensures.is at (c.in_ok-answer.ensures.ok c.self.inside.allow_update done) in
     subst (λ (b : SeenOf g.row.K.Denot). SettlesInto (λ (settled : Settled). SettlesLeaving g.K.Keeper.keeper c.args.access.now b c.args.ask.now settled after) c.args.is_framed c.args.out.now.items c.answer.new.out.items c.told.result) c.self.view_is
     (into_in_place g.K.Keeper.keeper c.args.access.now before c.args.ask.now c.args.is_framed c.args.out.now.items c.answer.new.out.items c.told.result c.answer.new.counts after
-    c.self.invariant.0 c.self.invariant.0 answered refl c.told.ensures)
+    c.self.invariant c.self.invariant answered refl c.told.ensures)
 
 pub returns-then-branch-clause-ok : goal.returns-then-branch-clause-ok
 returns-then-branch-clause-ok g c =
