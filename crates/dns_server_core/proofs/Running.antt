@@ -1,13 +1,27 @@
 -- Runs that follow one another.
-use Rattle.std.proofs.Common.{◌≡◌, ℕ, ◌+◌, ◌≤◌, List, [], ◌∷◌, ◌++◌, length, take, refl, sym, ap, subst, ◌∙◌, append_assoc, append-nil, length-append, arith, inl, ◌⊎◌, Result, Ok, Err}
+use Rattle.std.proofs.Common.{◌≡◌, ℕ, ◌+◌, ◌≤◌, List, [], ◌∷◌, ◌++◌, length, take, refl, sym, ap, subst, ◌∙◌, append_assoc, append-nil, length-append, arith, inl, ◌⊎◌, Result, Ok, Err, Option, Some, None, is_some, Bool, true, if◌then◌else◌}
 use Rattle.std.proofs.Math.Seq.{take-append_seam}
 use Rattle.std.specs.Result.{OnErr, OnOk}
 use Rattle.dns_book.specs.Access.{Access}
 use Rattle.dns_book.specs.declared.ask.Ask.{Ask}
 use Rattle.dns_book.specs.declared.ask.Settled.{Settled}
+use Rattle.dns_book.specs.declared.ask.SettledInto.{SettledInto}
+use Rattle.dns_book.specs.Into.{SettlesInto, sent_for}
 use Rattle.dns_server_core.specs.declared.event.Out.{Out}
-use Rattle.dns_server_core.specs.Runs.{Completed, outs_of, Run, Answers}
+use Rattle.dns_server_core.specs.declared.event.Receiver.{Receiver}
+use Rattle.dns_server_core.specs.declared.event.Receiver.TheVariants.{Conn, Peer}
+use Rattle.dns_server_core.specs.Runs.{Completed, is_connection, outs_of, Run, Answers}
 use Rattle.dns_server_core.specs.Handing.{ResponderOf, Hands, HandsFront, Breaks}
+
+-- what goes out where a reply is owed
+abbrev pub owed_out : Receiver → List ℕ → Bool → List Out
+owed_out to bytes is_owed = if is_owed then (record { to = to; bytes = bytes }) ∷ [] else []
+
+-- a reply that was written as it goes out is what is sent for it
+pub outs_written : (to : Receiver) (reply : Option (List ℕ)) (bytes : List ℕ) → bytes ≡ sent_for (is_connection to) reply → owed_out to bytes (is_some reply) ≡ outs_of to reply
+outs_written to None bytes e = refl
+outs_written (Conn number) (Some reply) bytes e = ap (λ (sent : List ℕ). owed_out (Conn number) sent true) e
+outs_written (Peer peer) (Some reply) bytes e = ap (λ (sent : List ℕ). owed_out (Peer peer) sent true) e
 
 module _ {H : Type 0} (serves : H → Ask → Settled → H → Type 0) where
   -- a run, and then another
@@ -50,6 +64,16 @@ module _ {H : Type 0} (serves : Access → H → Ask → Settled → H → Type 
   pub Hands-one : (a b : ResponderOf H) (c : Completed) (settled : Settled) → serves a.access a.handler c.ask settled b.handler → b.outs ≡ a.outs ++ outs_of c.to settled.reply
       → b.settled ≡ a.settled + 1 → b.access ≡ a.access → Hands serves a (c ∷ []) b
   Hands-one a b c settled s e k f = record { answered = Answers-one (serves a.access) a.handler b.handler c settled a.outs b.outs s e; counted = k; access = f }
+
+  -- one message was settled, and its reply written as it goes out
+  pub Hands-written : (a b : ResponderOf H) (c : Completed) (bytes : List ℕ) (into : SettledInto)
+      → SettlesInto (λ (settled : Settled). serves a.access a.handler c.ask settled b.handler) (is_connection c.to) [] bytes into → b.outs ≡ a.outs ++ owed_out c.to bytes into.is_owed
+      → b.settled ≡ a.settled + 1 → b.access ≡ a.access → Hands serves a (c ∷ []) b
+  Hands-written a b c bytes into s e k f =
+      let owed : owed_out c.to bytes into.is_owed ≡ outs_of c.to s.settled.reply =
+      ap (λ (told : SettledInto). owed_out c.to bytes told.is_owed) s.told ∙ outs_written c.to s.settled.reply bytes s.sent
+      in
+      Hands-one a b c s.settled s.is (e ∙ ap (λ (os : List Out). a.outs ++ os) owed) k f
 
   pub Hands-append : (a b c : ResponderOf H) (xs ys : List Completed) → Hands serves a xs b → Hands serves b ys c → Hands serves a (xs ++ ys) c
   Hands-append a b c xs ys p q = record {

@@ -1,5 +1,5 @@
 -- Runs over the messages that a list of events completes.
-use Rattle.std.specs.Prelude.{◌≡◌, ℕ, List, [], ◌∷◌, ◌++◌, length, Option, Some, None}
+use Rattle.std.specs.Prelude.{◌≡◌, ℕ, List, [], ◌∷◌, ◌++◌, length, Option, Some, None, Bool, true, false}
 use Rattle.std.specs.Int.{w16, to_be_bytes}
 use Rattle.dns_book.specs.declared.ask.Ask.{Ask}
 use Rattle.dns_book.specs.declared.ask.Settled.{Settled}
@@ -16,6 +16,11 @@ pub record Completed : Type 0 where
 abbrev pub sent_to : Receiver → List ℕ → List ℕ
 sent_to (Conn number) bytes = to_be_bytes w16 (length bytes) ++ bytes
 sent_to (Peer peer) bytes = bytes
+
+-- whether a reply goes over a connection
+abbrev pub is_connection : Receiver → Bool
+is_connection (Conn number) = true
+is_connection (Peer peer) = false
 
 -- what is sent for a reply
 abbrev pub outs_of : Receiver → Option (List ℕ) → List Out

@@ -4,7 +4,7 @@ ghost use Rattle.std.specs.Prelude.{◌≡◌, ◌<◌, ◌≤◌, ◌^◌, ◌�
 ghost use Rattle.std.specs.Vec.{vec_capacity};
 ghost use Rattle.dns_server_core.specs.Connections.{datagram_by, messages_left};
 ghost use Rattle.dns_server_core.specs.FrameRuns.{behind_first};
-ghost use Rattle.dns_server_core.specs.Runs.{outs_of, sent_to};
+ghost use Rattle.dns_server_core.specs.Runs.{is_connection};
 ghost use Rattle.dns_server_core.specs.Steps.{moved, messages_in, piece_at, unread_messages, heard_messages};
 ghost use Rattle.dns_server_core.specs.Handing.{Hands, Breaks};
 ghost use Rattle.dns_server_core.specs.declared.event.Event.TheVariants as event;
@@ -12,7 +12,7 @@ ghost use Rattle.dns_server_core.specs.declared.event.Event.TheVariants as event
 use crate::event::{Out, Receiver};
 use crate::handler::{Answered, RequestHandler, next_frame};
 use crate::session::{Heard, Session};
-use dns_book::{AccessControl, Ask, ReplyBytes};
+use dns_book::{AccessControl, Ask};
 use dns_io::{Octets, OutOfMemory, Peer, Protocol};
 use std::alloc::Global;
 use std::marker::Model;
@@ -25,6 +25,7 @@ pub(crate) struct Responder<H> {
     access: AccessControl,
     out: Vec<Out>,
     settled: u64,
+    alloc: Global,
 }
 
 impl<H> Model for Responder<H> {
@@ -45,6 +46,7 @@ impl<H> Responder<H> {
             access,
             out: Vec::new(alloc),
             settled: 0,
+            alloc,
         }
     }
 
@@ -83,13 +85,14 @@ impl<H> Responder<H> {
             access: _,
             out: _,
             settled: _,
+            alloc: _,
         } = self;
         handler
     }
 }
 
 impl<H: RequestHandler> Responder<H> {
-    /// Settles one message, once there is room for its reply, and counts it.
+    /// Settles one message, once there is room for its reply among the others, and counts it. The reply is written as it goes out.
     fn settle_message(&mut self, to: Receiver, ask: Ask) -> Result<(), OutOfMemory>
         requires moment { ask.at < 2 ^ 47 }
         requires bytes { length ask.bytes ≤ 65535 }
@@ -100,9 +103,13 @@ impl<H: RequestHandler> Responder<H> {
             return Err(OutOfMemory);
         }
         self.out.reserve(1)?;
-        let settled = self.handler.handle_request(&self.access, &ask)?;
+        let mut bytes = Vec::new(self.alloc);
+        let is_framed = is_connection(to);
+        let settled = self
+            .handler
+            .handle_into(&self.access, &ask, &mut bytes, is_framed)?;
         self.settled += 1;
-        send(to, settled.reply, &mut self.out);
+        send(to, settled.is_owed, Octets::from_vec(bytes), &mut self.out);
         Ok(())
     }
 
@@ -188,23 +195,22 @@ impl<H: RequestHandler> Responder<H> {
     }
 }
 
-/// Adds a reply to what is sent.
-fn send(to: Receiver, reply: Option<ReplyBytes>, out: &mut Vec<Out>)
+/// Adds a reply, where one is owed, to what is sent. Takes no memory.
+fn send(to: Receiver, is_owed: bool, bytes: Octets, out: &mut Vec<Out>)
     requires { vec_len out.old < vec_capacity out.old }
-    ensures { out.new.items ≡ out.old.items ++ outs_of to reply }
+    ensures { out.new.items ≡ out.old.items ++ (if is_owed then (record { to = to; bytes = bytes }) ∷ [] else []) }
 {
-    if let Some(bytes) = reply {
-        let bytes = sent_to(to, bytes);
+    if is_owed {
         out.push(Out { to, bytes }).unwrap();
     }
 }
 
-/// A reply as it is sent. Takes no memory.
-fn sent_to(to: Receiver, reply: ReplyBytes) -> Octets
-    ensures { result ≡ sent_to to reply }
+/// Whether a reply goes over a connection.
+fn is_connection(to: Receiver) -> bool
+    ensures { result ≡ is_connection to }
 {
     match to {
-        Receiver::Conn(_) => reply.framed(),
-        Receiver::Peer(_) => reply.plain(),
+        Receiver::Conn(_) => true,
+        Receiver::Peer(_) => false,
     }
 }
