@@ -58,7 +58,7 @@ fn settle_one<K: Keeper>(
     ensures { IfOk result (λ bytes. SettlesOne K.keeper access.now book.old ask.now bytes book.new) }
 {
     reply.clear();
-    let _into = book.settle_into(access, ask, reply, false)?;
+    let _into = book.settle_into(access, &ask.lent(), reply, false)?;
     Ok(reply.len() as u64)
 }
 

@@ -15,36 +15,46 @@ use Rattle.dns_book.specs.declared.ask.Ask.{Ask}
 use Rattle.dns_book.specs.declared.decision.Decision.{Decision}
 use Rattle.dns_book.specs.declared.decision.Case.{Case}
 use Rattle.dns_book.specs.declared.decision.Case.TheVariants.{ShutOut, Malformed, UnsupportedVersion, NotImplemented, Foreign, Query, Update}
+use Rattle.dns_query.specs.declared.query.Query.{Query as Looked}
+use Rattle.dns_query.specs.Query.{message_of, IsPlainQuery}
+use Rattle.dns_book.specs.Plain.{plain_case, request_in as asked_by}
 use Rattle.dns_book.specs.Owed.{IsFit}
 use Rattle.dns_book.specs.Sources.{sanitized}
 use Rattle.dns_book.specs.Access.{Access, lets_in}
 use Rattle.dns_book.specs.Cases.{is_newer, is_foreign, query_case, question_case, only_question, message_case, request_in, request_of, header_alone, request_by, Decides, silent, shut_out, malformed, read}
 
--- a message was read
-pub decided_read : (zone : Contents) (access : Access) (ask : Ask) (h : Header) (m : Message) (found : Option Message) (bytes : List ℕ) (d : Decision)
-    → request_of ask ≡ Some h → lets_in access ask.source.ip ≡ true → IfSome found (MessageAt bytes) → found ≡ Some m → bytes ≡ ask.bytes
-    → d ≡ record { request = request_by ask.protocol m; case = message_case zone m } → Decides zone access ask (Some d)
-decided_read zone access ask h m found bytes d head let_in at is same e =
-    let here : MessageAt bytes m = subst (λ (f : Option Message). IfSome f (MessageAt bytes)) is at in
-    let there : MessageAt ask.bytes m = subst (λ (b : List ℕ). MessageAt b m) same here in
-    subst (λ (x : Decision). Decides zone access ask (Some x)) (sym e) (read h head let_in m there)
+-- a query of plain form is decided by its question alone
+plain_message : (zone : Contents) (q : Looked) → q.header.opcode ≡ 0 → message_case zone (message_of q) ≡ plain_case zone q
+unfolding message_case
+plain_message zone q asks = rw asks refl
 
--- no message was read
-pub decided_malformed : (zone : Contents) (access : Access) (ask : Ask) (h : Header) (found : Option Message) (bytes : List ℕ) (d : Decision)
-    → request_of ask ≡ Some h → lets_in access ask.source.ip ≡ true → IfNone found ((m : Message) → MessageAt bytes m → ⊥) → found ≡ None → bytes ≡ ask.bytes
-    → d ≡ record { request = header_alone ask.protocol h; case = Malformed } → Decides zone access ask (Some d)
-decided_malformed zone access ask h found bytes d head let_in none is same e =
-    let here : (m : Message) → MessageAt bytes m → ⊥ = subst (λ (f : Option Message). IfNone f ((m : Message) → MessageAt bytes m → ⊥)) is none in
-    let there : (m : Message) → MessageAt ask.bytes m → ⊥ = subst (λ (b : List ℕ). (m : Message) → MessageAt b m → ⊥) same here in
-    subst (λ (x : Decision). Decides zone access ask (Some x)) (sym e) (malformed h head let_in there)
+-- what is decided of a message, by what was read of the bytes that are lent
+module _ (zone : Contents) (access : Access) (asked ask : Ask) (same : asked ≡ ask) (h : Header) (head : request_of ask ≡ Some h) (d : Decision) where
+  pub decided_shut_out : lets_in access asked.source.ip ≡ false → (q : Option Question) → ReadsOne (OneQuestionAt asked.bytes) q
+      → d ≡ record { request = header_alone asked.protocol h; case = ShutOut q } → Decides zone access ask (Some d)
+  decided_shut_out out q reads is =
+      subst (λ (e : Decision). Decides zone access ask (Some e)) (sym (is ∙ ap (λ (a : Ask). record { request = header_alone a.protocol h; case = ShutOut q }) same))
+      (shut_out h head (subst (λ (a : Ask). lets_in access a.source.ip ≡ false) same out) q (subst (λ (a : Ask). ReadsOne (OneQuestionAt a.bytes) q) same reads))
 
--- the source is shut out
-pub decided_shut_out : (zone : Contents) (access : Access) (ask : Ask) (h : Header) (bytes : List ℕ) (question : Option Question) (d : Decision)
-    → request_of ask ≡ Some h → lets_in access ask.source.ip ≡ false → bytes ≡ ask.bytes → ReadsOne (OneQuestionAt bytes) question
-    → d ≡ record { request = header_alone ask.protocol h; case = ShutOut question } → Decides zone access ask (Some d)
-decided_shut_out zone access ask h bytes question d head out same asked e =
-    let there : ReadsOne (OneQuestionAt ask.bytes) question = subst (λ (b : List ℕ). ReadsOne (OneQuestionAt b) question) same asked in
-    subst (λ (x : Decision). Decides zone access ask (Some x)) (sym e) (shut_out h head out question there)
+  pub decided_malformed : lets_in access asked.source.ip ≡ true → ((m : Message) → MessageAt asked.bytes m → ⊥)
+      → d ≡ record { request = header_alone asked.protocol h; case = Malformed } → Decides zone access ask (Some d)
+  decided_malformed let_in none is =
+      subst (λ (e : Decision). Decides zone access ask (Some e)) (sym (is ∙ ap (λ (a : Ask). record { request = header_alone a.protocol h; case = Malformed }) same))
+      (malformed h head (subst (λ (a : Ask). lets_in access a.source.ip ≡ true) same let_in) (subst (λ (a : Ask). (m : Message) → MessageAt a.bytes m → ⊥) same none))
+
+  pub decided_message : lets_in access asked.source.ip ≡ true → (m : Message) → MessageAt asked.bytes m → (lent : Contents) → lent ≡ zone
+      → d ≡ record { request = request_by asked.protocol m; case = message_case lent m } → Decides zone access ask (Some d)
+  decided_message let_in m at lent here is =
+      subst (λ (e : Decision). Decides zone access ask (Some e))
+      (sym (is ∙ ap (λ (a : Ask). record { request = request_by a.protocol m; case = message_case lent m }) same ∙ ap (λ (z : Contents). record { request = request_by ask.protocol m; case = message_case z m }) here))
+      (read h head (subst (λ (a : Ask). lets_in access a.source.ip ≡ true) same let_in) m (subst (λ (a : Ask). MessageAt a.bytes m) same at))
+
+  -- a query of plain form was read
+  pub decided_query : lets_in access asked.source.ip ≡ true → (q : Looked) → MessageAt asked.bytes (message_of q) → IsPlainQuery asked.bytes q → (lent : Contents) → lent ≡ zone
+      → d ≡ record { request = asked_by asked.protocol q; case = plain_case lent q } → Decides zone access ask (Some d)
+  decided_query let_in q at plain lent here is =
+      decided_message let_in (message_of q) at lent here
+      (is ∙ ap (λ (c : Case). record { request = asked_by asked.protocol q; case = c }) (sym (plain_message lent q plain.form.query)))
 
 -- a request has a header, which is no reply's
 head_by : (qr : Bool) (g h : Header) → g.qr ≡ qr → (if qr then None else Some g) ≡ Some h → (Some g ≡ Some h) × (h.qr ≡ false)
@@ -153,14 +163,11 @@ fit_message zone m back =
 abbrev pub ReadUpdates : List ℕ → Type 0
 ReadUpdates bytes = (m : Message) → MessageAt bytes m → AllByRecursion ReadsBack m.authority
 
-decided_fit : (zone : Contents) (access : Access) (ask : Ask) (decision : Option Decision) → ReadUpdates ask.bytes → Decides zone access ask decision → IfSome decision (λ d. IsFit zone d.case)
-decided_fit zone access ask _ law (silent none) = tt
-decided_fit zone access ask _ law (shut_out h e out q asked) = tt
-decided_fit zone access ask _ law (malformed h e let_in none) = tt
-decided_fit zone access ask _ law (read h e let_in m at) = fit_message zone m (law m at)
-
--- the case of a message whose decision is at hand
-pub fit_decided : (zone : Contents) (access : Access) (ask : Ask) (found : Option Decision) (d : Decision) (bytes : List ℕ) → ReadUpdates bytes → bytes ≡ ask.bytes → Decides zone access ask found → found ≡ Some d → IsFit zone d.case
-fit_decided zone access ask found d bytes law same decided is =
-    subst (λ (x : Option Decision). IfSome x (λ e. IsFit zone e.case)) is
-    (decided_fit zone access ask found (subst ReadUpdates same law) decided)
+pub decided_fit : (zone : Contents) (access : Access) (ask : Ask) (d : Decision) → ReadUpdates ask.bytes → Decides zone access ask (Some d) → IsFit zone d.case
+decided_fit zone access ask d law decided = fit zone access ask (Some d) law decided
+  where
+    fit : (zone : Contents) (access : Access) (ask : Ask) (decision : Option Decision) → ReadUpdates ask.bytes → Decides zone access ask decision → IfSome decision (λ e. IsFit zone e.case)
+    fit zone access ask _ law (silent none) = tt
+    fit zone access ask _ law (shut_out h e out q asked) = tt
+    fit zone access ask _ law (malformed h e let_in none) = tt
+    fit zone access ask _ law (read h e let_in m at) = fit_message zone m (law m at)

@@ -15,7 +15,7 @@ use Rattle.dns_io.proofs.ToldContents.{Keeps-same}
 use Rattle.dns_book.specs.declared.ask.Ask.{Ask}
 use Rattle.dns_book.specs.Counted.{counts_with}
 use Rattle.dns_book.specs.Book.{SeenOf, seen, IsLeft, receipt_of, grown, Ends, idle, journalled, failed}
-use Rattle.dns_book.specs.Outcome.{Journals}
+use Rattle.dns_book.specs.Carrying.{Journals}
 
 -- a book that nothing was done to
 pub IsLeft-same : {K : Type 0} (keeper : KeeperOf K) (book : SeenOf K) → IsLeft keeper book book

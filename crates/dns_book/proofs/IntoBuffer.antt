@@ -1,23 +1,11 @@
 -- Replies that go into a buffer.
 use Rattle.std.proofs.Common.{◌≡◌, ℕ, ◌≤◌, List, [], ◌++◌, length, drop, Option, Some, None, Bool, true, false, is_some, if◌then◌else◌, Result, Ok, Err, IfOk, refl, sym, ap, ◌∙◌, subst, inl}
 use Rattle.std.specs.Prelude.{IfSome, IsSome}
-use Rattle.std.proofs.lemmas.List.{append-nil}
 use Rattle.dns_io.specs.declared.fault.OutOfMemory.{OutOfMemory}
-use Rattle.dns_keeper.specs.Keeping.{KeeperOf}
-use Rattle.dns_counts.specs.Counters.{recorded}
-use Rattle.dns_book.specs.declared.ask.Ask.{Ask}
 use Rattle.dns_book.specs.declared.ask.Settled.{Settled}
 use Rattle.dns_book.specs.declared.ask.SettledInto.{SettledInto}
-use Rattle.dns_book.specs.declared.outcome.Outcome.{Outcome}
-use Rattle.dns_book.specs.Access.{Access}
-use Rattle.dns_book.specs.Cases.{Decides}
-use Rattle.dns_book.specs.Book.{SeenOf, IsKept}
-use Rattle.dns_book.specs.Outcome.{IsAnswered, CarriesOut, batch_in, updates_in, idle_outcome}
-use Rattle.dns_book.specs.Crash.{LeavesBy, SettlesLeaving}
 use Rattle.dns_book.specs.Framed.{IsFrame}
 use Rattle.dns_book.specs.Into.{sent_for, told_of, settled_of, SettlesInto}
-use Rattle.dns_book.proofs.Carried.{CarriesOut-none}
-use Rattle.dns_book.proofs.Leaving.{SettlesLeaving-carried, SettlesLeaving-silent}
 
 -- what holds of a settled message holds where its reply went into a buffer
 pub into_by : (P : Settled → Type 0) (settled : Settled) (framed : Bool) (before after : List ℕ) (into : SettledInto) → P settled → SettlesInto (λ s. s ≡ settled) framed before after into
@@ -76,35 +64,3 @@ some_reply (Some bytes) owed = refl
 
 pub is_replied : (P : Settled → Type 0) (framed : Bool) (before after : List ℕ) (into : SettledInto) → (i : SettlesInto P framed before after into) → into.is_owed ≡ true → IsSome i.settled.reply
 is_replied P framed before after into i owed = some_reply i.settled.reply (sym (ap (λ (t : SettledInto). t.is_owed) i.told) ∙ owed)
-
-module _ {K : Type 0} (keeper : KeeperOf K) (access : Access) (before : SeenOf K) (ask : Ask) (framed : Bool) (had has : List ℕ) (into : SettledInto) where
-  -- a query that was answered in a buffer, and counted
-  pub into_in_place : (counted : List (List ℕ)) (after : SeenOf K) → IsKept keeper before → IsKept keeper after → IsAnswered before.zone before.allow_update access ask framed had has before.counts counted
-      → after ≡ record before { counts = counted } → into ≡ record { is_owed = true; length = before.row_count; receipt = None }
-      → SettlesInto (λ s. SettlesLeaving keeper access before ask s after) framed had has into
-  into_in_place counted after stood kept a same told =
-      let outcome : Outcome = idle_outcome a.asked a.replied a.bytes in
-      let counts : after ≡ record before { counts = recorded a.asked a.replied before.counts } = same ∙ ap (λ (cs : List (List ℕ)). record before { counts = cs }) a.counted in
-      let settled : Settled = record { reply = Some a.bytes; length = before.row_count; receipt = None } in
-      let done : CarriesOut keeper before ask outcome settled after = CarriesOut-none keeper before ask outcome settled after refl counts refl in
-      let leaves : LeavesBy keeper before ask (batch_in before.zone (updates_in outcome.change)) settled.receipt after =
-      λ some now. inl (subst (λ (b : SeenOf K). keeper.may_leave b.keeper some) counts now)
-      in
-      record {
-        settled = settled;
-        is = SettlesLeaving-carried keeper access before ask (Some a.made.decision) a.made.decision outcome settled after stood kept a.made.decided refl a.made.is done leaves;
-        sent = a.sent;
-        short = a.short;
-        told = told;
-      }
-
-  -- a message that is owed no reply adds nothing
-  pub into_silent : IsKept keeper before → Decides before.zone access ask None → had ≡ has → into ≡ record { is_owed = false; length = before.row_count; receipt = None }
-      → SettlesInto (λ s. SettlesLeaving keeper access before ask s before) framed had has into
-  into_silent stood decided same told = record {
-    settled = record { reply = None; length = before.row_count; receipt = None };
-    is = SettlesLeaving-silent keeper access before ask None _ stood decided refl refl;
-    sent = sym same ∙ sym (append-nil had);
-    short = tt;
-    told = told;
-  }

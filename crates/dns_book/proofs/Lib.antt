@@ -1,13 +1,12 @@
 pub mod Opened
 pub mod Growing
-pub mod Leaving
 pub mod Codes
 pub mod Carried
+pub mod Answered
 pub mod Failing
 pub mod ServFail
 pub mod Deciding
 pub mod Replying
 pub mod FirstBits
 pub mod Fronts
-pub mod InPlace
 pub mod IntoBuffer

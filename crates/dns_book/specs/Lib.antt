@@ -8,6 +8,6 @@ pub mod Book
 pub mod Crash
 pub mod Framed
 pub mod Into
-pub mod Outcome
+pub mod Carrying
 pub mod Plain
 pub mod Opening

@@ -8,6 +8,7 @@ ghost use Rattle.dns_book.specs.Sources.{sanitized};
 
 use crate::reply_bytes::{LENGTH_LEN, ReplyBytes};
 use dns_io::{Ip, Octets, OutOfMemory, Peer, Protocol};
+use std::marker::Model;
 
 /// One whole message that came in.
 #[derive(Debug, Drop)]
@@ -22,6 +23,50 @@ pub struct Ask {
     pub at: u64,
     /// The number that its rows of the journal bear.
     pub client: u32,
+}
+
+impl Ask {
+    /// The message, lent.
+    pub fn lent(&self) -> LentAsk<'_>
+        ensures { result ≡ self.now }
+    {
+        LentAsk {
+            bytes: self.bytes.as_slice(),
+            source: self.source,
+            protocol: self.protocol,
+            at: self.at,
+            client: self.client,
+        }
+    }
+}
+
+/// One whole message that came in, whose bytes are lent. Contracts see it as [`Ask`].
+#[derive(Drop)]
+pub struct LentAsk<'a> {
+    /// The message, without the length that frames it on a connection.
+    pub bytes: &'a [u8],
+    /// Who sent it.
+    pub source: Peer,
+    /// How it came.
+    pub protocol: Protocol,
+    /// The moment at which it was whole, in milliseconds, below 2^47.
+    pub at: u64,
+    /// The number that its rows of the journal bear.
+    pub client: u32,
+}
+
+impl<'a> Model for LentAsk<'a> {
+    ghost use Rattle.dns_book.specs.declared.ask.Ask.{Ask};
+
+    ghost Value = { Ask };
+
+    ghost view = { λ a. record {
+      bytes = a.bytes.now;
+      source = a.source;
+      protocol = a.protocol;
+      at = a.at;
+      client = a.client;
+    } };
 }
 
 /// The rows of the journal that an update added.

@@ -7,13 +7,17 @@ ghost use Rattle.dns_book.specs.Into.{SettlesInto};
 ghost use Rattle.dns_book.specs.Crash.{SettlesLeaving, LeavesUnsettled, LeavesOn};
 
 use crate::access::AccessControl;
-use crate::ask::{Ask, Settled, SettledInto};
-use crate::in_place::InPlace;
-use crate::outcome::{outcome_for, reply_room};
+use crate::ask::{Ask, LentAsk, Settled, SettledInto};
+use crate::decision::{
+    decide_malformed, decide_message, decide_query, decide_shut_out, message_in, request_of,
+};
 use dns_counts::Counts;
 use dns_io::OutOfMemory;
 use dns_keeper::Keeper;
+use dns_query::query_behind;
 use dns_store::Store;
+use dns_update::laws::read_updates;
+use dns_wire::read_one_question;
 use std::alloc::Global;
 use std::marker::Model;
 
@@ -23,7 +27,6 @@ pub struct Book<K: Keeper> {
     pub(crate) store: Store<K>,
     pub(crate) allow_update: bool,
     pub(crate) counts: Counts,
-    pub(crate) in_place: InPlace,
     pub(crate) alloc: Global,
 }
 
@@ -55,16 +58,19 @@ impl<K: Keeper> Book<K> {
         ensures left_on { LeavesOn K.keeper self.old → LeavesOn K.keeper self.new }
     {
         let mut frame = Vec::new(self.alloc);
-        let into = self.settle_into(access, ask, &mut frame, true)?;
+        let into = self.settle_into(access, &ask.lent(), &mut frame, true)?;
         Ok(Settled::from_frame(into, frame))
     }
 
     /// Settles one message as [`Book::settle`] does, and adds its reply, where one is owed, to what a buffer has: as it is, or behind the
     /// two bytes of its length, as it goes over a connection (RFC 1035 4.2.2). Where memory ran out, part of a reply may have been added.
+    ///
+    /// It is read no further than it has to be: its source and its header, then whether it is let in, then a query of plain form where it
+    /// stands, and any other message whole.
     pub fn settle_into(
         &mut self,
         access: &AccessControl,
-        ask: &Ask,
+        ask: &LentAsk<'_>,
         out: &mut Vec<u8>,
         is_framed: bool,
     ) -> Result<SettledInto, OutOfMemory>
@@ -79,41 +85,28 @@ impl<K: Keeper> Book<K> {
         ensures left_unsettled { OnErr result (LeavesUnsettled K.keeper access.now self.old ask.now self.new) }
         ensures left_on { LeavesOn K.keeper self.old → LeavesOn K.keeper self.new }
     {
-        let (in_place, counts) = (&mut self.in_place, &mut self.counts);
-        if in_place.answer(self.store.zone(), access, ask, counts, out, is_framed)? {
-            return Ok(self.told(true));
+        read_updates(ask.bytes);
+        let Some(header) = request_of(ask) else {
+            return Ok(self.told(false, None));
+        };
+        let (alloc, protocol) = (self.alloc, ask.protocol);
+        if !access.allow(&ask.source.ip) {
+            let question = read_one_question(alloc, ask.bytes)?;
+            let decision = decide_shut_out(protocol, header, &question);
+            return self.carry_out(ask, &decision, out, is_framed);
         }
-        self.settle_whole(access, ask, out, is_framed)
-    }
-
-    /// Settles a message that is read whole. Once there is room for its reply, nothing but the keeper can fail.
-    fn settle_whole(
-        &mut self,
-        access: &AccessControl,
-        ask: &Ask,
-        out: &mut Vec<u8>,
-        is_framed: bool,
-    ) -> Result<SettledInto, OutOfMemory>
-        requires moment { ask.now.at < 2 ^ 47 }
-        ensures left { IfOk result (SettlesInto (λ settled. SettlesLeaving K.keeper access.now self.old ask.now settled self.new)
-            is_framed out.old.items out.new.items) }
-        ensures book { IsKept K.keeper self.new }
-        ensures err { OnErr result (IsLeft K.keeper self.old self.new) }
-        ensures left_unsettled { OnErr result (LeavesUnsettled K.keeper access.now self.old ask.now self.new) }
-        ensures left_on { LeavesOn K.keeper self.old → LeavesOn K.keeper self.new }
-    {
-        match outcome_for(
-            self.alloc,
-            self.store.zone(),
-            self.allow_update,
-            access,
-            ask,
-        )? {
-            None => Ok(self.told(false)),
-            Some(outcome) => {
-                out.reserve(reply_room(&outcome))?;
-                let settled = self.carry_out(ask, outcome)?;
-                Ok(settled.put_into(out, is_framed))
+        if let Some(query) = query_behind(header, ask.bytes) {
+            let decision = decide_query(self.store.zone(), protocol, &query);
+            return self.carry_out(ask, &decision, out, is_framed);
+        }
+        match message_in(alloc, ask.bytes)? {
+            Some(message) => {
+                let decision = decide_message(self.store.zone(), protocol, &message);
+                self.carry_out(ask, &decision, out, is_framed)
+            }
+            None => {
+                let decision = decide_malformed(protocol, header);
+                self.carry_out(ask, &decision, out, is_framed)
             }
         }
     }
@@ -157,7 +150,6 @@ impl<K: Keeper> Book<K> {
             store,
             allow_update: _,
             counts: _,
-            in_place: _,
             alloc: _,
         } = self;
         store.into_keeper()

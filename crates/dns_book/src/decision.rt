@@ -4,17 +4,20 @@ ghost use Rattle.std.specs.Prelude.{◌≡◌, IfOk, IfSome, IfNone, true, false
 ghost use Rattle.dns_wire.specs.declared.message.Message.{Message as Read};
 ghost use Rattle.dns_wire.specs.Messages.{MessageAt};
 ghost use Rattle.dns_name.specs.Name.{is_at_or_below};
-ghost use Rattle.dns_book.specs.Cases.{is_newer, only_question, is_foreign, query_case, question_case, message_case, request_of, header_alone, request_by, Decides};
+ghost use Rattle.dns_book.specs.Cases.{is_newer, only_question, is_foreign, query_case, question_case, message_case, request_of, header_alone, request_by};
+ghost use Rattle.dns_book.specs.declared.decision.Case.TheVariants.{ShutOut, Malformed};
+ghost use Rattle.dns_book.specs.Plain.{plain_case, request_in};
 
-use crate::access::AccessControl;
-use crate::ask::{Ask, sanitize_src_address};
+use crate::ask::{LentAsk, sanitize_src_address};
 use dns_io::{OutOfMemory, Protocol};
 use dns_name::ProtoError;
+use dns_query::Query;
 use dns_wire::{
-    Edns, Header, Message, Question, Questions, class, opcode, read_one_question, record_type,
+    Edns, Header, LentQuestion, Message, Question, Questions, class, opcode, record_type,
 };
 use dns_zone::Zone;
 use std::alloc::Global;
+use std::marker::Model;
 
 /// What a reply takes from its request.
 #[derive(Clone, Copy, Debug)]
@@ -23,82 +26,127 @@ pub(crate) struct Request {
     pub(crate) protocol: Protocol,
     /// Its header.
     pub(crate) header: Header,
-    /// Its OPT, where the whole message was read and has one.
+    /// Its OPT, where the message was read further than its header and has one.
     pub(crate) edns: Option<Edns>,
 }
 
-/// The case of a message that is owed a reply.
-#[derive(Debug, Drop)]
-pub(crate) enum Case {
+/// A message that was read whole, lent. Contracts see it as [`Message`].
+#[derive(Drop)]
+pub(crate) struct LentMessage<'a> {
+    pub(crate) message: &'a Message,
+}
+
+impl<'a> Model for LentMessage<'a> {
+    ghost use Rattle.dns_wire.specs.declared.message.Message.{Message};
+
+    ghost Value = { Message };
+
+    ghost view = { λ l. l.message.now };
+}
+
+/// The case of a message that is owed a reply; what it has of the message is lent.
+#[derive(Drop)]
+pub(crate) enum Case<'a> {
     /// Its source is shut out; the question, where there is exactly one that reads, whatever the message is.
-    ShutOut { question: Option<Question> },
+    ShutOut { question: Option<LentQuestion<'a>> },
     /// Its bytes are outside the grammar of messages (RFC 1035 4.1).
     Malformed,
     /// Its EDNS version is not known here (RFC 6891 6.1.3); the question, where there is exactly one.
-    UnsupportedVersion { question: Option<Question> },
+    UnsupportedVersion { question: Option<LentQuestion<'a>> },
     /// Its opcode is neither QUERY (RFC 1035 4.1.1) nor UPDATE (RFC 2136 2.2); the question, where there is exactly one.
-    NotImplemented { question: Option<Question> },
+    NotImplemented { question: Option<LentQuestion<'a>> },
     /// It is a query or an update without exactly one question.
     NotOneQuestion,
     /// It is a query for another class or another zone, or for a zone transfer.
-    Foreign { question: Question },
+    Foreign { question: LentQuestion<'a> },
     /// It is a query that the zone is looked up for (RFC 1034 4.3.2).
-    Query { question: Question },
+    Query { question: LentQuestion<'a> },
     /// It is an update: its question is its zone section, its answers are the prerequisites, its authority section has the
     /// update records (RFC 2136 2).
-    Update { message: Message },
+    Update { message: LentMessage<'a> },
 }
 
 /// A message that is owed a reply.
-#[derive(Debug, Drop)]
-pub(crate) struct Decision {
+#[derive(Drop)]
+pub(crate) struct Decision<'a> {
     /// What its reply takes from it.
     pub(crate) request: Request,
     /// Its case, by the first rule that fits.
-    pub(crate) case: Case,
-}
-
-/// Decides what a message is; none where it is owed no reply.
-pub(crate) fn decide(
-    alloc: Global,
-    zone: &Zone,
-    access: &AccessControl,
-    ask: &Ask,
-) -> Result<Option<Decision>, OutOfMemory>
-    ensures { IfOk result (Decides zone.now access.now ask.now) }
-{
-    let Some(header) = request_of(ask) else {
-        return Ok(None);
-    };
-    let protocol = ask.protocol;
-    let bytes = ask.bytes.as_slice();
-    if !access.allow(&ask.source.ip) {
-        let question = read_one_question(alloc, bytes)?;
-        return Ok(Some(Decision {
-            request: header_alone(protocol, header),
-            case: Case::ShutOut { question },
-        }));
-    }
-    match message_in(alloc, bytes)? {
-        Some(message) => Ok(Some(decide_message(zone, protocol, message))),
-        None => Ok(Some(Decision {
-            request: header_alone(protocol, header),
-            case: Case::Malformed,
-        })),
-    }
+    pub(crate) case: Case<'a>,
 }
 
 /// The header of a message that is owed a reply.
 #[tactic(auto, unfolding(crate::specs::Cases::request_of))]
-fn request_of(ask: &Ask) -> Option<Header>
+pub(crate) fn request_of(ask: &LentAsk<'_>) -> Option<Header>
     ensures { result ≡ request_of ask.now }
 {
     if sanitize_src_address(&ask.source).is_err() {
         return None;
     }
-    match Header::read(ask.bytes.as_slice()) {
+    match Header::read(ask.bytes) {
         Some(header) => { if header.qr { None } else { Some(header) } }
         None => None,
+    }
+}
+
+/// What is decided of a message from a source that is shut out.
+pub(crate) fn decide_shut_out<'a>(
+    protocol: Protocol,
+    header: Header,
+    question: &'a Option<Question>,
+) -> Decision<'a>
+    ensures { result ≡ record { request = header_alone protocol header; case = ShutOut question.now } }
+{
+    let question = match question {
+        None => None,
+        Some(question) => Some(question.lent()),
+    };
+    Decision {
+        request: header_alone(protocol, header),
+        case: Case::ShutOut { question },
+    }
+}
+
+/// What is decided of bytes that are outside the grammar of messages.
+pub(crate) fn decide_malformed<'a>(protocol: Protocol, header: Header) -> Decision<'a>
+    ensures { result ≡ record { request = header_alone protocol header; case = Malformed } }
+{
+    Decision {
+        request: header_alone(protocol, header),
+        case: Case::Malformed,
+    }
+}
+
+/// What is decided of a query of plain form.
+#[inline(always)]
+pub(crate) fn decide_query<'a>(zone: &Zone, protocol: Protocol, query: &Query<'a>) -> Decision<'a>
+    ensures { result ≡ record { request = request_in protocol query.now; case = plain_case zone.now query.now } }
+{
+    Decision {
+        request: Request {
+            protocol,
+            header: query.header,
+            edns: query.edns,
+        },
+        case: plain_case(zone, query),
+    }
+}
+
+/// What is decided of a message that was read whole.
+pub(crate) fn decide_message<'a>(
+    zone: &Zone,
+    protocol: Protocol,
+    message: &'a Message,
+) -> Decision<'a>
+    ensures { result ≡ record { request = request_by protocol message.now; case = message_case zone.now message.now } }
+{
+    Decision {
+        request: Request {
+            protocol,
+            header: message.header,
+            edns: message.edns,
+        },
+        case: message_case(zone, message),
     }
 }
 
@@ -114,7 +162,8 @@ fn header_alone(protocol: Protocol, header: Header) -> Request
 }
 
 /// The message that the bytes are, none where they are outside the grammar.
-fn message_in(alloc: Global, bytes: &[u8]) -> Result<Option<Message>, OutOfMemory>
+#[inline(never)]
+pub(crate) fn message_in(alloc: Global, bytes: &[u8]) -> Result<Option<Message>, OutOfMemory>
     ensures found { IfOk result (λ m. IfSome m (MessageAt bytes.now)) }
     ensures none { IfOk result (λ m. IfNone m ((read : Read) → MessageAt bytes.now read → ⊥)) }
 {
@@ -125,57 +174,55 @@ fn message_in(alloc: Global, bytes: &[u8]) -> Result<Option<Message>, OutOfMemor
     }
 }
 
-/// What is decided of a message that was read.
-fn decide_message(zone: &Zone, protocol: Protocol, message: Message) -> Decision
-    ensures { result ≡ record { request = request_by protocol message; case = message_case zone.now message } }
+/// The case of a query of plain form.
+#[inline(always)]
+fn plain_case<'a>(zone: &Zone, query: &Query<'a>) -> Case<'a>
+    ensures { result ≡ plain_case zone.now query.now }
 {
-    let request = Request {
-        protocol,
-        header: message.header,
-        edns: message.edns,
-    };
-    let case = message_case(zone, message);
-    Decision { request, case }
+    let question = query.question();
+    if is_newer(query.edns) {
+        return Case::UnsupportedVersion {
+            question: Some(question),
+        };
+    }
+    query_case(zone, question)
 }
 
-/// The case of a message that was read. Takes no memory.
+/// The case of a message that was read whole.
 #[tactic(auto, unfolding(crate::specs::Cases::message_case))]
-fn message_case(zone: &Zone, message: Message) -> Case
-    ensures { result ≡ message_case zone.now message }
+fn message_case<'a>(zone: &Zone, message: &'a Message) -> Case<'a>
+    ensures { result ≡ message_case zone.now message.now }
 {
+    let question = only_question(&message.questions);
     if is_newer(message.edns) {
-        return Case::UnsupportedVersion {
-            question: only_question(message.questions),
-        };
+        return Case::UnsupportedVersion { question };
     }
     let opcode = message.header.opcode;
     if opcode != opcode::QUERY && opcode != opcode::UPDATE {
-        return Case::NotImplemented {
-            question: only_question(message.questions),
-        };
+        return Case::NotImplemented { question };
     }
-    question_case(zone, message)
-}
-
-/// The case of a query or an update.
-fn question_case(zone: &Zone, message: Message) -> Case
-    ensures { result ≡ question_case zone.now message (only_question message.questions) }
-{
-    if message.questions.len() != 1 {
-        return Case::NotOneQuestion;
-    }
-    if message.header.opcode == opcode::UPDATE {
-        return Case::Update { message };
-    }
-    match only_question(message.questions) {
-        Some(question) => query_case(zone, question),
+    match question {
+        Some(question) => question_case(zone, message, question),
         None => Case::NotOneQuestion,
     }
 }
 
+/// The case of a query or an update with this question alone.
+fn question_case<'a>(zone: &Zone, message: &'a Message, question: LentQuestion<'a>) -> Case<'a>
+    ensures { result ≡ question_case zone.now message.now (Some question.entry) }
+{
+    if message.header.opcode == opcode::UPDATE {
+        return Case::Update {
+            message: LentMessage { message },
+        };
+    }
+    query_case(zone, question)
+}
+
 /// The case of a query with this question alone.
-fn query_case(zone: &Zone, question: Question) -> Case
-    ensures { result ≡ query_case zone.now question }
+#[inline(always)]
+fn query_case<'a>(zone: &Zone, question: LentQuestion<'a>) -> Case<'a>
+    ensures { result ≡ query_case zone.now question.entry }
 {
     if is_foreign(zone, &question) {
         return Case::Foreign { question };
@@ -183,7 +230,7 @@ fn query_case(zone: &Zone, question: Question) -> Case
     Case::Query { question }
 }
 
-pub(crate) fn is_newer(edns: Option<Edns>) -> bool
+fn is_newer(edns: Option<Edns>) -> bool
     ensures { result ≡ is_newer edns }
 {
     match edns {
@@ -192,19 +239,18 @@ pub(crate) fn is_newer(edns: Option<Edns>) -> bool
     }
 }
 
-/// The question of a message with exactly one. The question is moved.
-pub(crate) fn only_question(questions: Questions) -> Option<Question>
-    ensures { result ≡ only_question questions }
+/// The question of a message with exactly one, lent.
+pub(crate) fn only_question(questions: &Questions) -> Option<LentQuestion<'_>>
+    ensures { result ≡ only_question questions.now }
 {
-    let mut questions = questions.into_vec();
-    if questions.len() != 1 {
-        return None;
+    match questions.as_slice() {
+        [question] => Some(question.lent()),
+        _ => None,
     }
-    questions.pop()
 }
 
 /// Whether a question is not for this zone: another class, another name, or a zone transfer.
-pub(crate) fn is_foreign(zone: &Zone, question: &Question) -> bool
+fn is_foreign(zone: &Zone, question: &LentQuestion<'_>) -> bool
     ensures { result ≡ is_foreign zone.now question.now }
 {
     question.qclass != class::IN

@@ -2,20 +2,17 @@
 #![tactic(auto)]
 
 mod access;
+mod answering;
 mod ask;
 mod book;
-mod counted;
 mod decision;
-mod in_place;
 pub mod laws;
 mod opening;
-mod outcome;
-mod owed;
 mod reply_bytes;
 mod settling;
 
 pub use access::{AccessControl, IpNet};
-pub use ask::{Ask, Receipt, Settled, SettledInto, UnsafeSource, sanitize_src_address};
+pub use ask::{Ask, LentAsk, Receipt, Settled, SettledInto, UnsafeSource, sanitize_src_address};
 pub use book::Book;
 pub use dns_store::{OpenFault, OpenKind};
 pub use reply_bytes::ReplyBytes;

@@ -1,16 +1,16 @@
 //! How a book is opened: by its store.
 
-ghost use Rattle.std.specs.Prelude.{◌≡◌, ◌<◌, ◌^◌, Some, IfOk, IfErr, IfSome};
+ghost use Rattle.std.specs.Prelude.{◌≡◌, ◌<◌, ◌^◌, length, Some, IfOk, IfErr, IfSome};
 ghost use Rattle.dns_name.specs.Name.{fold_of};
 ghost use Rattle.dns_keeper.specs.Crash.{LeavesNoOther};
 ghost use Rattle.dns_store.specs.Crash.{LeavesRows, LeavesOpened, LeavesOpening, LeavesUnopened};
 ghost use Rattle.dns_store.specs.Opening.{HadNoRow, BeginsNot, RecoversNot, OpensNot};
+ghost use Rattle.dns_book.specs.Counted.{counts_of_zone};
 ghost use Rattle.dns_book.specs.Crash.{LeavesOn};
 ghost use Rattle.dns_book.specs.Opening.{fresh_of, Begins, Recovers, Opens};
 
 use crate::book::Book;
-use crate::counted::counts_of_zone;
-use crate::in_place::InPlace;
+use dns_counts::Counts;
 use dns_keeper::Keeper;
 use dns_name::Name;
 use dns_store::{OpenFault, Store};
@@ -91,8 +91,16 @@ impl<K: Keeper> Book<K> {
             counts: counts_of_zone(store.zone()),
             store,
             allow_update,
-            in_place: InPlace::new(alloc),
             alloc,
         }
     }
+}
+
+/// The counts of a book of this zone to which nothing has happened.
+fn counts_of_zone(zone: &Zone) -> Counts
+    ensures { result ≡ counts_of_zone zone.now.records }
+{
+    let mut counts = Counts::new();
+    counts.changed(0, 0, 0, zone.len() as u64);
+    counts
 }

@@ -148,7 +148,7 @@ fn handle_into<T: RequestHandler>(
     let (word, digits) = two(call);
     let ask = ask_of(alloc, Protocol::Tcp, digits)?;
     let access = AccessControl::new(alloc);
-    let into = handler.handle_into(&access, &ask, out, word == "framed")?;
+    let into = handler.handle_into(&access, &ask.lent(), out, word == "framed")?;
     let digits = hex_of(alloc, out.as_slice())?;
     Ok(format!(in alloc; "{} {} {digits}", into.is_owed, into.length)?)
 }

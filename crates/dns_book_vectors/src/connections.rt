@@ -70,7 +70,7 @@ fn source_of(alloc: Global, digits: &str, step: &str, reads: &str) -> Result<Mem
 }
 
 fn scribed<S: Source>(alloc: Global, source: &mut S, words: &str) -> Result<String, Fail> {
-    let mut scribe = Scribe { messages: 0 };
+    let mut scribe = Scribe { messages: 0, alloc };
     let answer = served(alloc, &mut scribe, source, words)?;
     Ok(format!(in alloc; "{answer} {}", scribe.messages)?)
 }

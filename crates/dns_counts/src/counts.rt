@@ -97,16 +97,16 @@ impl Counts {
         }
     }
 
-    /// Counts a query that the zone was looked up for and its reply, as [`Counts::record`] does, without a list of its answers. The
-    /// work grows with the number of parts, and with that of the records of a part.
+    /// Counts a message and its reply, as [`Counts::record`] does, without a list of its answers. The work grows with the number of
+    /// parts, and with that of the records of a part.
     pub fn record_lent(
         &mut self,
         protocol: Protocol,
         header: &Header,
-        question: (u16, u16),
+        question: Option<(u16, u16)>,
         replied: &LentReplied<'_>,
     )
-        ensures { self.new ≡ recorded (record { protocol = protocol; header = header.now; question = Some question }) replied.now self.old }
+        ensures { self.new ≡ recorded (record { protocol = protocol; header = header.now; question = question }) replied.now self.old }
     {
         count_flags(&mut self.request_flags, header);
         count_flags_in(&mut self.response_flags, replied.flags);
@@ -118,15 +118,20 @@ impl Counts {
         );
         count_response(&mut self.responses, replied.code);
         count_protocol(&mut self.protocols, protocol);
-        count_known(&mut self.lookups, &LOOKUP_CODES, replied.code);
-        count_type(&mut self.request_types, question.0, 1);
-        count_class(&mut self.request_classes, question.1, 1);
-        count_parts(
-            &mut self.response_types,
-            &mut self.response_classes,
-            replied.parts,
-            replied.written,
-        );
+        match question {
+            Some(question) => {
+                count_known(&mut self.lookups, &LOOKUP_CODES, replied.code);
+                count_type(&mut self.request_types, question.0, 1);
+                count_class(&mut self.request_classes, question.1, 1);
+                count_parts(
+                    &mut self.response_types,
+                    &mut self.response_classes,
+                    replied.parts,
+                    replied.written,
+                );
+            }
+            None => {}
+        }
     }
 
     /// Counts a batch that changed the zone: how many of its records were added, deleted and updated, and how many

@@ -4,16 +4,16 @@ use Rattle.std.proofs.lemmas.Grind.{flat_map-append}
 use Rattle.std.proofs.lemmas.List.{map-append}
 use Rattle.std.specs.Result.{OnOk}
 use Rattle.dns_io.specs.declared.peer.Peer.{Peer}
-use Rattle.dns_io.specs.declared.peer.Protocol.TheVariants.{Tcp}
 use Rattle.dns_book.specs.declared.ask.Ask.{Ask}
 use Rattle.dns_book.specs.declared.ask.Settled.{Settled}
 use Rattle.dns_server_core.specs.declared.event.Out.{Out}
 use Rattle.dns_server_core.specs.declared.event.Receiver.TheVariants.{Conn}
-use Rattle.dns_server_core.specs.Connections.{Connection, message_on, messages_left}
-use Rattle.dns_server_core.specs.FrameRuns.{Adds, Halts, first_asks, frame_for}
+use Rattle.dns_server_core.specs.Connections.{Connection, message_on}
+use Rattle.dns_server_core.specs.FrameRuns.{Adds, Halts, frame_for}
 use Rattle.dns_server_core.specs.FrameRuns as frame
 use Rattle.dns_server_core.specs.Runs.{Completed, Run, outs_of}
 use Rattle.dns_server_core.specs.Steps.{messages_in, unread_messages}
+use Rattle.dns_requests.specs.Arrivals.{ask_at}
 use Rattle.dns_crowd.specs.Crowds.{bytes_for}
 use Rattle.dns_crowd.specs.Replies.{Falters, RepliesTo, bytes_to, sent_bytes}
 
@@ -24,19 +24,16 @@ reply_bytes : (number : ℕ) (reply : Option (List ℕ)) → sent_bytes (outs_of
 reply_bytes number None = refl
 reply_bytes number (Some bytes) = append-nil _
 
-abbrev asked : Peer → ℕ → List ℕ → Ask
-asked peer at message = record { bytes = message; source = peer; protocol = Tcp; at = at; client = 0 }
-
 -- a front of what is made of messages is made of a front of them
-split_asks : (peer : Peer) (at : ℕ) (ms : List (List ℕ)) (xs ys : List Ask) → map (asked peer at) ms ≡ xs ++ ys
-    → (front : List (List ℕ)) × (back : List (List ℕ)) × (ms ≡ front ++ back) × (map (asked peer at) front ≡ xs)
+split_asks : (peer : Peer) (at : ℕ) (ms : List (List ℕ)) (xs ys : List Ask) → map (ask_at peer at) ms ≡ xs ++ ys
+    → (front : List (List ℕ)) × (back : List (List ℕ)) × (ms ≡ front ++ back) × (map (ask_at peer at) front ≡ xs)
 split_asks peer at ms [] ys e = ([], ms, refl, refl)
 split_asks peer at [] (x ∷ xs) ys e = absurd cc
 split_asks peer at (m ∷ ms) (x ∷ xs) ys e =
-    let head : asked peer at m ≡ x = cc in
-    let tail : map (asked peer at) ms ≡ xs ++ ys = cc in
+    let head : ask_at peer at m ≡ x = cc in
+    let tail : map (ask_at peer at) ms ≡ xs ++ ys = cc in
     let s = split_asks peer at ms xs ys tail in
-    (m ∷ s.0, s.1, ap (λ (l : List (List ℕ)). m ∷ l) s.2, ap (λ (a : Ask). a ∷ map (asked peer at) s.0) head ∙ ap (λ (l : List Ask). x ∷ l) s.3)
+    (m ∷ s.0, s.1, ap (λ (l : List (List ℕ)). m ∷ l) s.2, ap (λ (a : Ask). a ∷ map (ask_at peer at) s.0) head ∙ ap (λ (l : List Ask). x ∷ l) s.3)
 
 module _ {H : Type 0} (serves : H → Ask → Settled → H → Type 0) where
   -- the same run, reply by reply
@@ -44,7 +41,7 @@ module _ {H : Type 0} (serves : H → Ask → Settled → H → Type 0) where
   RunsAs before number peer at ms bytes after = (outs : List Out) × Run serves before (map (message_on number peer at) ms) outs after × (sent_bytes outs ≡ bytes_for number bytes)
 
   by_replies : (number : ℕ) (peer : Peer) (at : ℕ) (ms : List (List ℕ)) (before after : H) (bytes : List ℕ)
-      → frame.Run serves before (map (asked peer at) ms) bytes after → RunsAs before number peer at ms bytes after
+      → frame.Run serves before (map (ask_at peer at) ms) bytes after → RunsAs before number peer at ms bytes after
   by_replies number peer at [] before after bytes r = ([], (r.0, refl), sym (ap (bytes_for number) r.1))
   by_replies number peer at (m ∷ ms) before after bytes r =
       let rest = by_replies number peer at ms r.1 after r.2 r.5 in (
@@ -57,10 +54,10 @@ module _ {H : Type 0} (serves : H → Ask → Settled → H → Type 0) where
             ∙ ap (bytes_for number) (sym r.4),
       )
 
-  pub replies_settled : (k : Connection) (at : ℕ) (buffer : List ℕ) (before after : H) (old new : List ℕ)
-      → Adds serves before (first_asks (record { bytes = buffer; source = k.peer; protocol = Tcp; at = at; client = 0 }) (messages_left k) k.rest) after old new
+  pub replies_settled : (k : Connection) (at : ℕ) (before after : H) (old new : List ℕ)
+      → Adds serves before (map (ask_at k.peer at) (messages_in k k.rest)) after old new
       → RepliesTo serves before (unread_messages at k) after k.number old new
-  replies_settled k at buffer before after old new a =
+  replies_settled k at before after old new a =
       let r = by_replies k.number k.peer at (messages_in k k.rest) before after a.bytes a.run in
       record { outs = r.0; run = r.1; bytes = a.bytes; added = a.added; sent = r.2 }
 
@@ -82,10 +79,10 @@ module _ {H : Type 0} (serves : H → Ask → Settled → H → Type 0) where
   pub falters_same : (skips : H → H → Type 0) (before after : H) (xs ys : List Completed) → ys ≡ xs → Falters serves skips before xs after → Falters serves skips before ys after
   falters_same skips before after xs ys e f = subst (λ (l : List Completed). Falters serves skips before l after) (sym e) f
 
-  pub falters_settled : (skips : H → H → Type 0) (k : Connection) (at : ℕ) (buffer : List ℕ) (before after : H)
-      → Halts serves skips before (first_asks (record { bytes = buffer; source = k.peer; protocol = Tcp; at = at; client = 0 }) (messages_left k) k.rest) after
+  pub falters_settled : (skips : H → H → Type 0) (k : Connection) (at : ℕ) (before after : H)
+      → Halts serves skips before (map (ask_at k.peer at) (messages_in k k.rest)) after
       → Falters serves skips before (unread_messages at k) after
-  falters_settled skips k at buffer before after h =
+  falters_settled skips k at before after h =
       let s = split_asks k.peer at (messages_in k k.rest) h.first h.others h.parts in
       let r = by_replies k.number k.peer at s.0 before h.last h.bytes (subst (λ (l : List Ask). frame.Run serves before l h.bytes h.last) (sym s.3) h.run) in
       record {

@@ -20,7 +20,7 @@ use crate::crowd::Crowd;
 use crate::deadlines::{close_late, last_within};
 use crate::serving::serve_piece;
 use dns_book::AccessControl;
-use dns_io::{IoFault, Octets, OutOfMemory, Peer};
+use dns_io::{IoFault, OutOfMemory, Peer};
 use dns_readiness::{Came, Order};
 use dns_server_core::{RequestHandler, Session, end, is_safe, place_of};
 use std::alloc::Global;
@@ -39,7 +39,6 @@ pub(crate) struct Connections {
     greatest: Option<u32>,
     sessions: Vec<Session>,
     order: Order,
-    buffer: Octets,
     alloc: Global,
 }
 
@@ -67,7 +66,6 @@ impl Connections {
             greatest: None,
             sessions,
             order: Order::new(alloc),
-            buffer: Octets::new(alloc),
             alloc,
         }
     }
@@ -103,7 +101,6 @@ impl Connections {
             access,
             &mut self.sessions,
             &mut self.order,
-            &mut self.buffer,
             came,
             room,
             replies,
@@ -165,7 +162,6 @@ fn apply<H: RequestHandler>(
     access: &AccessControl,
     sessions: &mut Vec<Session>,
     order: &mut Order,
-    buffer: &mut Octets,
     came: &Came,
     room: &[u8],
     replies: &mut Vec<u8>,
@@ -195,9 +191,7 @@ fn apply<H: RequestHandler>(
         } => accept(alloc, sessions, order, *at, *conn, *peer, *limit),
         Came::Bytes { at, conn, count } => {
             let (piece, _) = room.split_at(*count);
-            let is_done = receive(
-                alloc, handler, access, sessions, order, buffer, *at, *conn, piece, replies,
-            )?;
+            let is_done = receive(handler, access, sessions, order, *at, *conn, piece, replies)?;
             Ok(is_done)
         }
         Came::Ended { at, conn } => {
@@ -237,12 +231,10 @@ fn accept(
 /// Receives a piece of the bytes of the connection of a number, and says whether it is to be closed: the piece came too late, or brought
 /// its last message.
 fn receive<H: RequestHandler>(
-    alloc: Global,
     handler: &mut H,
     access: &AccessControl,
     sessions: &mut Vec<Session>,
     order: &mut Order,
-    buffer: &mut Octets,
     at: u64,
     number: u32,
     piece: &[u8],
@@ -262,16 +254,7 @@ fn receive<H: RequestHandler>(
     ensures timed { KeepsTimes (event.Bytes at number piece.now) order.old sessions.old.items order.new sessions.new.items }
 {
     if let Some(i) = place_of(sessions, number) {
-        let stays = match serve_piece(
-            alloc,
-            handler,
-            access,
-            &mut sessions[i],
-            buffer,
-            at,
-            piece,
-            replies,
-        ) {
+        let stays = match serve_piece(handler, access, &mut sessions[i], at, piece, replies) {
             Ok(stays) => stays,
             Err(fault) => {
                 sessions.remove(i);

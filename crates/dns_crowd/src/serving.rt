@@ -4,21 +4,17 @@ ghost use Rattle.std.specs.Prelude.{◌≡◌, ◌<◌, ◌^◌, Some, None, IfO
 ghost use Rattle.dns_crowd.specs.Replies.{Falters, RepliesTo};
 ghost use Rattle.dns_server_core.specs.Steps.{heard_messages, moved, piece_at};
 
-use dns_book::{AccessControl, Ask};
-use dns_io::{Octets, OutOfMemory, Protocol};
+use dns_book::AccessControl;
+use dns_io::OutOfMemory;
 use dns_requests::answer;
 use dns_server_core::{Heard, RequestHandler, Session};
-use std::alloc::Global;
-use std::mem;
 
 /// Receives a piece of a connection's bytes: settles the messages that are whole now, no more than it may still have, adds their replies,
-/// each behind its length, to the others, and says whether the connection stays open. `buffer` is room for one message after the other.
+/// each behind its length, to the others, and says whether the connection stays open.
 pub(crate) fn serve_piece<H: RequestHandler>(
-    alloc: Global,
     handler: &mut H,
     access: &AccessControl,
     session: &mut Session,
-    buffer: &mut Octets,
     at: u64,
     piece: &[u8],
     replies: &mut Vec<u8>,
@@ -34,16 +30,7 @@ pub(crate) fn serve_piece<H: RequestHandler>(
     match heard {
         Heard::Late { since: _since } => Ok(false),
         Heard::InTime => {
-            let mut ask = Ask {
-                bytes: mem::replace(buffer, Octets::new(alloc)),
-                source: session.peer(),
-                protocol: Protocol::Tcp,
-                at,
-                client: 0,
-            };
-            answer(alloc, handler, access, &mut ask, session, replies)?;
-            let Ask { bytes, .. } = ask;
-            *buffer = bytes;
+            answer(handler, access, at, session, replies)?;
             Ok(!session.is_over())
         }
     }

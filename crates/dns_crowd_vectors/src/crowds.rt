@@ -14,7 +14,7 @@ use std::test::Fail;
 /// What a scribe's crowd was handed, and which connections it closed: `NEXTS SENDS / COMING / ..`. These calls for what comes next fail, and
 /// these sendings.
 pub fn crowd<R: Wait>(rt: &R, alloc: Global, given: &str) -> Result<String, Fail> {
-    let mut scribe = Scribe { messages: 0 };
+    let mut scribe = Scribe { messages: 0, alloc };
     let told = served(rt, alloc, &mut scribe, given)?;
     Ok(format!(in alloc; "{told}, {} messages", scribe.messages)?)
 }

@@ -8,7 +8,7 @@ use Rattle.dns_keeper.specs.Keeping.{HasBatch}
 use Rattle.dns_keeper.specs.Rows.{last_id, rows_of, appended, is_below_first, is_ascending, AreAscending}
 
 -- the last id of two rows and more is that of all but the first
-last_id-next : (first second : Row) (rest : List Row) → last_id (first ∷ second ∷ rest) ≡ last_id (second ∷ rest)
+pub last_id-next : (first second : Row) (rest : List Row) → last_id (first ∷ second ∷ rest) ≡ last_id (second ∷ rest)
 last_id-next first second rest =
     let long : suc (suc (length rest)) - 1 ≡ suc (length rest) = omega arith in
     let short : suc (length rest) - 1 ≡ length rest = omega arith in

@@ -1,8 +1,7 @@
 -- Batches by ascending first, each above the one before it.
-use Rattle.std.proofs.Common.{◌≡◌, inl, inr, ◌<ℤ◌, ◌-ℤ◌, ℤ, pos, List, [], ◌∷◌, true, false, refl, arith}
+use Rattle.std.proofs.Common.{◌≡◌, ◌<ℤ◌, ◌-ℤ◌, ℤ, pos, List, [], ◌∷◌, true, false, refl, arith}
 use Rattle.std.specs.Int.Signed.{le_z}
 use Rattle.std.proofs.lemmas.Int.{ints}
-use Rattle.std.proofs.lemmas.Bool.{cases_Bool}
 use Rattle.std.proofs.lemmas.Bool.Decides.{nat_tests}
 use Rattle.dns_keeper.specs.declared.batch_row.BatchRow.{BatchRow}
 use Rattle.dns_keeper.specs.Batches.{is_below_batches, AreByFirst}

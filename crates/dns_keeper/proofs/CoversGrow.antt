@@ -1,6 +1,6 @@
 -- Rows that batches cover are covered after an append too.
-use Rattle.std.proofs.Common.{◌≡◌, ◌<◌, ◌+◌, ◌+ℤ◌, ◌&&◌, ◌++◌, ℕ, ℤ, pos, List, [], ◌∷◌, length, length-append, append-nil, true, false, suc, refl, sym, ap, subst, ◌∙◌, arith}
-use Rattle.std.specs.List.{list_all, AllByRecursion}
+use Rattle.std.proofs.Common.{◌≡◌, ◌<◌, ◌+◌, ◌+ℤ◌, ◌++◌, ℕ, ℤ, pos, List, [], ◌∷◌, length, length-append, append-nil, true, false, refl, sym, ap, subst, ◌∙◌, arith}
+use Rattle.std.specs.List.{list_all}
 use Rattle.std.specs.Ordering.{int_eq}
 use Rattle.std.specs.Int.Signed.{le_z}
 use Rattle.std.proofs.lemmas.Int.{ints}
@@ -10,7 +10,7 @@ use Rattle.dns_wire.specs.WireFormat.{record_bytes}
 use Rattle.dns_keeper.specs.declared.row.Row.{Row}
 use Rattle.dns_keeper.specs.declared.batch_row.BatchRow.{BatchRow}
 use Rattle.dns_keeper.specs.Rows.{last_id, rows_of, appended}
-use Rattle.dns_keeper.specs.Batches.{put_batch, batches_with, are_alike, IsRun, Covers}
+use Rattle.dns_keeper.specs.Batches.{batches_with, are_alike, IsRun, Covers}
 use Rattle.dns_keeper.proofs.Putting.{AllBelow, put_behind}
 use Rattle.dns_keeper.proofs.Adding.{length-rows_of}
 use Rattle.dns_keeper.proofs.Runs.{next_id, covers_more}

@@ -1,5 +1,5 @@
 -- A batch covers the rows from its place on where it is a front of their first run.
-use Rattle.std.proofs.Common.{◌≡◌, inl, inr, ◌+◌, ◌-◌, ◌+ℤ◌, ◌-ℤ◌, ◌&&◌, ◌≤◌, ◌++◌, ℕ, ℤ, zero, suc, pos, negsuc, nat_abs, nat_le, List, [], ◌∷◌, length, take, drop, Bool, true, false, if◌then◌else◌, refl, sym, ap, subst, ◌∙◌, arith}
+use Rattle.std.proofs.Common.{◌≡◌, inl, inr, ◌+ℤ◌, ◌-ℤ◌, ◌&&◌, ℕ, ℤ, zero, suc, pos, negsuc, nat_abs, nat_le, List, [], ◌∷◌, length, take, drop, Bool, true, false, if◌then◌else◌, refl, sym, ap, subst, ◌∙◌, arith}
 use Rattle.std.proofs.lemmas.Int.{ints}
 use Rattle.std.proofs.lemmas.Bool.{cases_Bool, and_parts}
 use Rattle.std.proofs.lemmas.Bool.Decides.{nat_tests}

@@ -1,7 +1,6 @@
 -- Batches that calls keep.
-use Rattle.std.proofs.Common.{◌≡◌, List, Option, Some, None, refl, ◌∙◌}
+use Rattle.std.proofs.Common.{◌≡◌, Option, Some, None, refl, ◌∙◌}
 use Rattle.dns_io.specs.Told.{Told}
-use Rattle.dns_keeper.specs.declared.row.Row.{Row}
 use Rattle.dns_keeper.specs.Keeping.{KeeperTold, KeepsBatches}
 
 told_same : {A : Type 0} (o : Option A) (P : Type 0) → P → Told (λ (b n : A). P) o o

@@ -10,3 +10,4 @@ pub mod KeptBatches
 pub mod CoversGrow
 pub mod Fronts
 pub mod CoverageSteps
+pub mod Packing

@@ -1,5 +1,5 @@
 -- A batch that is put in its place: where that is, and that batches stay by ascending first.
-use Rattle.std.proofs.Common.{◌≡◌, ◌<◌, ◌+◌, inl, inr, ℕ, ℤ, ◌-◌, List, [], ◌∷◌, ◌++◌, length, take, drop, get_or, slice_get, append_assoc, Bool, true, false, suc, refl, sym, ap, ◌∙◌, arith}
+use Rattle.std.proofs.Common.{◌≡◌, ◌<◌, ◌+◌, inl, inr, ℕ, ℤ, ◌-◌, List, [], ◌∷◌, ◌++◌, length, take, drop, get_or, append_assoc, true, false, suc, refl, sym, ap, ◌∙◌, arith}
 use Rattle.std.proofs.Math.Seq.{drop-cons}
 use Rattle.std.proofs.lemmas.List.{take_more}
 use Rattle.std.specs.List.{AllByRecursion}
@@ -9,7 +9,7 @@ use Rattle.std.proofs.lemmas.Int.{ints}
 use Rattle.std.proofs.lemmas.Bool.{cases_Bool}
 use Rattle.std.proofs.lemmas.Bool.Decides.{nat_tests}
 use Rattle.dns_keeper.specs.declared.batch_row.BatchRow.{BatchRow}
-use Rattle.dns_keeper.specs.Batches.{is_below_batches, is_by_first, AreByFirst, begins_at, put_batch}
+use Rattle.dns_keeper.specs.Batches.{is_below_batches, AreByFirst, begins_at, put_batch}
 use Rattle.dns_keeper.specs.Memory.{ends_below}
 
 -- ---- behind all others

@@ -1,13 +1,13 @@
 -- The runs of rows by ascending id stand by ascending first.
-use Rattle.std.proofs.Common.{◌≡◌, inl, inr, ℤ, List, [], ◌∷◌, Bool, true, false, refl, sym, ◌∙◌, arith}
+use Rattle.std.proofs.Common.{◌≡◌, inl, inr, ℤ, List, [], ◌∷◌, true, false, refl, arith}
 use Rattle.std.specs.Int.Signed.{le_z}
 use Rattle.std.proofs.lemmas.Int.{ints}
 use Rattle.std.proofs.lemmas.Bool.{cases_Bool}
 use Rattle.std.proofs.lemmas.Bool.Decides.{nat_tests}
 use Rattle.dns_keeper.specs.declared.row.Row.{Row}
 use Rattle.dns_keeper.specs.declared.batch_row.BatchRow.{BatchRow}
-use Rattle.dns_keeper.specs.Rows.{is_below_first, is_ascending, AreAscending}
-use Rattle.dns_keeper.specs.Batches.{is_below_batches, is_by_first, AreByFirst, are_alike, begun_with, runs_of}
+use Rattle.dns_keeper.specs.Rows.{is_below_first, AreAscending}
+use Rattle.dns_keeper.specs.Batches.{is_below_batches, AreByFirst, are_alike, begun_with, runs_of}
 use Rattle.dns_keeper.proofs.Putting.{parts_of, begins_above}
 
 -- the first of the runs begins with the first row

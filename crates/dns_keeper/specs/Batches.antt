@@ -1,5 +1,5 @@
 -- The batches of a journal: where each begins and how many rows it has, which runs the rows make, and when batches cover rows.
-use Rattle.std.specs.Prelude.{◌≡◌, ◌+ℤ◌, ◌&&◌, ◌++◌, ◌-◌, ℤ, pos, nat_abs, nat_le, Bool, true, false, List, [], ◌∷◌, length, take, drop, slice_get, if◌then◌else◌, Option, Some, None, IsTrue}
+use Rattle.std.specs.Prelude.{◌≡◌, ◌+ℤ◌, ◌&&◌, ◌++◌, ℤ, pos, nat_abs, nat_le, Bool, true, false, List, [], ◌∷◌, length, take, drop, if◌then◌else◌, Option, Some, None, IsTrue}
 use Rattle.std.specs.List.{list_all}
 use Rattle.std.specs.Ordering.{int_eq}
 use Rattle.std.specs.Int.Signed.{le_z}

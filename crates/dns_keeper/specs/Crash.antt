@@ -1,6 +1,6 @@
 -- What a crash may leave of a keeper: rows with batches, each pair of which may be what is read back afterwards. A keeper that does
 -- not tell it lets none be left, and then nothing is said of them.
-use Rattle.std.specs.Prelude.{◌≡◌, ◌⊎◌, ◌<◌, ◌+ℤ◌, ℕ, pos, List, length, Option, Some, None, IsSomeAnd}
+use Rattle.std.specs.Prelude.{◌≡◌, ◌⊎◌, ◌<◌, ◌+ℤ◌, ℕ, pos, List, length, Some, IsSomeAnd}
 use Rattle.dns_wire.specs.declared.record.Record.{Record}
 use Rattle.dns_keeper.specs.declared.row.Row.{Row}
 use Rattle.dns_keeper.specs.declared.batch_row.BatchRow.{BatchRow}

@@ -6,3 +6,4 @@ pub mod Calls
 pub mod Memory
 pub mod RunsSoFar
 pub mod Cutting
+pub mod Packed

@@ -9,7 +9,7 @@ use Rattle.dns_keeper.specs.declared.keeper.KeepFault.{KeepFault}
 use Rattle.dns_keeper.specs.declared.keeper.KeepFault.TheVariants.{Failed, OutOfMemory}
 use Rattle.dns_keeper.specs.Keeping.{KeeperOf}
 use Rattle.dns_keeper.specs.Rows.{last_id}
-use Rattle.dns_keeper.specs.Batches.{begins_at, put_batch}
+use Rattle.dns_keeper.specs.Batches.{begins_at}
 
 -- the calls of one kind that were made, and the numbers of those that fail
 pub record Schedule : Type 0 where
@@ -68,17 +68,3 @@ begins_below id (Some b) = if le_z id b.first then false else true
 -- the last of the batches does
 abbrev pub ends_below : ℤ → List BatchRow → Bool
 ends_below id batches = begins_below id (slice_get batches (length batches - 1))
-
--- the batch of rows that begin with this one, if there is one, and are so many
-abbrev pub led_by : Option Row → ℕ → Option BatchRow
-led_by None count = None
-led_by (Some r) count = Some (record { first = r.id; count = pos count })
-
--- the batch that rows make, if there are any
-abbrev pub batch_of : List Row → Option BatchRow
-batch_of rows = led_by (slice_get rows 0) (length rows)
-
--- batches with one more in its place, if there is one
-abbrev pub with_batch : Option BatchRow → List BatchRow → List BatchRow
-with_batch None batches = batches
-with_batch (Some b) batches = put_batch b batches

@@ -7,6 +7,7 @@ mod coverage;
 mod keeper;
 pub mod laws;
 mod memory;
+mod packed_rows;
 mod row;
 mod row_runs;
 

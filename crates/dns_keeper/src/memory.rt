@@ -1,27 +1,26 @@
 //! A keeper in memory.
 
-ghost use Rattle.std.specs.Prelude.{◌≡◌, ◌<◌, ◌-◌, ◌+ℤ◌, ◌⊎◌, ◌++◌, ◌^◌, pos, neg_ℤ, [], Some, true};
-ghost use Rattle.std.specs.Prelude.{IfOk, IfSome, IfNone, IsOk, OnOk, OnErr, IsErrOf, IsSomeAnd, FitsSigned};
-ghost use Rattle.std.specs.Option.{option_copied};
+ghost use Rattle.std.specs.Prelude.{◌≡◌, ◌<◌, ◌-◌, ◌+ℤ◌, ◌≤ℤ◌, ◌<ℤ◌, ◌⊎◌, ◌++◌, ◌∷◌, ◌^◌, pos, neg_ℤ, length, [], Some, true};
+ghost use Rattle.std.specs.Prelude.{IfOk, IfSome, IfNone, IsOk, OnOk, OnErr, IsErrOf, FitsSigned};
 ghost use Rattle.std.specs.Int.{w64};
+ghost use Rattle.std.specs.Option.{option_copied};
 ghost use Rattle.dns_wire.specs.WireFormat.{AreShort};
 ghost use Rattle.dns_keeper.specs.declared.keeper.KeepFault.TheVariants.{Failed};
 ghost use Rattle.dns_stamp.specs.Stamp.{IsStampOf};
-ghost use Rattle.dns_keeper.specs.Rows.{appended, last_id, first_of, first_from, AreAscending};
-ghost use Rattle.dns_keeper.specs.Batches.{AreByFirst, begins_at, runs_of};
-ghost use Rattle.dns_keeper.specs.Keeping.{HasBatch};
-ghost use Rattle.dns_keeper.specs.Crash.{HasWhole};
+ghost use Rattle.dns_keeper.specs.Rows.{last_id, first_of, first_from, AreAscending};
+ghost use Rattle.dns_keeper.specs.Batches.{AreByFirst, begins_at, put_batch, batches_with, runs_of};
 ghost use Rattle.dns_keeper.specs.Calls.{Appends, ReadsRow, ReadsBatch};
-ghost use Rattle.dns_keeper.specs.Memory.{memory_keeper, raised, called, is_next_failing, faults_after};
-ghost use Rattle.dns_keeper.specs.Memory.{LacksIds, HasNoPlace, batch_of, with_batch};
+ghost use Rattle.dns_keeper.specs.Memory.{memory_keeper, raised, called, is_next_failing, faults_after, HasNoPlace};
+ghost use Rattle.dns_keeper.specs.Packed.{joined, GrowsBehind, LacksBehind, MeetsBehind};
 
 use crate::batch_row::BatchRow;
 use crate::batching::{batch_from, put_batch};
 use crate::keeper::{KeepFault, Keeper};
+use crate::packed_rows::{PackedRows, first_packed};
 use crate::row::Row;
 use crate::row_runs::runs_in;
 use dns_io::{Octets, OutOfMemory};
-use dns_wire::Records;
+use dns_wire::{Record, Records};
 use std::alloc::Global;
 use std::marker::Model;
 
@@ -29,7 +28,12 @@ use std::marker::Model;
 #[derive(Drop)]
 pub struct MemoryKeeper {
     alloc: Global,
-    rows: Vec<Row>,
+    /// The rows that it was made with.
+    given: Vec<Row>,
+    /// Behind them the rows that were added, batch by batch.
+    added: Vec<PackedRows>,
+    /// The greatest id, 0 where there is no row.
+    last: i64,
     batches: Vec<BatchRow>,
     faults: u64,
     appends: Calls,
@@ -37,21 +41,28 @@ pub struct MemoryKeeper {
 }
 
 impl Model for MemoryKeeper {
+    ghost use Rattle.std.specs.Prelude.{◌≡◌, ◌++◌, FitsSigned};
+    ghost use Rattle.std.specs.Int.{w64};
     ghost use Rattle.dns_keeper.specs.Memory.{Held};
-    ghost use Rattle.dns_keeper.specs.Rows.{AreAscending};
+    ghost use Rattle.dns_keeper.specs.Rows.{last_id, AreAscending};
     ghost use Rattle.dns_keeper.specs.Batches.{AreByFirst};
+    ghost use Rattle.dns_keeper.specs.Packed.{joined};
 
     ghost Value = { Held };
 
     ghost view = { λ k. record {
-      rows = k.rows.items;
+      rows = k.given.items ++ joined k.added.items;
       batches = k.batches.items;
       faults = k.faults;
       appends = k.appends;
       reads = k.reads;
     } };
 
-    ghost invariant = { λ k. AreAscending k.rows.items × AreByFirst k.batches.items };
+    ghost invariant = { λ k.
+        AreAscending (k.given.items ++ joined k.added.items)
+        × AreByFirst k.batches.items
+        × (k.last ≡ last_id (k.given.items ++ joined k.added.items))
+        × FitsSigned w64 k.last };
 }
 
 impl MemoryKeeper {
@@ -73,7 +84,9 @@ impl MemoryKeeper {
     {
         MemoryKeeper {
             alloc,
-            rows: Vec::new(alloc),
+            given: Vec::new(alloc),
+            added: Vec::new(alloc),
+            last: 0,
             batches: Vec::new(alloc),
             faults: 0,
             appends: Calls::failing(appends),
@@ -102,9 +115,12 @@ impl MemoryKeeper {
         ensures appends { result.appends ≡ record { made = 0; failing = [] } }
         ensures reads { result.reads ≡ record { made = 0; failing = [] } }
     {
+        let last = last_id(rows.as_slice());
         MemoryKeeper {
             alloc,
-            rows,
+            given: rows,
+            added: Vec::new(alloc),
+            last,
             batches,
             faults: 0,
             appends: Calls::failing(Vec::new(alloc)),
@@ -145,9 +161,17 @@ impl Keeper for MemoryKeeper {
         if self.appends.next_fails() {
             return Err(self.fail());
         }
-        let (alloc, rows, batches) = (self.alloc, &mut self.rows, &mut self.batches);
-        match add_records(alloc, rows, batches, client, serial, moment, records) {
-            Ok(()) => Ok(()),
+        let (alloc, last, added, batches) = (
+            self.alloc,
+            self.last,
+            &mut self.added,
+            &mut self.batches,
+        );
+        match add_records(alloc, last, added, batches, client, serial, moment, records) {
+            Ok(last) => {
+                self.last = last;
+                Ok(())
+            }
             Err(KeepFault::Failed) => Err(self.fail()),
             Err(KeepFault::OutOfMemory) => Err(KeepFault::OutOfMemory),
         }
@@ -162,10 +186,10 @@ impl Keeper for MemoryKeeper {
         if self.reads.next_fails() {
             return Err(self.fail());
         }
-        match first_from(&self.rows, id) {
-            None => Ok(None),
-            Some(row) => Ok(Some(copied(self.alloc, row)?)),
+        if let Some(row) = first_from(self.given.as_slice(), id) {
+            return Ok(Some(copied(self.alloc, row)?));
         }
+        Ok(first_packed(self.alloc, self.added.as_slice(), id)?)
     }
 
     fn batch_from(&mut self, first: i64) -> Result<Option<BatchRow>, KeepFault>
@@ -223,13 +247,19 @@ fn last_id(rows: &[Row]) -> i64
     }
 }
 
-/// The id that follows, if there is one.
-fn id_after(id: i64) -> Option<i64>
-    ensures some { IfSome result (λ next. next ≡ id +ℤ pos 1) }
-    ensures fits { IfSome result (FitsSigned w64) }
-    ensures none { IfNone result (id ≡ pos (2 ^ 63 - 1)) }
+/// The batch that records make behind this id, and the last id then; nothing where ids are lacking.
+fn batch_behind(last: i64, records: &[Record]) -> Option<(BatchRow, i64)>
+    requires { 0 < length records.now }
+    ensures first { IfSome result (λ made. made.0.first ≡ last +ℤ pos 1) }
+    ensures count { IfSome result (λ made. made.0.count ≡ pos (length records.now)) }
+    ensures last { IfSome result (λ made. made.1 ≡ last +ℤ pos (length records.now)) }
+    ensures fits { IfSome result (λ made. FitsSigned w64 made.0.first × FitsSigned w64 made.0.count × FitsSigned w64 made.1) }
+    ensures none { IfNone result (LacksBehind last records.now) }
 {
-    if id == i64::MAX { None } else { Some(id + 1) }
+    let count = records.len() as i64;
+    let now = last.checked_add(count)?;
+    let first = last + 1;
+    Some((BatchRow { first, count }, now))
 }
 
 /// The stamp of a moment, in milliseconds since 1970.
@@ -241,117 +271,66 @@ fn stamp_of(alloc: Global, moment: u64) -> Result<Octets, OutOfMemory>
     Octets::from_slice(alloc, text.as_bytes())
 }
 
-/// The rows of a batch, with the ids that follow those of these rows; a fault where the ids run out.
-fn stamped_rows(
-    alloc: Global,
-    rows: &[Row],
-    client: u32,
-    serial: u32,
-    moment: u64,
-    records: &Records,
-) -> Result<Vec<Row>, KeepFault>
-    requires moment { moment < 2 ^ 47 }
-    requires short { AreShort records.now }
-    ensures ok { IfOk result (λ batch. HasBatch rows.now client serial moment records.now (rows.now ++ batch.items)) }
-    ensures failed { IsErrOf result Failed → LacksIds rows.now records.now }
-{
-    let stamp = stamp_of(alloc, moment)?;
-    new_rows(alloc, rows, client, serial, stamp.as_slice(), records)
-}
-
-/// The rows of a batch that bear this stamp.
-fn new_rows(
-    alloc: Global,
-    rows: &[Row],
-    client: u32,
-    serial: u32,
-    stamp: &[u8],
-    records: &Records,
-) -> Result<Vec<Row>, KeepFault>
-    requires { AreShort records.now }
-    ensures ok { IfOk result (λ batch. rows.now ++ batch.items ≡ appended rows.now client serial stamp.now records.now) }
-    ensures failed { IsErrOf result Failed → LacksIds rows.now records.now }
-{
-    let mut batch = Vec::with_capacity(alloc, records.len())?;
-    let mut last = last_id(rows);
-    for one in records.as_slice() {
-        let Some(id) = id_after(last) else {
-            return Err(KeepFault::Failed);
-        };
-        // The data is short, so only memory can be wanting.
-        let Ok(bytes) = one.to_vec(alloc) else {
-            return Err(KeepFault::OutOfMemory);
-        };
-        batch.push(Row {
-            id,
-            client: i64::from(client),
-            serial: i64::from(serial),
-            stamp: Octets::from_slice(alloc, stamp)?,
-            bytes,
-        })?;
-        last = id;
-    }
-    Ok(batch)
-}
-
-/// The batch that rows make, if there are any.
-fn batch_of(rows: &[Row]) -> Option<BatchRow>
-    ensures { result ≡ batch_of rows.now }
-{
-    match rows.first() {
-        None => None,
-        Some(row) => Some(BatchRow {
-            first: row.id,
-            count: rows.len() as i64,
-        }),
-    }
-}
-
-/// Adds rows at the end and, where there are any, their batch in its place; a fault where another begins there. After a refusal all are
-/// as before.
+/// Adds rows at the end, and their batch in its place; a fault where another begins there. After a refusal all are as before.
 fn add_rows(
-    rows: &mut Vec<Row>,
+    added: &mut Vec<PackedRows>,
     batches: &mut Vec<BatchRow>,
-    mut more: Vec<Row>,
+    rows: PackedRows,
+    batch: &BatchRow,
 ) -> Result<(), KeepFault>
     requires { AreByFirst batches.old.items }
-    ensures rows { OnOk result (rows.new.items ≡ rows.old.items ++ more.items) }
-    ensures batches { OnOk result (batches.new.items ≡ with_batch (batch_of more.items) batches.old.items) }
-    ensures err { OnErr result ((rows.new.items ≡ rows.old.items) × (batches.new.items ≡ batches.old.items)) }
-    ensures failed { IsErrOf result Failed → IsSomeAnd (batch_of more.items) (λ b. begins_at b.first batches.old.items ≡ true) }
+    ensures rows { OnOk result (added.new.items ≡ added.old.items ++ rows ∷ []) }
+    ensures batches { OnOk result (batches.new.items ≡ put_batch batch.now batches.old.items) }
+    ensures err { OnErr result ((added.new.items ≡ added.old.items) × (batches.new.items ≡ batches.old.items)) }
+    ensures failed { IsErrOf result Failed → begins_at batch.now.first batches.old.items ≡ true }
     ensures by_first { AreByFirst batches.new.items }
 {
-    let Some(batch) = batch_of(more.as_slice()) else {
-        return Ok(());
-    };
-    rows.reserve(more.len())?;
-    put_batch(batches, &batch)?;
-    rows.append(&mut more).unwrap();
+    added.reserve(1)?;
+    put_batch(batches, batch)?;
+    added.push(rows).unwrap();
     Ok(())
 }
 
-/// Adds a row for each record, with the ids that follow, and where there are any their batch; a fault where they have no place. After a
-/// refusal all are as before.
+/// Adds a row for each record, with the ids that follow the last, and where there are any their batch; a fault where they have no place.
+/// Gives the last id there is. After a refusal all are as before.
 fn add_records(
     alloc: Global,
-    rows: &mut Vec<Row>,
+    last: i64,
+    added: &mut Vec<PackedRows>,
     batches: &mut Vec<BatchRow>,
     client: u32,
     serial: u32,
     moment: u64,
     records: &Records,
-) -> Result<(), KeepFault>
+) -> Result<i64, KeepFault>
     requires moment { moment < 2 ^ 47 }
     requires short { AreShort records.now }
     requires by_first { AreByFirst batches.old.items }
-    ensures ok { OnOk result (HasWhole rows.old.items batches.old.items client serial moment records.now
-        (record { rows = rows.new.items; batches = batches.new.items })) }
-    ensures err { OnErr result ((rows.new.items ≡ rows.old.items) × (batches.new.items ≡ batches.old.items)) }
-    ensures failed { IsErrOf result Failed → HasNoPlace rows.old.items batches.old.items records.now }
+    ensures rows { OnOk result (GrowsBehind last client serial moment records.now (joined added.old.items) (joined added.new.items)) }
+    ensures batches { OnOk result (batches.new.items ≡ batches_with (last +ℤ pos 1) records.now batches.old.items) }
+    ensures last { IfOk result (λ now. now ≡ last +ℤ pos (length records.now)) }
+    ensures fits { IfOk result (FitsSigned w64) }
+    ensures err { OnErr result ((added.new.items ≡ added.old.items) × (batches.new.items ≡ batches.old.items)) }
+    ensures failed { IsErrOf result Failed → LacksBehind last records.now ⊎ MeetsBehind last batches.old.items records.now }
     ensures by_first { AreByFirst batches.new.items }
 {
-    let more = stamped_rows(alloc, rows.as_slice(), client, serial, moment, records)?;
-    add_rows(rows, batches, more)
+    if records.len() == 0 {
+        return Ok(last);
+    }
+    let Some((batch, now)) = batch_behind(last, records.as_slice()) else {
+        return Err(KeepFault::Failed);
+    };
+    let stamp = stamp_of(alloc, moment)?;
+    let rows = PackedRows::of_records(
+        alloc,
+        batch.first,
+        client,
+        serial,
+        stamp.as_slice(),
+        records,
+    )?;
+    add_rows(added, batches, rows, &batch)?;
+    Ok(now)
 }
 
 /// The first row whose id is not below this one.

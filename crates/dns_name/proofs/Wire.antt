@@ -59,3 +59,7 @@ IsName-nil = record { each = tt; short = omega arith }
 -- the bytes of a name, folded
 pub folded_bytes : (bytes : List ℕ) → IsWire bytes → map to_ascii_lowercase bytes ≡ labels_bytes (fold_of (labels_of bytes))
 folded_bytes bytes w = ap (map to_ascii_lowercase) w.spelled ∙ labels_bytes-fold_of (labels_of bytes) w.name.each
+
+-- how many bytes the labels of a name take
+pub length-wire : (bytes : List ℕ) → IsWire bytes → length bytes ≤ 254
+length-wire bytes w = omega (arith, ap length w.spelled, length-labels_bytes (labels_of bytes), w.name.short)

@@ -6,7 +6,9 @@ mod fault;
 mod name;
 pub mod name_laws;
 mod name_text;
+mod view;
 
 pub use escape::escape_of;
 pub use fault::ProtoError;
 pub use name::{Labels, Name};
+pub use view::NameView;

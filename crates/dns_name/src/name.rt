@@ -7,6 +7,7 @@ ghost use Rattle.dns_name.specs.Name.{IsLabel, IsName, name_len, fold_of, SameNa
 ghost use Rattle.dns_name.specs.NameBuffer.{labels_of, IsWire};
 ghost use Rattle.dns_name.specs.NameInMessage.{StandsAt};
 
+use crate::view::NameView;
 use dns_io::OutOfMemory;
 use std::alloc::{AllocError, Global};
 use std::marker::Model;
@@ -139,6 +140,13 @@ impl Name {
         &self.wire
     }
 
+    /// The name, lent.
+    pub fn view(&self) -> NameView<'_>
+        ensures { result ≡ self.now }
+    {
+        NameView::of_wire(&self.wire)
+    }
+
     /// Whether the names are equal but for the case of ASCII letters (RFC 1035 2.3.3).
     pub fn same(&self, other: &Name) -> bool
         ensures meaning { IsTrue result ↔ SameName self.now other.now }
@@ -249,6 +257,16 @@ impl<'a> Model for Labels<'a> {
     ghost invariant = { λ s. IsWire s.left.now };
 }
 
+impl<'a> Labels<'a> {
+    /// The labels that these bytes are, each behind its length.
+    pub(crate) fn of_wire(left: &'a [u8]) -> Labels<'a>
+        requires { IsWire left.now }
+        ensures { result ≡ labels_of left.now }
+    {
+        Labels { left }
+    }
+}
+
 impl<'a> Iterator for Labels<'a> {
     type Item = &'a [u8];
 
@@ -281,7 +299,7 @@ fn label_count(bytes: &[u8]) -> usize
 }
 
 /// Whether the labels of `other` are the last ones of `bytes`. The labels that are too many are passed over first.
-fn is_at_or_below(bytes: &[u8], other: &[u8]) -> bool
+pub(crate) fn is_at_or_below(bytes: &[u8], other: &[u8]) -> bool
     requires bytes { IsWire bytes.now }
     requires other { IsWire other.now }
     ensures { IsTrue result ↔ IsAtOrBelow (labels_of bytes.now) (labels_of other.now) }
@@ -294,7 +312,7 @@ fn is_at_or_below(bytes: &[u8], other: &[u8]) -> bool
 }
 
 /// Whether the bytes are equal but for the case of ASCII letters. A length byte is none of these.
-fn are_alike(bytes: &[u8], other: &[u8]) -> bool
+pub(crate) fn are_alike(bytes: &[u8], other: &[u8]) -> bool
     ensures { IsTrue result ↔ (map to_ascii_lowercase bytes.now ≡ map to_ascii_lowercase other.now) }
 {
     bytes == other || bytes.eq_ignore_ascii_case(other)

@@ -1,6 +1,6 @@
 //! The entries of a zone's text: directives and records (RFC 1035 5.1; RFC 2308 4).
 
-ghost use Rattle.std.specs.Prelude.{◌≡◌, ◌||◌, nat_lt, IfOk, OnOk};
+ghost use Rattle.std.specs.Prelude.{◌≡◌, ◌||◌, nat_lt, Some, IfOk, OnOk};
 ghost use Rattle.dns_presentation.specs.declared.fault.EntryKind.TheVariants as kind;
 ghost use Rattle.dns_name.specs.Name.{IsName};
 ghost use Rattle.dns_presentation.specs.DataText.{word_name, only_name, only_seconds, data_of};
@@ -71,12 +71,33 @@ impl Context {
                 self.default_ttl = Some(*ttl);
             }
             Entry::Record(one, stated) => {
-                self.owner = Some(one.name.copy()?);
+                become_owner(&mut self.owner, &one.name)?;
                 self.stated_ttl = stated.or(self.stated_ttl);
             }
         }
         Ok(())
     }
+}
+
+/// Makes an owner this name, whatever it was. The room that it has is used again.
+fn become_owner(owner: &mut Option<Name>, name: &Name) -> Result<(), OutOfMemory>
+    ensures { OnOk result (owner.new ≡ Some name.now) }
+{
+    match owner {
+        Some(held) => refill(held, name),
+        None => {
+            *owner = Some(name.copy()?);
+            Ok(())
+        }
+    }
+}
+
+/// Makes a name another one, in the room that it has.
+fn refill(held: &mut Name, name: &Name) -> Result<(), OutOfMemory>
+    ensures { OnOk result (held.new ≡ name.now) }
+{
+    name.labels();
+    held.refill(name.as_wire())
 }
 
 /// What a logical line says behind others, or what is wrong with it first.

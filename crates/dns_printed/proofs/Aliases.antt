@@ -15,7 +15,8 @@ use Rattle.dns_presentation.specs.LogicalLines.{LogicalLine, logical_lines}
 use Rattle.dns_presentation.specs.Entries.{entry_of, first_context}
 use Rattle.dns_zone.specs.declared.zone_text.ZoneTextKind.{ZoneTextKind}
 use Rattle.dns_zone.specs.declared.zone_text.ZoneTextFault.{ZoneTextFault}
-use Rattle.dns_zone.specs.ZoneText.{is_beside_alias, put_in, placed, placed_entry, context_behind, after_line, finished, records_from, zone_of}
+use Rattle.dns_zone_map.specs.Beside.{is_beside_alias}
+use Rattle.dns_zone.specs.ZoneText.{put_in, placed, placed_entry, context_behind, after_line, finished, records_from, zone_of}
 use Rattle.dns_printed.specs.Lone.{is_alias_pair, HasLoneAliases}
 use Rattle.dns_printed.proofs.Placing.{same_turned}
 

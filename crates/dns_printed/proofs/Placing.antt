@@ -8,7 +8,8 @@ use Rattle.dns_wire.specs.declared.record.Record.{Record}
 use Rattle.dns_zone_map.specs.SameData.{data_eq}
 use Rattle.dns_zone_map.specs.Zone.{is_type, is_equal, is_rival, IsEntry}
 use Rattle.dns_zone_map.proofs.Rivals.{is_rival-turned}
-use Rattle.dns_zone.specs.ZoneText.{is_beside_alias, put_in, placed}
+use Rattle.dns_zone_map.specs.Beside.{is_beside_alias}
+use Rattle.dns_zone.specs.ZoneText.{put_in, placed}
 use Rattle.dns_printed.specs.Lone.{is_alias_pair}
 
 -- two records that may stand in one zone

@@ -7,5 +7,4 @@ mod query_name;
 #[cfg(test)]
 mod tests;
 
-pub use query::{Query, read_query};
-pub use query_name::QueryName;
+pub use query::{Query, query_behind, read_query};

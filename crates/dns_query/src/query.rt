@@ -1,13 +1,13 @@
 //! Queries that are looked at and not built.
 
-ghost use Rattle.std.specs.Prelude.{◌≡◌, ◌≤◌, ◌↔◌, length, IsTrue, IfSome, IfNone, OnOk};
+ghost use Rattle.std.specs.Prelude.{◌≡◌, ◌≤◌, ◌↔◌, length, IsTrue, IfSome, IfNone, OnOk, Some};
+ghost use Rattle.dns_wire.specs.Header.{header_of};
 ghost use Rattle.dns_wire.specs.Messages.{MessageAt};
 ghost use Rattle.dns_query.specs.Query.{HasPlainForm, OptAt, BesideAt, IsPlainQuery, message_of};
 
 use crate::numbers::{long, word};
-use crate::query_name::{QueryName, name_end};
-use dns_io::OutOfMemory;
-use dns_wire::{Edns, Header, Question, opcode, record_type};
+use crate::query_name::{name_between, name_end};
+use dns_wire::{Edns, Header, LentQuestion, NameView, opcode, record_type};
 
 /// A query with one question and at most an OPT beside it, whose names hold no pointer. The question's name is a view of
 /// the message's bytes.
@@ -17,7 +17,7 @@ pub struct Query<'a> {
     /// record (RFC 1035 4.1.1).
     pub header: Header,
     /// The name that is asked for.
-    pub name: QueryName<'a>,
+    pub name: NameView<'a>,
     /// The type that is asked for (RFC 1035 3.2.3).
     pub qtype: u16,
     /// The class that is asked for (RFC 1035 3.2.5).
@@ -27,14 +27,15 @@ pub struct Query<'a> {
 }
 
 impl<'a> Query<'a> {
-    /// Makes a question this query's. The room that its name has is used again; where memory runs out its name is the root.
-    pub fn fill(&self, question: &mut Question) -> Result<(), OutOfMemory>
-        ensures ok { OnOk result (question.new ≡ record { name = self.now.name; qtype = self.now.qtype; qclass = self.now.qclass }) }
+    /// The question.
+    pub fn question(&self) -> LentQuestion<'a>
+        ensures { result ≡ record { name = self.now.name; qtype = self.now.qtype; qclass = self.now.qclass } }
     {
-        self.name.fill(&mut question.name)?;
-        question.qtype = self.qtype;
-        question.qclass = self.qclass;
-        Ok(())
+        LentQuestion {
+            name: self.name.again(),
+            qtype: self.qtype,
+            qclass: self.qclass,
+        }
     }
 }
 
@@ -104,9 +105,18 @@ pub fn read_query<'a>(m: &'a [u8]) -> Option<Query<'a>>
     // A query of this form is read.
     ensures none { IfNone result ((query : _) → IsPlainQuery m.now query → ⊥) }
 {
-    let Some(header) = Header::read(m) else {
-        return None;
-    };
+    let header = Header::read(m)?;
+    query_behind(header, m)
+}
+
+/// Reads a query in place as [`read_query`] does, where its header was read.
+pub fn query_behind<'a>(header: Header, m: &'a [u8]) -> Option<Query<'a>>
+    requires { header_of m.now ≡ Some header }
+    ensures message { IfSome result (λ query. MessageAt m.now (message_of query)) }
+    ensures plain { IfSome result (λ query. IsPlainQuery m.now query) }
+    ensures header { IfSome result (λ query. query.header ≡ header) }
+    ensures none { IfNone result ((query : _) → IsPlainQuery m.now query → ⊥) }
+{
     if !has_plain_form(&header) {
         return None;
     }
@@ -121,7 +131,7 @@ pub fn read_query<'a>(m: &'a [u8]) -> Option<Query<'a>>
     };
     Some(Query {
         header,
-        name: QueryName::between(m, 12, end),
+        name: name_between(m, 12, end),
         qtype: word(m, end),
         qclass: word(m, end + 2),
         edns,

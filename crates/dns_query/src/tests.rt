@@ -8,9 +8,10 @@ const QUERY: &[u8] =
     b"\x12\x34\x01\0\0\x01\0\0\0\0\0\x01\x03WWW\x07example\x03com\0\0\x01\0\x01\0\0\x29\x04\xd0\0\0\x80\0\0\x0c\0\x0a\0\x08abcdefgh";
 
 fn query_is(rt: &impl Abort, query: &Query<'_>) {
-    let mut room = [0; 254];
-    let len = query.name.fold_into(&mut room);
-    assert_eq!(rt; &room[..len], b"\x03www\x07example\x03com".as_slice());
+    assert_eq!(rt;
+        query.name.as_wire(),
+        b"\x03WWW\x07example\x03com".as_slice()
+    );
     assert_eq!(rt; query.header.id, 0x1234);
     assert_eq!(rt; query.qtype, 1);
     assert_eq!(rt; query.qclass, 1);

@@ -4,7 +4,6 @@ use Rattle.std.proofs.lemmas.List.{map-append}
 use Rattle.std.proofs.lemmas.Bool.{cond-true}
 use Rattle.std.specs.List.{AllByRecursion}
 use Rattle.dns_io.specs.declared.peer.Peer.{Peer}
-use Rattle.dns_io.specs.declared.peer.Protocol.TheVariants.{Tcp}
 use Rattle.dns_book.specs.declared.ask.Ask.{Ask}
 use Rattle.dns_io.specs.Told.{Takes}
 use Rattle.dns_edges.specs.Listening.{Arrival, IsPiece, Listens, bytes_of, room}
@@ -139,10 +138,3 @@ module _ {S C : Type 0} (source : SourceOf S) (clock : ClockOf C) where
     calm = f ∙ h.calm;
     messages = messages_more peer limit h.began h.arrivals (record { at = at; piece = piece }) h.in_time o w h.messages;
   }
-
--- an ask of the connection stays one
-pub ask_stays : (k l : Ask) (peer : Peer) (at : ℕ) → l ≡ record { bytes = l.bytes; source = peer; protocol = Tcp; at = l.at; client = 0 } → k ≡ record l { at = at; bytes = k.bytes }
-    → k ≡ record { bytes = k.bytes; source = peer; protocol = Tcp; at = k.at; client = 0 }
-ask_stays k l peer at e f =
-    f ∙ ap (λ (x : Ask). record x { at = at; bytes = k.bytes }) e
-    ∙ ap (λ (t : ℕ). record { bytes = k.bytes; source = peer; protocol = Tcp; at = t; client = 0 }) (sym (ap (λ (x : Ask). x.at) f))

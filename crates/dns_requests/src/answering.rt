@@ -1,36 +1,40 @@
 //! Messages of a connection that are settled, and the bytes of their replies.
 
-ghost use Rattle.std.specs.Prelude.{◌≡◌, ◌<◌, ◌^◌, OnOk, OnErr};
-ghost use Rattle.dns_server_core.specs.Connections.{messages_left};
-ghost use Rattle.dns_server_core.specs.FrameRuns.{Adds, Halts, first_asks};
-ghost use Rattle.dns_server_core.specs.Steps.{fed_by};
+ghost use Rattle.std.specs.Prelude.{◌≡◌, ◌<◌, ◌^◌, map, OnOk, OnErr};
+ghost use Rattle.dns_requests.specs.Arrivals.{ask_at};
+ghost use Rattle.dns_server_core.specs.FrameRuns.{Adds, Halts};
+ghost use Rattle.dns_server_core.specs.Steps.{fed_by, messages_in};
 
-use dns_book::{AccessControl, Ask};
-use dns_io::OutOfMemory;
+use dns_book::{AccessControl, LentAsk};
+use dns_io::{OutOfMemory, Protocol};
 use dns_server_core::{RequestHandler, Session};
-use std::alloc::Global;
 
-/// Settles the whole messages at the front of what a connection has unread, no more than it may still have, and tells it so. Each is
-/// handed over as `ask`, whose buffer is used for one after the other. The bytes of their replies, each behind its length, are added to
-/// the others.
+/// Settles the whole messages at the front of what a connection has unread, no more than it may still have, and tells it so. They are
+/// handed over where they stand among the unread bytes, as of this moment (milliseconds, below 2^47). The bytes of their replies, each
+/// behind its length, are added to the others.
 pub fn answer<T: RequestHandler>(
-    alloc: Global,
     handler: &mut T,
     access: &AccessControl,
-    ask: &mut Ask,
+    at: u64,
     session: &mut Session,
     replies: &mut Vec<u8>,
 ) -> Result<(), OutOfMemory>
-    requires { ask.old.at < 2 ^ 47 }
+    requires { at < 2 ^ 47 }
     ensures ok { OnOk result (Adds (T.serves access.now) handler.old
-        (first_asks ask.old (messages_left session.old) session.old.rest) handler.new replies.old.items replies.new.items) }
-    ensures fed { OnOk result (session.new ≡ fed_by session.old ask.old.at session.old.rest) }
+        (map (ask_at session.old.peer at) (messages_in session.old session.old.rest)) handler.new replies.old.items replies.new.items) }
+    ensures fed { OnOk result (session.new ≡ fed_by session.old at session.old.rest) }
     ensures err { OnErr result (Halts (T.serves access.now) T.skips handler.old
-        (first_asks ask.old (messages_left session.old) session.old.rest) handler.new) }
-    ensures ask { ask.new ≡ record ask.old { bytes = ask.new.bytes } }
+        (map (ask_at session.old.peer at) (messages_in session.old session.old.rest)) handler.new) }
 {
     let most = session.most();
-    let answered = handler.handle_frames(alloc, access, ask, session.unread(), most, replies)?;
-    session.settled(ask.at, answered);
+    let stream = LentAsk {
+        bytes: session.unread(),
+        source: session.peer(),
+        protocol: Protocol::Tcp,
+        at,
+        client: 0,
+    };
+    let answered = handler.handle_frames(access, &stream, most, replies)?;
+    session.settled(at, answered);
     Ok(())
 }

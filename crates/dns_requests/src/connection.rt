@@ -8,9 +8,9 @@ ghost use Rattle.dns_requests.specs.Ends.{Ends, CountsWriting};
 
 use crate::answering::answer;
 use crate::serve_fault::ServeFault;
-use dns_book::{AccessControl, Ask};
+use dns_book::AccessControl;
 use dns_edges::{Clock, Sink, Source, write_all};
-use dns_io::{IoFault, Octets, Peer, Protocol};
+use dns_io::{IoFault, Peer};
 use dns_server_core::{Heard, RequestHandler, Session};
 use std::alloc::Global;
 
@@ -49,13 +49,6 @@ pub fn serve_connection<T: RequestHandler, R: Source, W: Sink, C: Clock>(
     let mut session = Session::open(alloc, 0, peer, limit, began);
     let mut room = [0; ROOM];
     let mut replies = Vec::new(alloc);
-    let mut ask = Ask {
-        bytes: Octets::new(alloc),
-        source: peer,
-        protocol: Protocol::Tcp,
-        at: began,
-        client: 0,
-    };
     for _turn in 0..reads {
         let count = receive(source, &mut room)?;
         if count == 0 {
@@ -68,8 +61,7 @@ pub fn serve_connection<T: RequestHandler, R: Source, W: Sink, C: Clock>(
             Heard::Late { since } => return Err(ServeFault::TimedOut { since, limit, at }),
             Heard::InTime => {}
         }
-        ask.at = at;
-        answer(alloc, handler, access, &mut ask, &mut session, &mut replies)?;
+        answer(handler, access, at, &mut session, &mut replies)?;
         send(sink, &mut replies)?;
         if session.is_over() {
             return Ok(session.taken());

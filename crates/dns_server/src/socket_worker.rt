@@ -5,26 +5,18 @@ ghost use Rattle.dns_io.specs.Told.{Grows, Keeps};
 ghost use Rattle.dns_edges.specs.Edges.{HasCause};
 ghost use Rattle.dns_server.specs.Sockets.{Ended, Handles, WorksSocket, answer_to, ask_for, found_memory};
 
-use dns_book::{AccessControl, Ask};
-use dns_io::{IoFault, Octets, OutOfMemory, Peer, Protocol};
+use dns_book::{AccessControl, LentAsk};
+use dns_io::{IoFault, OutOfMemory, Peer, Protocol};
 use dns_ports::{Arrived, UdpPort};
 use dns_server_core::RequestHandler;
 use std::alloc::Global;
-use std::mem;
 use std::sync::Wait;
 
 /// The most bytes that a datagram has (RFC 768).
 const ROOM: usize = 65_535;
 
-/// What a worker uses for one datagram after the other.
-#[derive(Drop)]
-struct Buffers {
-    message: Octets,
-    reply: Vec<u8>,
-}
-
-/// Receives datagrams until the socket gives no more, has each settled, and answers its sender. Messages and replies go into the same two
-/// buffers, one after the other.
+/// Receives datagrams until the socket gives no more, has each settled where it lies, and answers its sender. Messages and replies go into
+/// the same two buffers, one after the other.
 ///
 /// A receiving that fails or finds no memory ends it. A reply that the socket refuses is lost, and a message for which no memory is
 /// found gets none; it goes on behind both, and where memory was wanting it answers `OutOfMemory` at the end.
@@ -41,24 +33,13 @@ pub fn serve_socket<H: RequestHandler, U: UdpPort, R: Wait>(
     let Ok(mut room) = room_in(alloc) else {
         return Err(IoFault::OutOfMemory);
     };
-    let mut buffers = Buffers {
-        message: Octets::new(alloc),
-        reply: Vec::new(alloc),
-    };
+    let mut reply = Vec::new(alloc);
     let mut is_short = false;
     for _ in rt.forever() {
         match socket.receive(room.as_mut_slice()) {
             Ok(Some(arrived)) => {
                 let (bytes, _) = room.split_at(arrived.len);
-                let outcome = handle(
-                    alloc,
-                    handler,
-                    access,
-                    socket,
-                    &mut buffers,
-                    bytes,
-                    &arrived,
-                );
+                let outcome = handle(handler, access, socket, bytes, &arrived, &mut reply);
                 is_short = is_short_then(is_short, found_memory(outcome));
             }
             Ok(None) => return ended(is_short),
@@ -107,44 +88,33 @@ fn found_memory(outcome: Result<(), IoFault>) -> bool
 
 /// Has a datagram with these bytes settled, and its sender answered. It fails where the socket refuses the reply.
 fn handle<H: RequestHandler, U: UdpPort>(
-    alloc: Global,
     handler: &mut H,
     access: &AccessControl,
     socket: &mut U,
-    buffers: &mut Buffers,
     bytes: &[u8],
     arrived: &Arrived,
+    reply: &mut Vec<u8>,
 ) -> Result<(), IoFault>
     requires moment { arrived.now.at < 2 ^ 47 }
     requires bytes { length bytes.now ≤ 65535 }
     ensures { Handles (H.serves access.now) H.skips U.told (record { handler = handler.old; port = socket.old })
         (record { handler = handler.new; port = socket.new }) (ask_for (bytes.now, arrived.now.from, arrived.now.at)) result }
 {
-    let ask = ask_in(alloc, &mut buffers.message, bytes, arrived)?;
-    let outcome = settle(handler, access, socket, &ask, &mut buffers.reply);
-    buffers.message = ask.bytes;
-    outcome
+    let ask = ask_for(bytes, arrived);
+    settle(handler, access, socket, &ask, reply)
 }
 
-/// The message that a datagram brings, in the buffer, which is empty then.
-fn ask_in(
-    alloc: Global,
-    buffer: &mut Octets,
-    bytes: &[u8],
-    arrived: &Arrived,
-) -> Result<Ask, OutOfMemory>
-    ensures { IfOk result (λ ask. ask ≡ ask_for (bytes.now, arrived.now.from, arrived.now.at)) }
+/// The message that a datagram brings.
+fn ask_for<'a>(bytes: &'a [u8], arrived: &Arrived) -> LentAsk<'a>
+    ensures { result ≡ ask_for (bytes.now, arrived.now.from, arrived.now.at) }
 {
-    let mut message = mem::replace(buffer, Octets::new(alloc)).into_vec();
-    message.clear();
-    message.extend_from_slice(bytes)?;
-    Ok(Ask {
-        bytes: Octets::from_vec(message),
+    LentAsk {
+        bytes,
         source: arrived.from,
         protocol: Protocol::Udp,
         at: arrived.at,
         client: 0,
-    })
+    }
 }
 
 /// Has a message settled, and its sender answered, by a buffer whatever it has. It fails where the socket refuses the reply.
@@ -152,7 +122,7 @@ fn settle<H: RequestHandler, U: UdpPort>(
     handler: &mut H,
     access: &AccessControl,
     socket: &mut U,
-    ask: &Ask,
+    ask: &LentAsk<'_>,
     reply: &mut Vec<u8>,
 ) -> Result<(), IoFault>
     requires moment { ask.now.at < 2 ^ 47 }
@@ -162,7 +132,14 @@ fn settle<H: RequestHandler, U: UdpPort>(
 {
     reply.clear();
     let into = handler.handle_into(access, ask, reply, false)?;
-    answer(socket, ask.source, into.is_owed, reply.as_slice())
+    answer(socket, source_of(ask), into.is_owed, reply.as_slice())
+}
+
+/// Who sent a message.
+fn source_of(ask: &LentAsk<'_>) -> Peer
+    ensures { result ≡ ask.now.source }
+{
+    ask.source
 }
 
 /// Hands a reply, where one is owed, to the socket.

@@ -135,7 +135,3 @@ Halts-map serves skips others other_skips f one other step skip ms a b h =
 pub on_err : {T E : Type 0} (r : Result T E) {P : Type 0} → P → OnErr r P
 on_err (Ok x) p = tt
 on_err (Err e) p = p
-
--- the same ask with other bytes
-pub with_bytes : (a b : Ask) (m n : List ℕ) → b ≡ record a { bytes = b.bytes } → m ≡ n → record b { bytes = m } ≡ record a { bytes = n }
-with_bytes a b m n e f = ap (λ (x : Ask). record x { bytes = m }) e ∙ ap (λ (l : List ℕ). record a { bytes = l }) f

@@ -4,12 +4,10 @@ ghost use Rattle.std.specs.Prelude.{◌≡◌, ◌+◌, ◌-◌, ◌*◌, ◌<�
 ghost use Rattle.dns_book.specs.Into.{SettlesInto};
 ghost use Rattle.dns_server_core.specs.FrameRuns.{Adds, Halts, behind_first, first_asks, first_messages};
 
-use dns_book::{AccessControl, Ask, Book, Settled, SettledInto};
+use dns_book::{AccessControl, Ask, Book, LentAsk, Settled, SettledInto};
 use dns_frames::first_frame;
-use dns_io::{Octets, OutOfMemory};
+use dns_io::OutOfMemory;
 use dns_keeper::Keeper;
-use std::alloc::Global;
-use std::mem;
 
 /// How many messages were settled, and how many bytes stand behind them.
 #[derive(Clone, Copy)]
@@ -45,7 +43,7 @@ pub trait RequestHandler {
     fn handle_into(
         &mut self,
         access: &AccessControl,
-        ask: &Ask,
+        ask: &LentAsk<'_>,
         out: &mut Vec<u8>,
         is_framed: bool,
     ) -> Result<SettledInto, OutOfMemory>
@@ -56,32 +54,30 @@ pub trait RequestHandler {
         ensures err { OnErr result (skips self.old self.new) };
 
     /// Settles, in order, the whole messages at the front of what came over a connection, at most so many, each behind its length (RFC 1035
-    /// 4.2.2), and adds the replies that they are owed to what a buffer has, each behind its length. Each is handed over as `ask`, whose
-    /// buffer is used for one after the other. Where memory runs out, the first of them were settled, and part of the replies may have been
-    /// added.
+    /// 4.2.2), and adds the replies that they are owed to what a buffer has, each behind its length. `stream` has all the bytes that came,
+    /// and each message is handed over as the part of them that it is. Where memory runs out, the first of them were settled, and part of
+    /// the replies may have been added.
     fn handle_frames(
         &mut self,
-        alloc: Global,
         access: &AccessControl,
-        ask: &mut Ask,
-        bytes: &[u8],
+        stream: &LentAsk<'_>,
         most: u64,
         replies: &mut Vec<u8>,
     ) -> Result<Answered, OutOfMemory>
-        requires { ask.old.at < 2 ^ 47 }
+        requires { stream.now.at < 2 ^ 47 }
         ensures ok { OnOk result (Adds (serves access.now) self.old
-            (first_asks ask.old most bytes.now) self.new replies.old.items replies.new.items) }
-        ensures count { IfOk result (λ a. a.messages ≡ length (first_messages most bytes.now)) }
-        ensures rest { IfOk result (λ a. a.rest ≡ length (behind_first most bytes.now)) }
-        ensures shorter { IfOk result (λ a. 2 * a.messages + a.rest ≤ length bytes.now) }
-        ensures err { OnErr result (Halts (serves access.now) skips self.old (first_asks ask.old most bytes.now) self.new) }
-        ensures ask { ask.new ≡ record ask.old { bytes = ask.new.bytes } }
+            (first_asks stream.now most stream.now.bytes) self.new replies.old.items replies.new.items) }
+        ensures count { IfOk result (λ a. a.messages ≡ length (first_messages most stream.now.bytes)) }
+        ensures rest { IfOk result (λ a. a.rest ≡ length (behind_first most stream.now.bytes)) }
+        ensures shorter { IfOk result (λ a. 2 * a.messages + a.rest ≤ length stream.now.bytes) }
+        ensures err { OnErr result (Halts (serves access.now) skips self.old
+            (first_asks stream.now most stream.now.bytes) self.new) }
     {
-        let mut left = bytes;
+        let mut left = bytes_of(stream);
         let mut messages = 0;
         while let Some((message, after)) = next_frame(left, most - messages) {
-            refill(alloc, &mut ask.bytes, message)?;
-            let _settled = self.handle_into(access, &*ask, replies, true)?;
+            let ask = message_in(stream, message);
+            let _settled = self.handle_into(access, &ask, replies, true)?;
             left = after;
             messages += 1;
         }
@@ -111,15 +107,24 @@ pub fn next_frame(bytes: &[u8], most: u64) -> Option<(&[u8], &[u8])>
     }
 }
 
-/// Puts these bytes in place of others, into the same buffer. Where memory runs out, the buffer has nothing of use.
-pub fn refill(alloc: Global, bytes: &mut Octets, message: &[u8]) -> Result<(), OutOfMemory>
-    ensures { OnOk result (bytes.new ≡ message.now) }
+/// The bytes that are lent.
+pub fn bytes_of<'a>(ask: &LentAsk<'a>) -> &'a [u8]
+    ensures { result.now ≡ ask.now.bytes }
 {
-    let mut buffer = mem::replace(bytes, Octets::new(alloc)).into_vec();
-    buffer.clear();
-    buffer.extend_from_slice(message)?;
-    *bytes = Octets::from_vec(buffer);
-    Ok(())
+    ask.bytes
+}
+
+/// A message that came as these bytes did: from the same source, by the same protocol, at the same moment, and for the same client.
+pub fn message_in<'a>(stream: &LentAsk<'_>, message: &'a [u8]) -> LentAsk<'a>
+    ensures { result ≡ record stream.now { bytes = message.now } }
+{
+    LentAsk {
+        bytes: message,
+        source: stream.source,
+        protocol: stream.protocol,
+        at: stream.at,
+        client: stream.client,
+    }
 }
 
 /// A book settles each message by `Book::settle`, on the zone that its rows stand for (RFC 2136 3). Where it finds no memory,
@@ -142,7 +147,7 @@ impl<K: Keeper> RequestHandler for Book<K> {
     fn handle_into(
         &mut self,
         access: &AccessControl,
-        ask: &Ask,
+        ask: &LentAsk<'_>,
         out: &mut Vec<u8>,
         is_framed: bool,
     ) -> Result<SettledInto, OutOfMemory> {

@@ -14,11 +14,11 @@ mod valid;
 
 pub use connection::{end, is_safe, place_of};
 pub use dns_book::{
-    AccessControl, Ask, Book, IpNet, OpenFault, OpenKind, Receipt, ReplyBytes, Settled,
+    AccessControl, Ask, Book, IpNet, LentAsk, OpenFault, OpenKind, Receipt, ReplyBytes, Settled,
     SettledInto, UnsafeSource, sanitize_src_address,
 };
 pub use event::{Event, Out, Receiver};
 pub use fault::RunFault;
-pub use handler::{Answered, RequestHandler, next_frame, refill};
+pub use handler::{Answered, RequestHandler, bytes_of, message_in, next_frame};
 pub use server::Server;
 pub use session::{Heard, MOST_MESSAGES, Session};

@@ -12,7 +12,7 @@ ghost use Rattle.dns_server_core.specs.declared.event.Event.TheVariants as event
 use crate::event::{Out, Receiver};
 use crate::handler::{Answered, RequestHandler, next_frame};
 use crate::session::{Heard, Session};
-use dns_book::{AccessControl, Ask};
+use dns_book::{AccessControl, LentAsk};
 use dns_io::{Octets, OutOfMemory, Peer, Protocol};
 use std::alloc::Global;
 use std::marker::Model;
@@ -93,11 +93,11 @@ impl<H> Responder<H> {
 
 impl<H: RequestHandler> Responder<H> {
     /// Settles one message, once there is room for its reply among the others, and counts it. The reply is written as it goes out.
-    fn settle_message(&mut self, to: Receiver, ask: Ask) -> Result<(), OutOfMemory>
-        requires moment { ask.at < 2 ^ 47 }
-        requires bytes { length ask.bytes ≤ 65535 }
-        ensures ok { OnOk result (Hands H.serves self.old (record { to = to; ask = ask } ∷ []) self.new) }
-        ensures err { OnErr result (Breaks H.serves H.skips self.old (record { to = to; ask = ask } ∷ []) self.new) }
+    fn settle_message(&mut self, to: Receiver, ask: &LentAsk<'_>) -> Result<(), OutOfMemory>
+        requires moment { ask.now.at < 2 ^ 47 }
+        requires bytes { length ask.now.bytes ≤ 65535 }
+        ensures ok { OnOk result (Hands H.serves self.old (record { to = to; ask = ask.now } ∷ []) self.new) }
+        ensures err { OnErr result (Breaks H.serves H.skips self.old (record { to = to; ask = ask.now } ∷ []) self.new) }
     {
         if self.settled == u64::MAX {
             return Err(OutOfMemory);
@@ -107,7 +107,7 @@ impl<H: RequestHandler> Responder<H> {
         let is_framed = is_connection(to);
         let settled = self
             .handler
-            .handle_into(&self.access, &ask, &mut bytes, is_framed)?;
+            .handle_into(&self.access, ask, &mut bytes, is_framed)?;
         self.settled += 1;
         send(to, settled.is_owed, Octets::from_vec(bytes), &mut self.out);
         Ok(())
@@ -125,23 +125,18 @@ impl<H: RequestHandler> Responder<H> {
         ensures ran { OnOk result (Hands H.serves self.old (datagram_by (event.Datagram at peer bytes.now)) self.new) }
         ensures err { OnErr result (Breaks H.serves H.skips self.old (datagram_by (event.Datagram at peer bytes.now)) self.new) }
     {
-        let ask = Ask {
-            bytes: bytes.copy()?,
+        let ask = LentAsk {
+            bytes: bytes.as_slice(),
             source: peer,
             protocol: Protocol::Udp,
             at,
             client: 0,
         };
-        self.settle_message(Receiver::Peer(peer), ask)
+        self.settle_message(Receiver::Peer(peer), &ask)
     }
 
     /// Settles the whole messages that a connection has unread, no more than it may still have.
-    fn settle_unread(
-        &mut self,
-        alloc: Global,
-        connection: &Session,
-        at: u64,
-    ) -> Result<Answered, OutOfMemory>
+    fn settle_unread(&mut self, connection: &Session, at: u64) -> Result<Answered, OutOfMemory>
         requires { at < 2 ^ 47 }
         ensures ok { OnOk result (Hands H.serves self.old (unread_messages at connection.now) self.new) }
         ensures count { IfOk result (λ a. a.messages ≡ length (messages_in connection.now connection.now.rest)) }
@@ -152,14 +147,14 @@ impl<H: RequestHandler> Responder<H> {
         let mut messages = 0;
         while let Some((message, after)) = next_frame(left, connection.most() - messages) {
             let to = Receiver::Conn(connection.number());
-            let ask = Ask {
-                bytes: Octets::from_slice(alloc, message)?,
+            let ask = LentAsk {
+                bytes: message,
                 source: connection.peer(),
                 protocol: Protocol::Tcp,
                 at,
                 client: 0,
             };
-            self.settle_message(to, ask)?;
+            self.settle_message(to, &ask)?;
             left = after;
             messages += 1;
         }
@@ -173,7 +168,6 @@ impl<H: RequestHandler> Responder<H> {
     /// whether the connection stays open.
     pub(crate) fn receive_piece(
         &mut self,
-        alloc: Global,
         connection: &mut Session,
         at: u64,
         piece: &[u8],
@@ -187,7 +181,7 @@ impl<H: RequestHandler> Responder<H> {
         match heard {
             Heard::Late { since: _since } => Ok(false),
             Heard::InTime => {
-                let answered = self.settle_unread(alloc, &*connection, at)?;
+                let answered = self.settle_unread(&*connection, at)?;
                 connection.settled(at, answered);
                 Ok(!connection.is_over())
             }

@@ -171,7 +171,7 @@ fn apply<H: RequestHandler>(
             limit,
         } => accept(alloc, connections, *at, *conn, *peer, *limit),
         Event::Bytes { at, conn, piece } => {
-            receive_bytes(alloc, responder, connections, *at, *conn, piece)
+            receive_bytes(responder, connections, *at, *conn, piece)
         }
         Event::Ended { at, conn } => {
             end(connections, *at, *conn);
@@ -186,7 +186,6 @@ fn apply<H: RequestHandler>(
 /// Receives a piece of the bytes of the connection of a number; one that came too late closes it, and one that brings the last message
 /// that it may have.
 fn receive_bytes<H: RequestHandler>(
-    alloc: Global,
     responder: &mut Responder<H>,
     connections: &mut Vec<Session>,
     at: u64,
@@ -202,7 +201,7 @@ fn receive_bytes<H: RequestHandler>(
         (Breaks H.serves H.skips responder.old (completed_now (event.Bytes at number piece.now) connections.old.items) responder.new) }
 {
     if let Some(i) = place_of(connections, number) {
-        let stays = responder.receive_piece(alloc, &mut connections[i], at, piece.as_slice())?;
+        let stays = responder.receive_piece(&mut connections[i], at, piece.as_slice())?;
         if !stays {
             connections.remove(i);
         }

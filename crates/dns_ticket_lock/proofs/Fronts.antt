@@ -62,9 +62,6 @@ no_rows_then number count (Some x) (Some y) (Some z) p q = record {
 pub if_ok : {T E : Type 0} (r : Result T E) (x : T) (P : T → Type 0) → r ≡ Ok x → IfOk r P → P x
 if_ok r x P e i = subst (λ (q : Result _ _). IfOk q P) e i
 
-pub on_ok : {T E : Type 0} (r : Result T E) (x : T) (P : Type 0) → r ≡ Ok x → OnOk r P → P
-on_ok r x P e i = subst (λ (q : Result _ _). OnOk q P) e i
-
 pub on_err : {T E : Type 0} (r : Result T E) (x : E) (P : Type 0) → r ≡ Err x → OnErr r P → P
 on_err r x P e i = subst (λ (q : Result _ _). OnErr q P) e i
 

@@ -12,7 +12,7 @@ ghost use Rattle.dns_ticket_lock.specs.Naming.{Advances};
 ghost use Rattle.dns_ticket_lock.specs.Settling.{Names, receipt_in};
 
 use crate::steps::Carried;
-use dns_book::{AccessControl, Ask, Book, Receipt, SettledInto};
+use dns_book::{AccessControl, Book, LentAsk, Receipt, SettledInto};
 use dns_io::OutOfMemory;
 use dns_keeper::Keeper;
 use std::alloc::{AllocFailed, Global};
@@ -147,7 +147,7 @@ pub(crate) fn member_after(member: Member, rise: u64, mark: bool) -> Member
 pub(crate) fn settle_book<K: Keeper>(
     book: &mut Book<K>,
     access: &AccessControl,
-    ask: &Ask,
+    ask: &LentAsk<'_>,
     out: &mut Vec<u8>,
     is_framed: bool,
 ) -> (Result<SettledInto, OutOfMemory>, Told)
@@ -182,7 +182,7 @@ pub(crate) fn settle_held<K: Keeper>(
     held: &mut Held<K>,
     low: usize,
     access: &AccessControl,
-    ask: &Ask,
+    ask: &LentAsk<'_>,
     out: &mut Vec<u8>,
     is_framed: bool,
 ) -> (Result<SettledInto, OutOfMemory>, Told)

@@ -34,7 +34,6 @@ pub struct Pass {
     pub(crate) badge: Badge<View>,
     pub(crate) number: u32,
     pub(crate) seen: u64,
-    pub(crate) bytes: Vec<u8>,
     pub(crate) alloc: Global,
 }
 

@@ -4,11 +4,10 @@ ghost use Rattle.std.specs.Prelude.{◌≡◌, ◌<◌, ◌≤◌, ◌^◌, leng
 ghost use Rattle.dns_ticket_lock.specs.Passes.{IsPass};
 
 use crate::pass::{Pass, TicketBook};
-use dns_book::{AccessControl, Ask, Settled, SettledInto};
+use dns_book::{AccessControl, Ask, LentAsk, Settled, SettledInto};
 use dns_io::OutOfMemory;
 use dns_keeper::Keeper;
 use dns_server_core::{Answered, RequestHandler};
-use std::alloc::Global;
 use std::marker::Model;
 use std::sync::Wait;
 
@@ -72,7 +71,7 @@ impl<'a, K: Keeper, R: Wait> RequestHandler for Seated<'a, K, R> {
     fn handle_into(
         &mut self,
         access: &AccessControl,
-        ask: &Ask,
+        ask: &LentAsk<'_>,
         out: &mut Vec<u8>,
         is_framed: bool,
     ) -> Result<SettledInto, OutOfMemory> {
@@ -82,22 +81,12 @@ impl<'a, K: Keeper, R: Wait> RequestHandler for Seated<'a, K, R> {
 
     fn handle_frames(
         &mut self,
-        alloc: Global,
         access: &AccessControl,
-        ask: &mut Ask,
-        bytes: &[u8],
+        stream: &LentAsk<'_>,
         most: u64,
         replies: &mut Vec<u8>,
     ) -> Result<Answered, OutOfMemory> {
-        self.book.settle_frames(
-            self.rt,
-            &mut self.pass,
-            alloc,
-            access,
-            ask,
-            bytes,
-            most,
-            replies,
-        )
+        self.book
+            .settle_frames(self.rt, &mut self.pass, access, stream, most, replies)
     }
 }

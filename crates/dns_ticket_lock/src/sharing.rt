@@ -27,7 +27,6 @@ fn pass_of<T: Carried>(alloc: Global, seat: Seat<Option<T>, View>, number: u32, 
         badge: seat.into_badge(),
         number,
         seen,
-        bytes: Vec::new(alloc),
         alloc,
     }
 }

@@ -1,6 +1,6 @@
 //! A turn of a pass: it draws a ticket, takes the book when its turn comes, settles one message, and gives the book back.
 
-ghost use Rattle.std.specs.Prelude.{◌≡◌, ℕ, ◌+◌, ◌<◌, ◌≤◌, ◌^◌, true, length, [], ◌∷◌, ◌++◌, Some, None, IfOk, OnOk, OnErr};
+ghost use Rattle.std.specs.Prelude.{◌≡◌, ℕ, ◌+◌, ◌<◌, ◌≤◌, ◌^◌, true, length, [], ◌∷◌, ◌++◌, Some, None, IfOk, OnErr};
 ghost use Rattle.dns_book.specs.Into.{SettlesInto};
 ghost use Rattle.dns_ticket_lock.specs.Rule.{Takes, IsDone, waits, has, has_counted, rests, own};
 ghost use Rattle.dns_ticket_lock.specs.Settling.{SettledAs, LeftAs, asked_by};
@@ -13,8 +13,8 @@ use crate::pass::{Pass, TicketBook};
 use crate::steps::{Board, Carried, draw, give, leave, take, wait_for_turn};
 use crate::view::View;
 use atomic_table::{Badge, Seat};
-use dns_book::{AccessControl, Ask, Settled, SettledInto};
-use dns_io::{Octets, OutOfMemory};
+use dns_book::{AccessControl, Ask, LentAsk, Settled, SettledInto};
+use dns_io::OutOfMemory;
 use dns_keeper::Keeper;
 use std::mem;
 use std::sync::Wait;
@@ -64,7 +64,7 @@ fn settle_seat<K: Keeper, R: Wait>(
     board: &Board<Box<Held<K>>>,
     seat: &mut Seat<Option<Box<Held<K>>>, View>,
     access: &AccessControl,
-    ask: &Ask,
+    ask: &LentAsk<'_>,
     out: &mut Vec<u8>,
     is_framed: bool,
 ) -> (Result<SettledInto, OutOfMemory>, u64)
@@ -81,7 +81,7 @@ fn settle_seat<K: Keeper, R: Wait>(
         (own seat.old.me.0.accounts) ask.now settled (own seat.new.me.0.accounts)) is_framed out.old.items out.new.items) }
     ensures err { OnErr result.0 (LeftAs (own seat.old.me.0.accounts) (own seat.new.me.0.accounts)) }
 {
-    let low = ask.client as usize - 1;
+    let low = client_of(ask) as usize - 1;
     let mut held = begin_turn(rt, board, seat);
     let (answer, told) = settle_held(held.as_mut(), low, access, ask, out, is_framed);
     let rows = held.book.journal_len();
@@ -89,22 +89,19 @@ fn settle_seat<K: Keeper, R: Wait>(
     (answer, rows)
 }
 
-/// Copies a message into a buffer. Where memory runs out, the buffer has nothing of use.
-fn copy_into(buffer: &mut Vec<u8>, message: &Octets) -> Result<(), OutOfMemory>
-    ensures { OnOk result (buffer.new.items ≡ message.now) }
+/// The client of a message.
+pub(crate) fn client_of(ask: &LentAsk<'_>) -> u32
+    ensures { result ≡ ask.now.client }
 {
-    buffer.clear();
-    buffer.extend_from_slice(message.as_slice())?;
-    Ok(())
+    ask.client
 }
 
-/// The message, in this copy of its bytes, with another client.
-fn asked_as(copy: Vec<u8>, ask: &Ask, client: u32) -> Ask
-    requires { copy.items ≡ ask.now.bytes }
+/// The message, whose bytes are lent once more, with another client.
+pub(crate) fn asked_as<'a>(ask: &LentAsk<'a>, client: u32) -> LentAsk<'a>
     ensures { result ≡ asked_by client ask.now }
 {
-    Ask {
-        bytes: Octets::from_vec(copy),
+    LentAsk {
+        bytes: ask.bytes,
         source: ask.source,
         protocol: ask.protocol,
         at: ask.at,
@@ -133,7 +130,7 @@ impl<K: Keeper> TicketBook<K> {
         ensures err { OnErr result (LeftBy pass.old pass.new) }
     {
         let mut frame = Vec::new(pass.alloc);
-        let into = self.settle_into(rt, pass, access, ask, &mut frame, true)?;
+        let into = self.settle_into(rt, pass, access, &ask.lent(), &mut frame, true)?;
         Ok(Settled::from_frame(into, frame))
     }
 
@@ -145,7 +142,7 @@ impl<K: Keeper> TicketBook<K> {
         rt: &R,
         pass: &mut Pass,
         access: &AccessControl,
-        ask: &Ask,
+        ask: &LentAsk<'_>,
         out: &mut Vec<u8>,
         is_framed: bool,
     ) -> Result<SettledInto, OutOfMemory>
@@ -156,9 +153,7 @@ impl<K: Keeper> TicketBook<K> {
             (λ settled. SettledBy K.keeper access.now pass.old ask.now settled pass.new) is_framed out.old.items out.new.items) }
         ensures err { OnErr result (LeftBy pass.old pass.new) }
     {
-        copy_into(&mut pass.bytes, &ask.bytes)?;
-        let copy = mem::replace(&mut pass.bytes, Vec::new(pass.alloc));
-        let asked = asked_as(copy, ask, pass.number);
+        let asked = asked_as(ask, pass.number);
         let badge = mem::replace(&mut pass.badge, Badge::blank());
         let mut seat: Seat<Option<Box<Held<K>>>, View> = badge.into_seat();
         let (answer, rows) = settle_seat(
@@ -172,8 +167,6 @@ impl<K: Keeper> TicketBook<K> {
         );
         pass.badge = seat.into_badge();
         pass.seen = rows;
-        let Ask { bytes, .. } = asked;
-        pass.bytes = bytes.into_vec();
         answer
     }
 }

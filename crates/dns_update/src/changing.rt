@@ -162,7 +162,7 @@ fn takes_any_set(map: &ZoneMap, name: &Name) -> bool
 {
     let keeps = name.same(map.origin());
     let mut room = [0u8; 255];
-    let key = ZoneKey::new(map.origin(), name, &mut room);
+    let key = ZoneKey::new(map.origin(), name.view(), &mut room);
     match map.sets(&key, 0) {
         Some(sets) => has_free_set(sets.as_slice(), keeps),
         None => false,

@@ -26,7 +26,7 @@ pub(crate) fn is_in_use(map: &ZoneMap, name: &Name) -> bool
     ensures { result ≡ is_in_use map.now.records name.now }
 {
     let mut room = [0u8; 255];
-    let key = ZoneKey::new(map.origin(), name, &mut room);
+    let key = ZoneKey::new(map.origin(), name.view(), &mut room);
     map.sets(&key, 0).is_some()
 }
 
@@ -43,7 +43,7 @@ pub(crate) fn owns_other(map: &ZoneMap, name: &Name) -> bool
     ensures { result ≡ list_any (bears_other name.now) map.now.records }
 {
     let mut room = [0u8; 255];
-    let key = ZoneKey::new(map.origin(), name, &mut room);
+    let key = ZoneKey::new(map.origin(), name.view(), &mut room);
     match map.sets(&key, 0) {
         Some(sets) => has_other(sets.as_slice()),
         None => false,

@@ -1,14 +1,14 @@
 //! What the program says of itself.
 
 /// The answer to `--version`.
-pub const VERSION: &str = "dns_nsupdate 0.1.0\n";
+pub const VERSION: &str = "dns-nsupdate 0.1.0\n";
 
 /// The answer to `--help`.
 pub const HELP: &str = "\
-dns_nsupdate: sends the updates of a script to a DNS server (RFC 2136)
+dns-nsupdate: sends the updates of a script to a DNS server (RFC 2136)
 
-usage: dns_nsupdate --server=IP:PORT --id=N
-       dns_nsupdate --help | --version
+usage: dns-nsupdate --server=IP:PORT --id=N
+       dns-nsupdate --help | --version
 
 The script is read from standard input, to its end. Then a connection is made to the server, by TCP, and a new one behind each hundred
 messages; each message of the script is sent in turn, and the next one only when the reply has come. At the end a line ID CODE is
@@ -46,5 +46,5 @@ Exit status, and the one line that is written in place of the output:
   23  not reply             what came is no reply to an update
   24  proto                 a message has more than 65535 bytes, or what came is no message
 
-example: printf 'zone example.com.\\nadd new.example.com. 60 A 192.0.2.55\\nsend\\n' | dns_nsupdate --server=127.0.0.1:5300 --id=1
+example: printf 'zone example.com.\\nadd new.example.com. 60 A 192.0.2.55\\nsend\\n' | dns-nsupdate --server=127.0.0.1:5300 --id=1
 ";

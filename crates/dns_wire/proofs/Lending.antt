@@ -26,6 +26,11 @@ kinds_given owner is_negative (r ∷ rs) =
     ap (λ (one : List (ℕ × ℕ)). one ++ kinds (map (given_as owner is_negative) rs)) (same_kind owner is_negative r)
     ∙ ap (λ (more : List (ℕ × ℕ)). kinds (r ∷ []) ++ more) (kinds_given owner is_negative rs)
 
+-- records that are given no owner stay as they are
+pub given_none : (rs : List Record) → map (given None) rs ≡ rs
+given_none [] = refl
+given_none (r ∷ rs) = ap (λ (more : List Record). r ∷ more) (given_none rs)
+
 -- a name takes as many bytes in small letters
 pub size_folded : (name : List (List ℕ)) → length (name_bytes (fold_of name)) ≡ length (name_bytes name)
 size_folded name = omega (arith, length-append (labels_bytes (fold_of name)) (0 ∷ []), length-append (labels_bytes name) (0 ∷ []), length-fold_of name)

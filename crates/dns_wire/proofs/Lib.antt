@@ -10,6 +10,7 @@ pub mod Fitting
 pub mod Lending
 pub mod LentWritten
 pub mod Putting
+pub mod Recoded
 pub mod Replies
 pub mod OneQuestion
 pub mod ItemsDetermined

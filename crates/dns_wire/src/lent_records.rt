@@ -12,7 +12,7 @@ use crate::record::Record;
 use crate::writing::{name_len, put_rest};
 use crate::writing_data::data_len;
 use dns_io::OutOfMemory;
-use dns_name::Name;
+use dns_name::NameView;
 use std::alloc::Global;
 use std::marker::Model;
 
@@ -21,7 +21,7 @@ use std::marker::Model;
 #[derive(Drop)]
 pub struct LentRecords<'a> {
     records: &'a [Record],
-    owner: Option<&'a Name>,
+    owner: Option<NameView<'a>>,
     is_negative: bool,
 }
 
@@ -33,7 +33,7 @@ impl<'a> Model for LentRecords<'a> {
 
     ghost Value = { List Record };
 
-    ghost view = { λ l. map (given_as (option_map (λ n. fold_of n.now) l.owner) l.is_negative) l.records.now };
+    ghost view = { λ l. map (given_as (option_map fold_of l.owner) l.is_negative) l.records.now };
 }
 
 /// How many records fit into a room, how many bytes of it are left then, and whether a record was left out.
@@ -46,8 +46,8 @@ pub(crate) struct Fitting {
 
 impl<'a> LentRecords<'a> {
     /// Records with their own owner, or another in small letters.
-    pub fn new(records: &'a [Record], owner: Option<&'a Name>) -> LentRecords<'a>
-        ensures { result ≡ map (given (option_map (λ n. fold_of n.now) owner.entry)) records.now }
+    pub fn new(records: &'a [Record], owner: Option<NameView<'a>>) -> LentRecords<'a>
+        ensures { result ≡ map (given (option_map fold_of owner.entry)) records.now }
     {
         LentRecords {
             records,
@@ -84,7 +84,7 @@ impl<'a> LentRecords<'a> {
     {
         LentRecords {
             records: self.records,
-            owner: self.owner,
+            owner: again(&self.owner),
             is_negative: self.is_negative,
         }
     }
@@ -107,7 +107,7 @@ impl<'a> LentRecords<'a> {
     pub fn copy_to(&self, alloc: Global, out: &mut Vec<Record>) -> Result<(), OutOfMemory>
         ensures { OnOk result (out.new.items ≡ out.old.items ++ self.now) }
     {
-        copy_each(alloc, self.records, self.owner, self.is_negative, out)
+        copy_each(alloc, self.records, &self.owner, self.is_negative, out)
     }
 
     /// How many of the records, from the first on, go into `room` bytes.
@@ -125,7 +125,7 @@ impl<'a> LentRecords<'a> {
                 is_cut: false,
             };
         }
-        fitting_given(self.records, self.owner, self.is_negative, room)
+        fitting_given(self.records, &self.owner, self.is_negative, room)
     }
 
     /// Writes the first `count` of the records.
@@ -137,7 +137,17 @@ impl<'a> LentRecords<'a> {
             return Ok(());
         }
         let (first, _) = self.records.split_at(count.min(self.records.len()));
-        put_each(out, first, self.owner, self.is_negative)
+        put_each(out, first, &self.owner, self.is_negative)
+    }
+}
+
+/// The owner, lent once more.
+fn again<'a>(owner: &Option<NameView<'a>>) -> Option<NameView<'a>>
+    ensures { result ≡ owner.now }
+{
+    match owner {
+        None => None,
+        Some(name) => Some(name.again()),
     }
 }
 
@@ -145,12 +155,12 @@ impl<'a> LentRecords<'a> {
 fn copy_each(
     alloc: Global,
     records: &[Record],
-    owner: Option<&Name>,
+    owner: &Option<NameView<'_>>,
     is_negative: bool,
     out: &mut Vec<Record>,
 ) -> Result<(), OutOfMemory>
     ensures { OnOk result (out.new.items ≡ out.old.items
-        ++ map (given_as (option_map (λ n. fold_of n.now) owner.entry) is_negative) records.now) }
+        ++ map (given_as (option_map fold_of owner.now) is_negative) records.now) }
 {
     out.reserve(records.len())?;
     for one in records {
@@ -163,10 +173,10 @@ fn copy_each(
 fn copy_of(
     alloc: Global,
     one: &Record,
-    owner: Option<&Name>,
+    owner: &Option<NameView<'_>>,
     is_negative: bool,
 ) -> Result<Record, OutOfMemory>
-    ensures { IfOk result (λ copy. copy ≡ given_as (option_map (λ n. fold_of n.now) owner.entry) is_negative one.now) }
+    ensures { IfOk result (λ copy. copy ≡ given_as (option_map fold_of owner.now) is_negative one.now) }
 {
     let name = match owner {
         None => one.name.copy()?,
@@ -196,13 +206,13 @@ fn given_ttl(one: &Record, is_negative: bool) -> u32
 
 fn fitting_given(
     records: &[Record],
-    owner: Option<&Name>,
+    owner: &Option<NameView<'_>>,
     is_negative: bool,
     room: usize,
 ) -> Fitting
-    ensures fits { Fits room (map (given_as (option_map (λ n. fold_of n.now) owner.entry) is_negative) records.now) result.count }
+    ensures fits { Fits room (map (given_as (option_map fold_of owner.now) is_negative) records.now) result.count }
     ensures left { result.left + length (records_bytes
-        (take result.count (map (given_as (option_map (λ n. fold_of n.now) owner.entry) is_negative) records.now))) ≡ room }
+        (take result.count (map (given_as (option_map fold_of owner.now) is_negative) records.now))) ≡ room }
     ensures few { result.count + result.left ≤ room }
     ensures cut { result.is_cut ≡ nat_lt result.count (length records.now) }
 {
@@ -228,11 +238,16 @@ fn fitting_given(
 
 /// How many bytes of a room are left behind a record, as a reply gives it, where it goes in.
 #[tactic(auto, using(crate::proofs::Lending::size_given))]
-fn left_after(one: &Record, owner: Option<&Name>, is_negative: bool, room: usize) -> Option<usize>
+fn left_after(
+    one: &Record,
+    owner: &Option<NameView<'_>>,
+    is_negative: bool,
+    room: usize,
+) -> Option<usize>
     ensures fits { IfSome result (λ left. left + length
-        (record_bytes (given_as (option_map (λ n. fold_of n.now) owner.entry) is_negative one.now)) ≡ room) }
+        (record_bytes (given_as (option_map fold_of owner.now) is_negative one.now)) ≡ room) }
     ensures over { IfNone result (room < length
-        (record_bytes (given_as (option_map (λ n. fold_of n.now) owner.entry) is_negative one.now))) }
+        (record_bytes (given_as (option_map fold_of owner.now) is_negative one.now))) }
 {
     let behind = room.checked_sub(data_len(&one.rdata))?;
     behind.checked_sub(owner_len(one, owner))?.checked_sub(10)
@@ -240,12 +255,12 @@ fn left_after(one: &Record, owner: Option<&Name>, is_negative: bool, room: usize
 
 /// How many bytes the owner takes that a reply gives a record.
 #[tactic(auto, using(crate::proofs::Lending::size_folded))]
-fn owner_len(one: &Record, owner: Option<&Name>) -> usize
-    ensures { result ≡ length (name_bytes (given (option_map (λ n. fold_of n.now) owner.entry) one.now).name) }
+fn owner_len(one: &Record, owner: &Option<NameView<'_>>) -> usize
+    ensures { result ≡ length (name_bytes (given (option_map fold_of owner.now) one.now).name) }
 {
     match owner {
         None => name_len(&one.name),
-        Some(owner) => name_len(owner),
+        Some(owner) => owner.len(),
     }
 }
 
@@ -253,11 +268,11 @@ fn owner_len(one: &Record, owner: Option<&Name>) -> usize
 fn put_each(
     out: &mut Vec<u8>,
     records: &[Record],
-    owner: Option<&Name>,
+    owner: &Option<NameView<'_>>,
     is_negative: bool,
 ) -> Result<(), OutOfMemory>
     ensures { OnOk result (out.new.items ≡ out.old.items
-        ++ records_bytes (map (given_as (option_map (λ n. fold_of n.now) owner.entry) is_negative) records.now)) }
+        ++ records_bytes (map (given_as (option_map fold_of owner.now) is_negative) records.now)) }
 {
     for one in records {
         put_given(out, one, owner, is_negative)?;
@@ -269,11 +284,11 @@ fn put_each(
 fn put_given(
     out: &mut Vec<u8>,
     one: &Record,
-    owner: Option<&Name>,
+    owner: &Option<NameView<'_>>,
     is_negative: bool,
 ) -> Result<(), OutOfMemory>
     ensures { OnOk result (out.new.items ≡ out.old.items
-        ++ record_bytes (given_as (option_map (λ n. fold_of n.now) owner.entry) is_negative one.now)) }
+        ++ record_bytes (given_as (option_map fold_of owner.now) is_negative one.now)) }
 {
     put_owner(out, one, owner)?;
     let ttl = given_ttl(one, is_negative);
@@ -282,9 +297,13 @@ fn put_given(
 
 /// Writes the labels of the owner that a reply gives a record.
 #[inline(always)]
-fn put_owner(out: &mut Vec<u8>, one: &Record, owner: Option<&Name>) -> Result<(), OutOfMemory>
+fn put_owner(
+    out: &mut Vec<u8>,
+    one: &Record,
+    owner: &Option<NameView<'_>>,
+) -> Result<(), OutOfMemory>
     ensures { OnOk result (out.new.items ≡ out.old.items
-        ++ labels_bytes (given (option_map (λ n. fold_of n.now) owner.entry) one.now).name) }
+        ++ labels_bytes (given (option_map fold_of owner.now) one.now).name) }
 {
     match owner {
         None => out.extend_from_slice(one.name.as_wire())?,
@@ -295,7 +314,7 @@ fn put_owner(out: &mut Vec<u8>, one: &Record, owner: Option<&Name>) -> Result<()
 
 /// Writes the labels of a name, with ASCII capitals made small.
 #[inline(never)]
-fn put_folded(out: &mut Vec<u8>, name: &Name) -> Result<(), OutOfMemory>
+fn put_folded(out: &mut Vec<u8>, name: &NameView<'_>) -> Result<(), OutOfMemory>
     ensures { OnOk result (out.new.items ≡ out.old.items ++ labels_bytes (fold_of name.now)) }
 {
     let start = out.len();

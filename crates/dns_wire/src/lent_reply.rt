@@ -1,20 +1,19 @@
 //! Replies whose records are lent: they are written without copies (RFC 1035 4.1, RFC 2181 9).
 
-ghost use Rattle.std.specs.Prelude.{◌≡◌, ◌+◌, ◌-◌, ◌≤◌, ◌++◌, ◌∷◌, [], length, take, min, nat_lt, if◌then◌else◌, IfOk, OnOk};
+ghost use Rattle.std.specs.Prelude.{◌≡◌, ◌+◌, ◌-◌, ◌≤◌, ◌<◌, ◌++◌, ◌∷◌, [], ℕ, List, Bool, length, take, min, nat_lt, if◌then◌else◌, IfOk, OnOk};
 ghost use Rattle.std.specs.Int.{w16, to_be_bytes};
-ghost use Rattle.dns_wire.specs.WireFormat.{records_bytes};
+ghost use Rattle.dns_wire.specs.WireFormat.{records_bytes, questions_bytes};
+ghost use Rattle.dns_wire.specs.declared.reply.Reply.{Reply};
 ghost use Rattle.dns_wire.specs.Given.{in_parts};
 ghost use Rattle.dns_wire.specs.MessageBytes.{message_bytes};
-ghost use Rattle.dns_wire.specs.Written.{all_of, reply_bytes, reply_header, Fits, Appends};
+ghost use Rattle.dns_wire.specs.Written.{all_of, question_list, reply_bytes, reply_header, Fits, Appends};
 
 use crate::edns::Edns;
 use crate::header::Header;
 use crate::lent_records::{LentRecords, fitting_in_parts, put_parts};
-use crate::question::Question;
+use crate::question::LentQuestion;
 use crate::reply::LENGTH_LEN;
-use crate::writing::{
-    flag_word, opt_count, opt_len, put_count, put_extra, put_head, put_question, question_len,
-};
+use crate::writing::{flag_word, opt_count, opt_len, put_count, put_extra, put_head, put_question};
 use dns_io::OutOfMemory;
 use std::marker::Model;
 
@@ -33,18 +32,19 @@ pub struct LentReply<'a> {
     pub cd: bool,
     /// The response code; its lowest four bits are written (the others are the OPT's `extended`).
     pub code: u16,
-    /// The question that is answered.
-    pub question: &'a Question,
+    /// The question that is answered, where it is echoed.
+    pub question: Option<LentQuestion<'a>>,
     /// The answer section, in parts.
     pub answers: &'a [LentRecords<'a>],
     /// The authority section.
     pub authority: LentRecords<'a>,
+    /// The additional section, but for the OPT.
+    pub additional: LentRecords<'a>,
     /// The OPT, where there is one.
     pub edns: Option<Edns>,
 }
 
 impl<'a> Model for LentReply<'a> {
-    ghost use Rattle.std.specs.Prelude.{[], Some};
     ghost use Rattle.dns_wire.specs.declared.reply.Reply.{Reply};
     ghost use Rattle.dns_wire.specs.Given.{in_parts};
 
@@ -57,10 +57,10 @@ impl<'a> Model for LentReply<'a> {
       rd = r.rd;
       cd = r.cd;
       code = r.code;
-      question = Some r.question.now;
+      question = r.question;
       answers = in_parts r.answers.now;
       authority = r.authority;
-      additional = [];
+      additional = r.additional;
       edns = r.edns;
     } };
 }
@@ -76,12 +76,32 @@ pub struct Appended {
     pub answers: usize,
 }
 
-/// How many records are kept of a reply: of all, of its answers, of its authority; and how many bytes are left then.
+impl Appended {
+    /// Gives the reply, which stands at the end of a buffer, another code below 16, and tells of it anew. Takes no memory.
+    pub fn with_code(&self, out: &mut Vec<u8>, code: u8) -> Appended
+        requires code { code < 16 }
+        requires written { (r : Reply) × (limit : ℕ) × (framed : Bool) × (before : List ℕ)
+            × Appends r limit framed before out.old.items self.now }
+        ensures { (r : Reply) (limit : ℕ) (framed : Bool) (before : List ℕ) → Appends r limit framed before out.old.items self.now
+            → Appends (record r { code = code }) limit framed before out.new.items result }
+    {
+        let place = out.len() - self.len + 3;
+        out[place] = out[place] / 16 * 16 + code;
+        Appended {
+            len: self.len,
+            flags: self.flags / 16 * 16 + u16::from(code),
+            answers: self.answers,
+        }
+    }
+}
+
+/// How many records are kept of a reply: of all, and of each section; how many bytes are left then; and whether a record is left out.
 #[derive(Clone, Copy)]
 struct Kept {
     count: usize,
     answers: usize,
     authority: usize,
+    additional: usize,
     left: usize,
     is_cut: bool,
 }
@@ -99,7 +119,7 @@ impl<'a> LentReply<'a> {
         ensures { IfOk result (Appends self.now limit is_framed out.old.items out.new.items) }
     {
         let limit = usize::from(limit);
-        let fixed = 12 + question_len(self.question) + opt_len(&self.edns);
+        let fixed = 12 + asked_len(&self.question) + opt_len(&self.edns);
         let kept = kept_in(self, limit - fixed);
         let header = header_of(self, kept.is_cut);
         let len = limit - kept.left;
@@ -114,13 +134,46 @@ impl<'a> LentReply<'a> {
     }
 }
 
+/// How many bytes the question takes.
+fn asked_len(question: &Option<LentQuestion<'_>>) -> usize
+    ensures is { result ≡ length (questions_bytes (question_list question.now)) }
+    ensures short { result ≤ 259 }
+{
+    match question {
+        None => 0,
+        Some(question) => question.name.len() + 4,
+    }
+}
+
+/// How many questions are echoed.
+fn asked_count(question: &Option<LentQuestion<'_>>) -> u128
+    ensures { result ≡ length (question_list question.now) }
+{
+    match question {
+        None => 0,
+        Some(_) => 1,
+    }
+}
+
+/// Writes the question, where it is echoed.
+#[inline(always)]
+fn put_asked(out: &mut Vec<u8>, question: &Option<LentQuestion<'_>>) -> Result<(), OutOfMemory>
+    ensures { OnOk result (out.new.items ≡ out.old.items ++ questions_bytes (question_list question.now)) }
+{
+    match question {
+        None => Ok(()),
+        Some(question) => put_question(out, question),
+    }
+}
+
 /// How many of the reply's records, from the first on, go into `room` bytes.
 fn kept_in(reply: &LentReply<'_>, room: usize) -> Kept
     ensures fits { Fits room (all_of reply.now) result.count }
     ensures few { result.count + result.left ≤ room }
     ensures left { result.left + length (records_bytes (take result.count (all_of reply.now))) ≡ room }
     ensures answers { result.answers ≡ min result.count (length reply.now.answers) }
-    ensures authority { result.authority ≡ result.count - length reply.now.answers }
+    ensures authority { result.authority ≡ min (result.count - length reply.now.answers) (length reply.now.authority) }
+    ensures additional { result.additional ≡ result.count - length reply.now.answers - length reply.now.authority }
     ensures cut { result.is_cut ≡ nat_lt result.count (length (all_of reply.now)) }
 {
     let answers = fitting_in_parts(reply.answers, room);
@@ -129,17 +182,51 @@ fn kept_in(reply: &LentReply<'_>, room: usize) -> Kept
             count: answers.count,
             answers: answers.count,
             authority: 0,
+            additional: 0,
             left: answers.left,
             is_cut: true,
         };
     }
-    let authority = reply.authority.fitting(answers.left);
+    let behind = kept_behind(&reply.authority, &reply.additional, answers.left);
     Kept {
-        count: answers.count + authority.count,
+        count: answers.count + behind.count,
         answers: answers.count,
-        authority: authority.count,
-        left: authority.left,
-        is_cut: authority.is_cut,
+        authority: behind.authority,
+        additional: behind.additional,
+        left: behind.left,
+        is_cut: behind.is_cut,
+    }
+}
+
+/// How many of the records of the last two sections, from the first on, go into `room` bytes.
+#[inline(always)]
+fn kept_behind(authority: &LentRecords<'_>, additional: &LentRecords<'_>, room: usize) -> Kept
+    ensures fits { Fits room (authority.now ++ additional.now) result.count }
+    ensures few { result.count + result.left ≤ room }
+    ensures left { result.left + length (records_bytes (take result.count (authority.now ++ additional.now))) ≡ room }
+    ensures authority { result.authority ≡ min result.count (length authority.now) }
+    ensures additional { result.additional ≡ result.count - length authority.now }
+    ensures cut { result.is_cut ≡ nat_lt result.count (length (authority.now ++ additional.now)) }
+{
+    let first = authority.fitting(room);
+    if first.is_cut {
+        return Kept {
+            count: first.count,
+            answers: 0,
+            authority: first.count,
+            additional: 0,
+            left: first.left,
+            is_cut: true,
+        };
+    }
+    let second = additional.fitting(first.left);
+    Kept {
+        count: first.count + second.count,
+        answers: 0,
+        authority: first.count,
+        additional: second.count,
+        left: second.left,
+        is_cut: second.is_cut,
     }
 }
 
@@ -185,20 +272,22 @@ fn put_kept(
 ) -> Result<(), OutOfMemory>
     requires header { header.now ≡ reply_header reply.now kept.now.count }
     requires answers { kept.now.answers ≡ min kept.now.count (length reply.now.answers) }
-    requires authority { kept.now.authority ≡ kept.now.count - length reply.now.answers }
+    requires authority { kept.now.authority ≡ min (kept.now.count - length reply.now.answers) (length reply.now.authority) }
+    requires additional { kept.now.additional ≡ kept.now.count - length reply.now.answers - length reply.now.authority }
     requires within { kept.now.count ≤ length (all_of reply.now) }
     ensures { OnOk result (out.new.items ≡ out.old.items ++ reply_bytes reply.now kept.now.count) }
 {
     put_head(
         out,
         header,
-        1,
+        asked_count(&reply.question),
         kept.answers as u128,
         kept.authority as u128,
-        opt_count(&reply.edns),
+        kept.additional as u128 + opt_count(&reply.edns),
     )?;
-    put_question(out, reply.question)?;
+    put_asked(out, &reply.question)?;
     put_parts(out, reply.answers, kept.answers)?;
     reply.authority.put(out, kept.authority)?;
+    reply.additional.put(out, kept.additional)?;
     put_extra(out, &[], &reply.edns)
 }

@@ -29,14 +29,14 @@ mod writing_data;
 
 pub use boxed_name::BoxedName;
 pub use dns_io::{IoFault, Ip, Octets, OutOfMemory, Peer, Protocol, told_contents};
-pub use dns_name::{Labels, Name, ProtoError, name_laws};
+pub use dns_name::{Labels, Name, NameView, ProtoError, name_laws};
 pub use edns::Edns;
 pub use header::Header;
 pub use ipv6_address::Ipv6Address;
 pub use lent_records::LentRecords;
 pub use lent_reply::{Appended, LentReply};
 pub use message::Message;
-pub use question::{Question, Questions};
+pub use question::{LentQuestion, Question, Questions};
 pub use rdata::Data;
 pub use reading::{read_one_question, read_record};
 pub use record::{Record, Records};

@@ -1,16 +1,15 @@
 //! Replies, written under a limit (RFC 1035 4.1, RFC 2181 9).
 
-ghost use Rattle.std.specs.Prelude.{◌≡◌, ◌+◌, ◌-◌, ◌≤◌, ◌++◌, length, take, IfOk, nat_lt};
-ghost use Rattle.dns_wire.specs.declared.reply.Reply.{Reply};
+ghost use Rattle.std.specs.Prelude.{◌≡◌, ◌≤◌, IfOk};
 ghost use Rattle.dns_wire.specs.Standing.{word_at};
-ghost use Rattle.dns_wire.specs.WireFormat.{records_bytes, questions_bytes};
-ghost use Rattle.dns_wire.specs.Written.{all_of, question_list, reply_header, reply_bytes, Fits, Written};
+ghost use Rattle.dns_wire.specs.Given.{in_parts};
+ghost use Rattle.dns_wire.specs.Written.{Written};
 
 use crate::edns::Edns;
-use crate::header::Header;
-use crate::question::Question;
-use crate::record::{Record, Records};
-use crate::writing::{flag_word, opt_len, put_message, question_len, record_len};
+use crate::lent_records::LentRecords;
+use crate::lent_reply::LentReply;
+use crate::question::{LentQuestion, Question};
+use crate::record::Records;
 use dns_io::{Octets, OutOfMemory};
 use std::alloc::Global;
 
@@ -74,153 +73,50 @@ impl Reply {
         ensures flags { IfOk result (λ written. written.flags ≡ word_at written.bytes 2) }
         ensures answers { IfOk result (λ written. written.answers ≡ word_at written.bytes 6) }
     {
-        let limit = usize::from(limit);
-        let fixed = 12 + asked_len(&self.question) + opt_len(&self.edns);
-        let (count, left) = cut(self, limit - fixed);
-        let bytes = encode_first(alloc, self, count, limit - left + LENGTH_LEN)?;
-        let flags = flag_word(&header_of(self, count));
-        let answers = count.min(self.answers.len());
+        let mut out = Vec::new(alloc);
+        let answers = [as_they_are(&self.answers)];
+        let appended = lent(self, &answers).append(&mut out, limit, false)?;
         Ok(WrittenReply {
-            bytes,
-            flags,
-            answers,
+            bytes: Octets::from_vec(out),
+            flags: appended.flags,
+            answers: appended.answers,
         })
     }
 }
 
-/// The reply with the first `count` of its records, in a buffer with room for `room` bytes.
-fn encode_first(
-    alloc: Global,
-    reply: &Reply,
-    count: usize,
-    room: usize,
-) -> Result<Octets, OutOfMemory>
-    ensures { IfOk result (λ o. o ≡ reply_bytes reply.now count) }
+/// The reply, lent, with its answer section as one part.
+fn lent<'a>(reply: &'a Reply, answers: &'a [LentRecords<'a>]) -> LentReply<'a>
+    requires { in_parts answers.now ≡ reply.now.answers }
+    ensures { result ≡ reply.now }
 {
-    let mut out = Vec::with_capacity(alloc, room)?;
-    let second = count.saturating_sub(reply.answers.len());
-    let third = second.saturating_sub(reply.authority.len());
-    put_message(
-        &mut out,
-        &header_of(reply, count),
-        asked(&reply.question),
-        first(reply.answers.as_slice(), count),
-        first(reply.authority.as_slice(), second),
-        first(reply.additional.as_slice(), third),
-        &reply.edns,
-    )?;
-    Ok(Octets::from_vec(out))
-}
-
-/// The header where the first `count` records are written.
-fn header_of(reply: &Reply, count: usize) -> Header
-    ensures { result ≡ reply_header reply.now count }
-{
-    Header {
+    LentReply {
         id: reply.id,
-        qr: true,
         opcode: reply.opcode,
         aa: reply.aa,
-        tc: is_cut(reply, count),
         rd: reply.rd,
-        ra: false,
-        ad: false,
         cd: reply.cd,
-        code: (reply.code % 16) as u8,
-        questions: 0,
-        answers: 0,
-        authority: 0,
-        additional: 0,
+        code: reply.code,
+        question: lent_question(&reply.question),
+        answers,
+        authority: as_they_are(&reply.authority),
+        additional: as_they_are(&reply.additional),
+        edns: reply.edns,
     }
 }
 
-/// Whether there are more than `count` records.
-#[tactic(auto, using(crate::proofs::Fitting::size_all_of))]
-fn is_cut(reply: &Reply, count: usize) -> bool
-    ensures { result ≡ nat_lt count (length (all_of reply.now)) }
+/// Records, lent, with their own owners.
+fn as_they_are(records: &Records) -> LentRecords<'_>
+    ensures { result ≡ records.now }
 {
-    let all = reply.answers.len() as u128
-        + reply.authority.len() as u128
-        + reply.additional.len() as u128;
-    (count as u128) < all
+    LentRecords::new(records.as_slice(), None)
 }
 
-/// The question as a list.
-fn asked(question: &Option<Question>) -> &[Question]
-    ensures { result.now ≡ question_list question.now }
-{
-    question.as_slice()
-}
-
-/// How many bytes the question takes.
-fn asked_len(question: &Option<Question>) -> usize
-    ensures is { result ≡ length (questions_bytes (question_list question.now)) }
-    ensures short { result ≤ 259 }
+/// The question, lent, where there is one.
+fn lent_question(question: &Option<Question>) -> Option<LentQuestion<'_>>
+    ensures { result ≡ question.now }
 {
     match question {
-        None => 0,
-        Some(question) => question_len(question),
+        None => None,
+        Some(question) => Some(question.lent()),
     }
-}
-
-/// The first `count` records of a list.
-#[tactic(auto, using(crate::proofs::Fitting::first_of))]
-fn first(records: &[Record], count: usize) -> &[Record]
-    ensures { result.now ≡ take count records.now }
-{
-    let (front, _) = records.split_at(count.min(records.len()));
-    front
-}
-
-/// How many of the reply's records, from the first on, go into `room` bytes, and how many bytes are left then.
-fn cut(reply: &Reply, room: usize) -> (usize, usize)
-    ensures fits { Fits room (all_of reply.now) result.0 }
-    ensures few { result.0 + result.1 ≤ room }
-{
-    let (count, left) = fitting_of(&reply.answers, room);
-    if count < reply.answers.len() {
-        return (count, left);
-    }
-    let (more, left) = cut_rest(reply, left);
-    (count + more, left)
-}
-
-/// How many records of the last two sections go into `room` bytes, and how many bytes are left then.
-fn cut_rest(reply: &Reply, room: usize) -> (usize, usize)
-    ensures fits { Fits room (reply.now.authority ++ reply.now.additional) result.0 }
-    ensures few { result.0 + result.1 ≤ room }
-{
-    let (count, left) = fitting_of(&reply.authority, room);
-    if count < reply.authority.len() {
-        return (count, left);
-    }
-    let (more, left) = fitting_of(&reply.additional, left);
-    (count + more, left)
-}
-
-/// How many records of one section go into `room` bytes, and how many bytes are left then.
-fn fitting_of(records: &Records, room: usize) -> (usize, usize)
-    ensures fits { Fits room records.now result.0 }
-    ensures left { result.1 + length (records_bytes (take result.0 records.now)) ≡ room }
-    ensures few { result.0 + result.1 ≤ room }
-{
-    fitting(records.as_slice(), room)
-}
-
-fn fitting(records: &[Record], room: usize) -> (usize, usize)
-    ensures fits { Fits room records.now result.0 }
-    ensures left { result.1 + length (records_bytes (take result.0 records.now)) ≡ room }
-    ensures few { result.0 + result.1 ≤ room }
-{
-    let mut count = 0;
-    let mut left = room;
-    for one in records {
-        let size = record_len(one);
-        if size > left as u128 {
-            break;
-        }
-        left -= size as usize;
-        count += 1;
-    }
-    (count, left)
 }

@@ -12,7 +12,7 @@ ghost use Rattle.dns_wire.specs.declared.message.Message.{Message};
 
 use crate::edns::Edns;
 use crate::header::Header;
-use crate::question::Question;
+use crate::question::{LentQuestion, Question};
 use crate::rdata::Data;
 use crate::record::Record;
 use crate::record_type;
@@ -124,19 +124,23 @@ fn put_questions(out: &mut Vec<u8>, questions: &[Question]) -> Result<(), OutOfM
     ensures { OnOk result (out.new.items ≡ out.old.items ++ questions_bytes questions.now) }
 {
     for question in questions {
-        put_question(out, question)?;
+        put_question(out, &question.lent())?;
     }
     Ok(())
 }
 
-/// Writes a question.
-pub(crate) fn put_question(out: &mut Vec<u8>, question: &Question) -> Result<(), OutOfMemory>
+/// Writes a question. Its numbers are one write with the zero byte at the end of its name.
+#[inline(always)]
+pub(crate) fn put_question(
+    out: &mut Vec<u8>,
+    question: &LentQuestion<'_>,
+) -> Result<(), OutOfMemory>
     ensures { OnOk result (out.new.items ≡ out.old.items ++ question_bytes question.now) }
 {
-    put_name(out, &question.name)?;
+    out.extend_from_slice(question.name.as_wire())?;
     let [type_high, type_low] = question.qtype.to_be_bytes();
     let [class_high, class_low] = question.qclass.to_be_bytes();
-    out.extend_from_slice(&[type_high, type_low, class_high, class_low])?;
+    out.extend_from_slice(&[0, type_high, type_low, class_high, class_low])?;
     Ok(())
 }
 

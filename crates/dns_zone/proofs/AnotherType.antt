@@ -9,7 +9,7 @@ use Rattle.dns_zone_map.specs.declared.sets.RecordSet.{RecordSet}
 use Rattle.dns_zone_map.specs.Zone.{is_type, is_in_set}
 use Rattle.dns_zone_map.specs.Sets.{AreSetsOf, set_in}
 use Rattle.dns_zone.specs.Owner.{is_of_another_type, owns_another_type, has_another_set}
-use Rattle.dns_zone.proofs.Owned.{owned_is}
+use Rattle.dns_zone_map.proofs.Owned.{owned_is}
 
 module _ (rtype : ℕ) where
   -- a type of which there is a set, other than the one

@@ -1,5 +1,5 @@
 -- What a look finds where the way down to a name ends.
-use Rattle.std.proofs.Common.{◌≡◌, ℕ, suc, ◌+◌, ◌-◌, ◌<◌, ◌≤◌, List, [], ◌∷◌, length, drop, map, refl, sym, ap, ◌∙◌, subst, arith, Bool, true, false, length-drop}
+use Rattle.std.proofs.Common.{◌≡◌, ℕ, zero, suc, ◌+◌, ◌-◌, ◌<◌, ◌≤◌, List, [], ◌∷◌, length, drop, map, refl, sym, ap, ◌∙◌, subst, arith, Bool, true, false, length-drop}
 use Rattle.std.specs.Prelude.{None, Some, is_some, ◌||◌, ◌&&◌, ◌==◌, nat_le}
 use Rattle.std.specs.List.{list_any, AllByRecursion}
 use Rattle.std.specs.Char.{to_ascii_lowercase}
@@ -14,9 +14,10 @@ use Rattle.dns_zone_map.specs.Existence.{exists, is_at_or_under}
 use Rattle.dns_zone_map.specs.Sets.{AreSetsOf, set_in}
 use Rattle.dns_zone.specs.declared.look.Look.TheVariants.{Referral}
 use Rattle.dns_zone.specs.Look.{is_cut, topmost, nearest, cut_of, only_if, look_of, look_at, wildcard_under}
-use Rattle.dns_zone.specs.Descent.{IsAbove, IsEnclosed}
+use Rattle.dns_zone_map.specs.Walk.{Way, down}
+use Rattle.dns_zone.specs.Descent.{along, IsAbove, IsEnclosed, IsSameWay}
 use Rattle.dns_zone.proofs.Absent.{gone, gone_uncut, gone_nearest}
-use Rattle.dns_zone.proofs.Owned.{owned_is}
+use Rattle.dns_zone_map.proofs.Owned.{owned_is}
 use Rattle.dns_zone.proofs.Walk.{cut_below, no_cut_above, none_here, found_here}
 
 -- a name below the origin is a cut where it has a set of type NS
@@ -127,6 +128,41 @@ module _ (zone : Contents) (name : List (List ℕ)) (rtype : ℕ) where
   pub at_origin : length name ≤ length zone.origin → exists zone.records name ≡ true → look_of zone name rtype ≡ look_at zone.records (Some (record { name = name; synthesized = None })) rtype
   at_origin few there = look_own zone name rtype (uncut zone name rtype (no_cut_above zone name few)) there
 
+-- what is met at the next name, with so many labels left
+module _ (zone : Contents) (name : List (List ℕ)) (rtype k : ℕ) (within : is_at_or_below name zone.origin ≡ true) (more : length zone.origin + k < length name) (above : IsAbove zone name (k + 1)) where
+  -- it is not there
+  pub gone_here : exists zone.records (drop k name) ≡ false → IsEnclosed zone name rtype (k + 1)
+  gone_here absent = at_gone zone name rtype k (omega (arith, more)) more above absent
+
+  module _ (sets : List RecordSet) (own : AreSetsOf zone.records (drop k name) sets) where
+    -- it is there, and no cut
+    pub above_here : exists zone.records (drop k name) ≡ true → is_some (set_in 2 sets) ≡ false → IsAbove zone name k
+    above_here there plain = above_next zone name rtype k (omega (arith, more)) above (cut_is zone name k sets within more own ∙ plain) there
+
+    -- it is a cut
+    pub cut_here : (records : List Record) → is_some (set_in 2 sets) ≡ true → ((k == 0) && (rtype == 43)) ≡ false → records ≡ set_of zone.records (drop k name) 2 → look_of zone name rtype ≡ Referral records
+    cut_here records cut plain set = by_labels k refl
+      where
+        by_labels : (n : ℕ) → k ≡ n → look_of zone name rtype ≡ Referral records
+        by_labels zero none =
+            at_own_cut zone name rtype sets records within (omega (arith, more)) (subst (λ n. IsAbove zone name (n + 1)) none above) (subst (λ n. AreSetsOf zone.records (drop n name) sets) none own) cut
+            (λ ds. let e : ((k == 0) && (rtype == 43)) ≡ true = rw ((Decides-eqb k 0).1 none, (Decides-eqb rtype 43).1 ds) refl in cc)
+            (subst (λ n. records ≡ set_of zone.records (drop n name) 2) none set)
+        by_labels (suc n) some =
+            at_cut zone name rtype k records (omega (arith, some)) (omega (arith, more)) above.uncut (cut_is zone name k sets within more own ∙ cut) set
+
+  -- it is the name itself
+  module _ (last : k ≡ 0) where
+    above_last : IsAbove zone name 1
+    above_last = subst (λ n. IsAbove zone name (n + 1)) last above
+
+    pub name_here : (sets : List RecordSet) → AreSetsOf zone.records (drop k name) sets → exists zone.records (drop k name) ≡ true → is_some (set_in 2 sets) ≡ false → look_of zone name rtype ≡ look_at zone.records (Some (record { name = name; synthesized = None })) rtype
+    name_here sets own there plain =
+        at_name zone name rtype sets within (omega (arith, more)) above_last (subst (λ n. AreSetsOf zone.records (drop n name) sets) last own) (subst (λ n. exists zone.records (drop n name) ≡ true) last there) plain
+
+    pub ds_here : exists zone.records (drop k name) ≡ true → (rtype == 43) ≡ true → look_of zone name rtype ≡ look_at zone.records (Some (record { name = name; synthesized = None })) rtype
+    ds_here there ds = at_name_ds zone name rtype (omega (arith, more)) above_last (subst (λ n. exists zone.records (drop n name) ≡ true) last there) ((Decides-eqb rtype 43).0 ds)
+
 any_with : (P : Record → Type 0) (p q : Record → Bool) (records : List Record) → AllByRecursion P records → ((r : Record) → P r → p r ≡ true → q r ≡ true) → list_any p records ≡ true → list_any q records ≡ true
 any_with P p q [] all more h = absurd cc
 any_with P p q (r ∷ records) all more h = by_first (p r) (list_any p records) (q r) (list_any q records) (more r all.0) (any_with P p q records all.1 more) h
@@ -136,7 +172,11 @@ any_with P p q (r ∷ records) all more h = by_first (p r) (list_any p records) 
     by_first false b true d f g h = refl
     by_first false b false d f g h = g h
 
-and-second : (a b : Bool) → (a && b) ≡ true → b ≡ true
+pub and-first : (a b : Bool) → (a && b) ≡ true → a ≡ true
+and-first true b h = refl
+and-first false b h = absurd cc
+
+pub and-second : (a b : Bool) → (a && b) ≡ true → b ≡ true
 and-second true b h = h
 and-second false b h = absurd cc
 
@@ -159,3 +199,58 @@ above_first zone name depth is within size = record {
   uncut = no_cut_above zone (drop depth name) (omega (arith, length-drop depth name));
   there = origin_exists zone.origin zone.records name depth is within size;
 }
+
+-- the way is under way from where it began: it stands at a name that is there, at or above which there is no cut
+pub record IsUnderway (from way : Way) : Type 0 where
+  pub same : IsSameWay from way
+  pub within : is_at_or_below way.name way.origin ≡ true
+  pub labels : length way.origin + way.left ≤ length way.name
+  pub below : 0 < way.left
+  pub above : IsAbove (along way) way.name way.left
+
+pub underway_first : (way : Way) → IsZone way.origin way.records → is_at_or_below way.name way.origin ≡ true → length way.origin + way.left ≡ length way.name → 0 < way.left → IsUnderway way way
+underway_first way zone within top below = record {
+  same = record { origin = refl; records = refl; name = refl };
+  within = within;
+  labels = omega (arith, top);
+  below = below;
+  above = above_first (along way) way.name way.left zone within top;
+}
+
+pub same_next : (from way next : Way) → IsUnderway from way → next ≡ down way → IsSameWay from next
+same_next from way next u is = record {
+  origin = ap (λ (w : Way). w.origin) is ∙ u.same.origin;
+  records = ap (λ (w : Way). w.records) is ∙ u.same.records;
+  name = ap (λ (w : Way). w.name) is ∙ u.same.name;
+}
+
+pub underway_next : (from way next : Way) → IsUnderway from way → next ≡ down way → 0 < next.left → IsAbove (along next) next.name next.left → IsUnderway from next
+underway_next from way next u is below above = record {
+  same = same_next from way next u is;
+  within = subst (λ (w : Way). is_at_or_below w.name w.origin ≡ true) (sym is) u.within;
+  labels = subst (λ (w : Way). length w.origin + w.left ≤ length w.name) (sym is) (omega (arith, u.labels));
+  below = below;
+  above = above;
+}
+
+-- one label farther down, below a name that is there, at or above which there is no cut
+pub record IsStepped (way : Way) : Type 0 where
+  pub within : is_at_or_below way.name way.origin ≡ true
+  pub more : length way.origin + way.left < length way.name
+  pub above : IsAbove (along way) way.name (way.left + 1)
+
+pub stepped : (way next : Way) → next ≡ down way → is_at_or_below way.name way.origin ≡ true → length way.origin + way.left ≤ length way.name → 0 < way.left → IsAbove (along way) way.name way.left → IsStepped next
+stepped way next is within labels below above =
+    let one : way.left ≡ way.left - 1 + 1 = omega (arith, below) in
+    subst IsStepped (sym is) (record {
+      within = within;
+      more = omega (arith, labels, below);
+      above = subst (IsAbove (along way) way.name) one above;
+    })
+
+-- a look along the way is one for its name in its zone
+pub look_along : (zone : Contents) (name : List (List ℕ)) (rtype : ℕ) (from way : Way) → from.origin ≡ zone.origin → from.records ≡ zone.records → from.name ≡ name → IsSameWay from way → look_of (along way) way.name rtype ≡ look_of zone name rtype
+look_along zone name rtype from way origin records named same =
+    ap (λ (o : List (List ℕ)). look_of (record { origin = o; records = way.records }) way.name rtype) (same.origin ∙ origin)
+    ∙ ap (λ (rs : List Record). look_of (record { origin = zone.origin; records = rs }) way.name rtype) (same.records ∙ records)
+    ∙ ap (λ (n : List (List ℕ)). look_of zone n rtype) (same.name ∙ named)

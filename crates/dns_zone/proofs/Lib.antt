@@ -1,5 +1,4 @@
 pub mod Short
-pub mod Turned
 pub mod Readings
 pub mod Entering
 pub mod Placing
@@ -11,7 +10,6 @@ pub mod Absent
 pub mod Owned
 pub mod Descending
 pub mod Looking
-pub mod Besides
 pub mod TakenRows
 pub mod TakenBehind
 pub mod AnotherType

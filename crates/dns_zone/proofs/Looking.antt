@@ -3,26 +3,22 @@ use Rattle.std.proofs.Common.{◌≡◌, ℕ, ◌+◌, ◌-◌, ◌<◌, ◌≤�
 use Rattle.std.specs.Prelude.{None, Some, Option, ◌==◌, ◌||◌}
 use Rattle.std.specs.List.{AllByRecursion}
 use Rattle.std.proofs.lemmas.Bool.Decides.{Decides-eqb}
-use Rattle.std.proofs.lemmas.List.{map-append}
+use Rattle.std.proofs.lemmas.List.{map-append, append-nil}
+use Rattle.std.proofs.lemmas.Option.{same_Some}
 use Rattle.dns_name.specs.Name.{fold_of}
 use Rattle.dns_wire.specs.declared.record.Record.{Record}
 use Rattle.dns_zone_map.specs.declared.sets.RecordSet.{RecordSet}
 use Rattle.dns_zone_map.specs.Zone.{set_of}
 use Rattle.dns_zone_map.specs.Existence.{exists}
-use Rattle.dns_zone_map.specs.Sets.{AreSetsOf, TypesRise, set_in}
-use Rattle.dns_zone.specs.declared.look.Look.TheVariants.{NoData}
+use Rattle.dns_zone_map.specs.Sets.{AreSetsOf, TypesRise, set_in, in_all, of_type, records_or_none}
+use Rattle.dns_zone.specs.declared.look.Look.{Look}
+use Rattle.dns_zone.specs.declared.look.Look.TheVariants.{Alias, NoData}
 use Rattle.dns_wire.specs.Given.{given}
-use Rattle.dns_zone.specs.Look.{Owner, found_set, found_from, found_all, alias_of, first_of, look_at, alias_or, star_under, wildcard_under}
-use Rattle.dns_zone.specs.Lent.{TypesFit, in_all, of_type, alias_in, look_in}
+use Rattle.dns_zone.specs.Look.{Owner, found_set, found_from, found_all, found_or_none, alias_of, first_of, look_at, alias_or, star_under, wildcard_under}
+use Rattle.dns_zone.specs.Lent.{TypesFit, alias_in, found_in, look_in}
+use Rattle.dns_zone_map.proofs.Owned.{set_is, not_equal, of_first, of_more, all_next, all_least}
 use Rattle.dns_zone.proofs.AllTypes.{found-next, found-end}
-use Rattle.dns_zone.proofs.Owned.{set_is, sets_exist}
-
-not_equal : (a b : ℕ) → (a ≡ b → ⊥) → (a == b) ≡ false
-not_equal a b other = by_test (a == b) refl
-  where
-    by_test : (t : Bool) → (a == b) ≡ t → t ≡ false
-    by_test true is = absurd (other ((Decides-eqb a b).0 is))
-    by_test false is = refl
+use Rattle.dns_zone.proofs.Owned.{sets_exist}
 
 -- no set of a lesser type
 absent : (rtype : ℕ) (sets : List RecordSet) → AllByRecursion (λ t. rtype < t.rtype) sets → set_in rtype sets ≡ None
@@ -35,26 +31,11 @@ all_above : (a b : ℕ) (sets : List RecordSet) → a ≤ b → AllByRecursion (
 all_above a b [] less above = tt
 all_above a b (s ∷ sets) less above = (omega (arith, above.0), all_above a b sets less above.1)
 
-pub all_next : (a : ℕ) (sets : List RecordSet) → AllByRecursion (λ t. a < t.rtype) sets → AllByRecursion (λ t. a + 1 ≤ t.rtype) sets
-all_next a [] above = tt
-all_next a (s ∷ sets) above = (omega (arith, above.0), all_next a sets above.1)
-
 -- a lesser type is none of those of sets that begin with a greater one
 of_less : (rtype : ℕ) (s : RecordSet) (sets : List RecordSet) → rtype < s.rtype → AllByRecursion (λ t. s.rtype < t.rtype) sets → of_type (s ∷ sets) rtype ≡ []
 of_less rtype s sets less above =
     let other : (s.rtype == rtype) ≡ false = not_equal s.rtype rtype (λ same. omega (arith, less, same)) in
     rw (other, absent rtype sets (all_above rtype s.rtype sets (omega arith) above)) refl
-
--- a greater one is not that of the first
-pub of_more : (rtype : ℕ) (s : RecordSet) (sets : List RecordSet) → s.rtype < rtype → of_type (s ∷ sets) rtype ≡ of_type sets rtype
-of_more rtype s sets more =
-    let other : (s.rtype == rtype) ≡ false = not_equal s.rtype rtype (λ same. omega (arith, more, same)) in
-    rw other refl
-
-pub of_first : (s : RecordSet) (sets : List RecordSet) → of_type (s ∷ sets) s.rtype ≡ s.records
-of_first s sets =
-    let same : (s.rtype == s.rtype) ≡ true = (Decides-eqb s.rtype s.rtype).1 refl in
-    rw same refl
 
 -- the records of all types, from one on, are those of the sets
 module _ (records : List Record) (owner : Owner) where
@@ -73,10 +54,6 @@ module _ (records : List Record) (owner : Owner) where
       ∙ ap (λ (rs : List Record). map (given owner.synthesized) rs ++ map (given owner.synthesized) (in_all sets)) here
       ∙ ap (λ (rs : List Record). found_set records owner s.rtype ++ rs) rest
       ∙ found-next records owner first s.rtype 65536 above.0 fit.0 less
-
-pub all_least : (sets : List RecordSet) → AllByRecursion (λ t. 0 ≤ t.rtype) sets
-all_least [] = tt
-all_least (s ∷ sets) = (omega arith, all_least sets)
 
 module _ (records : List Record) (name : List (List ℕ)) (sets : List RecordSet) (owner : Option (List (List ℕ))) (own : AreSetsOf records name sets) where
   abbrev who : Owner
@@ -122,3 +99,34 @@ module _ (records : List Record) (name : List (List ℕ)) (k rtype : ℕ) where
       let none : NoData ≡ look_at records (Some (record { name = star; synthesized = Some (fold_of name) })) rtype =
       none_in (Some (fold_of name)) rtype ∙ look_in_is records star [] (Some (fold_of name)) own rtype (λ any. tt) in
       none ∙ rw there refl
+
+-- what a look finds at sets, from what it finds there for their own name
+module _ (sets : List RecordSet) (owner : Option (List (List ℕ))) (rtype : ℕ) where
+  given_first : (b : Bool) (rs : List Record) (a : Record) → Some a ≡ (if b then None else first_of (map (given None) rs)) → (if b then None else first_of (map (given owner) rs)) ≡ Some (given owner a)
+  given_first true rs a h = absurd cc
+  given_first false [] a h = absurd cc
+  given_first false (r ∷ rs) a h = ap (λ (x : Record). Some (given owner x)) (sym (same_Some a r h))
+
+  given_none : (b : Bool) (rs : List Record) → None ≡ (if b then None else first_of (map (given None) rs)) → (if b then None else first_of (map (given owner) rs)) ≡ None
+  given_none true rs h = refl
+  given_none false [] h = refl
+  given_none false (r ∷ rs) h = absurd cc
+
+  pub alias_found : (a : Record) → Some a ≡ alias_in sets None rtype → Alias (given owner a) ≡ look_in sets owner rtype
+  unfolding look_in
+  alias_found a h = sym (ap (λ (x : Option Record). alias_or x (found_in sets owner rtype)) (given_first ((rtype == 5) || (rtype == 255)) (of_type sets 5) a h))
+
+  module _ (no_alias : None ≡ alias_in sets None rtype) (one : rtype ≡ 255 → ⊥) where
+    set_only : look_in sets owner rtype ≡ found_or_none (map (given owner) (records_or_none (set_in rtype sets)))
+    unfolding look_in
+    set_only =
+        ap (λ (x : Option Record). alias_or x (found_in sets owner rtype)) (given_none ((rtype == 5) || (rtype == 255)) (of_type sets 5) no_alias)
+        ∙ ap (λ any. found_or_none (map (given owner) (if any then in_all sets else of_type sets rtype))) (not_equal rtype 255 one)
+
+    pub none_found : None ≡ set_in rtype sets → NoData ≡ look_in sets owner rtype
+    none_found none = ap (λ set. found_or_none (map (given owner) (records_or_none set))) none ∙ sym set_only
+
+    pub set_found : (s : RecordSet) (alone : List RecordSet) (found : List Record) (look : Look) → Some s ≡ set_in rtype sets → alone ≡ s ∷ [] → found ≡ map (given owner) (in_all alone) → look ≡ found_or_none found → look ≡ look_in sets owner rtype
+    set_found s alone found look some by_one records is =
+        is ∙ ap found_or_none (records ∙ ap (λ (ss : List RecordSet). map (given owner) (in_all ss)) by_one ∙ ap (map (given owner)) (append-nil s.records))
+        ∙ ap (λ set. found_or_none (map (given owner) (records_or_none set))) some ∙ sym set_only

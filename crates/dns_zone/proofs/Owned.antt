@@ -1,42 +1,13 @@
--- The sets that a name owns say what the zone's list holds of it.
-use Rattle.std.proofs.Common.{◌≡◌, ℕ, ◌<◌, List, [], ◌∷◌, length, refl, ap, ◌∙◌, arith, Bool, true, false, if◌then◌else◌, filter}
-use Rattle.std.specs.Prelude.{None, Some, Option, is_some, option_map, ◌==◌, ◌||◌}
-use Rattle.std.specs.List.{list_any}
+-- A name that owns sets exists.
+use Rattle.std.proofs.Common.{◌≡◌, ℕ, ◌<◌, List, [], ◌∷◌, length, refl, ◌∙◌, arith, true}
+use Rattle.std.specs.Prelude.{◌==◌}
 use Rattle.std.proofs.lemmas.Bool.Decides.{Decides-eqb}
 use Rattle.dns_wire.specs.declared.record.Record.{Record}
 use Rattle.dns_zone_map.specs.declared.sets.RecordSet.{RecordSet}
-use Rattle.dns_zone_map.specs.Zone.{is_in_set, set_of}
-use Rattle.dns_zone_map.specs.Existence.{owns_type, exists}
-use Rattle.dns_zone_map.specs.Sets.{AreSetsOf, set_in, some_of, records_in}
-use Rattle.dns_zone.specs.Lent.{of_type, records_or_none}
+use Rattle.dns_zone_map.specs.Existence.{exists}
+use Rattle.dns_zone_map.specs.Sets.{AreSetsOf}
+use Rattle.dns_zone_map.proofs.Owned.{owned_is}
 use Rattle.dns_zone.proofs.Absent.{owned_exists}
-
-any_if : (b : Bool) (r : Record) (rest : List Record) (any : Bool) → any ≡ is_some (some_of rest) → (b || any) ≡ is_some (some_of (if b then r ∷ rest else rest))
-any_if true r rest any h = refl
-any_if false r rest any h = h
-
--- some record passes a test where not none is left of those that do
-pub any_filter : (p : Record → Bool) (records : List Record) → list_any p records ≡ is_some (some_of (filter p records))
-any_filter p [] = refl
-any_filter p (r ∷ records) = any_if (p r) r (filter p records) (list_any p records) (any_filter p records)
-
-some_mapped : (found : Option RecordSet) → is_some (option_map records_in found) ≡ is_some found
-some_mapped None = refl
-some_mapped (Some s) = refl
-
--- a name owns a type where it has a set of it
-pub owned_is : (records : List Record) (name : List (List ℕ)) (sets : List RecordSet) (rtype : ℕ) → AreSetsOf records name sets → owns_type records name rtype ≡ is_some (set_in rtype sets)
-owned_is records name sets rtype own = any_filter (is_in_set name rtype) records ∙ ap is_some (own.each rtype) ∙ some_mapped (set_in rtype sets)
-
-from_some : (rs : List Record) (found : Option RecordSet) → some_of rs ≡ option_map records_in found → rs ≡ records_or_none found
-from_some [] None h = refl
-from_some [] (Some s) h = absurd cc
-from_some (r ∷ rs) None h = absurd cc
-from_some (r ∷ rs) (Some s) h = cc
-
--- the records of a name and a type are those of the set
-pub set_is : (records : List Record) (name : List (List ℕ)) (sets : List RecordSet) (rtype : ℕ) → AreSetsOf records name sets → set_of records name rtype ≡ of_type sets rtype
-set_is records name sets rtype own = from_some (set_of records name rtype) (set_in rtype sets) (own.each rtype)
 
 -- a name that has a set is there
 pub sets_exist : (records : List Record) (name : List (List ℕ)) (sets : List RecordSet) → AreSetsOf records name sets → 0 < length sets → exists records name ≡ true

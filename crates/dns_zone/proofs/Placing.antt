@@ -1,5 +1,5 @@
 -- A record that may stand beside others is put in the place of its rival.
-use Rattle.std.proofs.Common.{◌≡◌, ℕ, List, [], ◌∷◌, Bool, true, false, not, ◌==◌, ◌&&◌, ◌||◌, if◌then◌else◌, Ok, refl, sym, ap, ◌∙◌, arith}
+use Rattle.std.proofs.Common.{◌≡◌, ℕ, List, [], ◌∷◌, Bool, true, false, not, ◌==◌, ◌&&◌, ◌||◌, if◌then◌else◌, Ok, refl, sym, ap, ◌∙◌, subst, arith, ◌⊎◌, inl, inr}
 use Rattle.std.specs.List.{AllByRecursion, IsDistinct, list_any}
 use Rattle.std.proofs.lemmas.Bool.Decides.{Decides-eqb}
 use Rattle.dns_wire.specs.declared.record.Record.{Record}
@@ -12,8 +12,11 @@ use Rattle.dns_presentation.specs.Entries.{entry_of, first_context}
 use Rattle.dns_name.specs.Name.{IsName, fold_of}
 use Rattle.dns_name.proofs.Lengths.{length_name_bytes}
 use Rattle.dns_zone.specs.Contexts.{IsSound}
-use Rattle.dns_zone.specs.ZoneText.{is_beside_alias, put_in, placed, placed_entry, context_behind, after_line, records_from}
+use Rattle.dns_zone.specs.ZoneText.{put_in, placed, placed_entry, context_behind, after_line, records_from}
 use Rattle.dns_zone_map.specs.Changes.{put_over}
+use Rattle.dns_zone_map.specs.declared.beside.Beside.{Beside}
+use Rattle.dns_zone_map.specs.declared.beside.Beside.TheVariants.{New, Replaced}
+use Rattle.dns_zone_map.specs.Beside.{is_beside_alias, PutAlone, IsPutBeside}
 use Rattle.dns_zone.proofs.Readings.{IsRead}
 
 -- no test passes
@@ -80,6 +83,11 @@ placed_over origin records r more within soa alias put =
     let aliases = none_of (is_beside_alias r) records alias in
     let over : put_in records r ≡ more = put_in-over r records (rivals_equal r records soas aliases) ∙ sym put in
     rw (within, soa, alias, over) refl
+
+-- a record that was put, new or in the place of another, stands beside no alias, nor is it one beside others
+pub put_alone : (r : Record) (records more : List Record) (end : Beside) → (end ≡ New) ⊎ (end ≡ Replaced) → IsPutBeside r records more end → PutAlone r records more
+put_alone r records more end (inl new) put = (subst (IsPutBeside r records more) new put).0
+put_alone r records more end (inr replaced) put = (subst (IsPutBeside r records more) replaced put).0
 
 -- an SOA that may be placed is at the origin
 pub at_origin : (soa same any : Bool) → (soa && (not same || any)) ≡ false → soa ≡ true → same ≡ true

@@ -1,26 +1,13 @@
 -- What the sets that a name owns give to a look: what `look_at` finds in the zone's list, it finds in them.
-use Rattle.std.specs.Prelude.{ℕ, ◌<◌, ◌==◌, ◌||◌, if◌then◌else◌, List, [], map, Option, Some, None}
-use Rattle.std.specs.List.{flat_map, AllByRecursion}
+use Rattle.std.specs.Prelude.{ℕ, ◌<◌, ◌==◌, ◌||◌, if◌then◌else◌, List, map, Option, None}
+use Rattle.std.specs.List.{AllByRecursion}
 use Rattle.dns_wire.specs.declared.record.Record.{Record}
 use Rattle.dns_wire.specs.declared.record_type.TheConstants.{CNAME, ANY}
 use Rattle.dns_zone_map.specs.declared.sets.RecordSet.{RecordSet}
-use Rattle.dns_zone_map.specs.Sets.{set_in, records_in}
+use Rattle.dns_zone_map.specs.Sets.{in_all, of_type}
 use Rattle.dns_zone.specs.declared.look.Look.{Look}
 use Rattle.dns_wire.specs.Given.{given}
 use Rattle.dns_zone.specs.Look.{first_of, alias_or}
-
--- the records of a set, if there is one
-abbrev pub records_or_none : Option RecordSet → List Record
-records_or_none None = []
-records_or_none (Some s) = s.records
-
--- the records of all sets, in their order
-abbrev pub in_all : List RecordSet → List Record
-in_all = flat_map records_in
-
--- the records of one type
-abbrev pub of_type : List RecordSet → ℕ → List Record
-of_type sets rtype = records_or_none (set_in rtype sets)
 
 -- the alias that answers, unless CNAME or ANY was asked
 abbrev pub alias_in : List RecordSet → Option (List (List ℕ)) → ℕ → Option Record

@@ -4,7 +4,6 @@ pub mod Lookup
 pub mod Lent
 pub mod Parts
 pub mod Descent
-pub mod Beside
 pub mod Contexts
 pub mod Updates
 pub mod Replayed

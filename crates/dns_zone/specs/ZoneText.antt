@@ -1,5 +1,5 @@
 -- The records of a zone's text, or the first fault in it (RFC 1035 5).
-use Rattle.std.specs.Prelude.{◌≡◌, ℕ, Bool, not, ◌&&◌, ◌||◌, if◌then◌else◌, List, [], ◌∷◌, Result, Ok, Err}
+use Rattle.std.specs.Prelude.{◌≡◌, ℕ, not, ◌&&◌, ◌||◌, if◌then◌else◌, List, [], ◌∷◌, Result, Ok, Err}
 use Rattle.std.specs.List.{list_any}
 use Rattle.dns_wire.specs.declared.record.Record.{Record}
 use Rattle.dns_name.specs.Name.{is_same_name, is_at_or_below}
@@ -9,8 +9,9 @@ use Rattle.dns_zone.specs.declared.zone_text.ZoneTextFault.{ZoneTextFault}
 use Rattle.dns_zone.specs.declared.zone_text.ZoneTextFault.TheVariants.{Refused, OutOfMemory}
 use Rattle.dns_zone.specs.declared.zone_text.LineFault.{LineFault}
 use Rattle.dns_zone.specs.declared.zone_text.LineFault.TheVariants.{Kind, OutOfMemory as NoMemory}
-use Rattle.dns_wire.specs.declared.record_type.TheConstants.{CNAME, SOA}
+use Rattle.dns_wire.specs.declared.record_type.TheConstants.{SOA}
 use Rattle.dns_zone_map.specs.Zone.{is_type, is_equal}
+use Rattle.dns_zone_map.specs.Beside.{is_beside_alias}
 use Rattle.dns_presentation.specs.declared.fault.EntryKind.{EntryKind}
 use Rattle.dns_presentation.specs.declared.fault.EntryKind.TheVariants as kind
 use Rattle.dns_presentation.specs.declared.entry.Context.{Context}
@@ -18,11 +19,6 @@ use Rattle.dns_presentation.specs.declared.entry.Entry.{Entry}
 use Rattle.dns_presentation.specs.declared.entry.Entry.TheVariants as entry
 use Rattle.dns_presentation.specs.LogicalLines.{LogicalLine, logical_lines}
 use Rattle.dns_presentation.specs.Entries.{entry_of, first_context, context_after}
-
--- one of the two records of a name is an alias: a CNAME beside another type, or beside a CNAME with another target
-abbrev pub is_beside_alias : Record → Record → Bool
-is_beside_alias r s =
-    (is_type CNAME r || is_type CNAME s) && (not (is_equal r s) && is_same_name r.name s.name)
 
 -- the records with one in the place of the first that is equal to it in name, type and data, or else at the end
 abbrev pub put_in : List Record → Record → List Record

@@ -4,12 +4,12 @@ ghost use Rattle.std.specs.Prelude.{◌≡◌, ◌++◌, ◌∷◌, ◌==◌, []
 ghost use Rattle.std.specs.Option.{option_copied};
 ghost use Rattle.dns_name.specs.Name.{fold_of};
 ghost use Rattle.dns_wire.specs.Given.{given, in_parts};
-ghost use Rattle.dns_zone.specs.Lent.{in_all};
+ghost use Rattle.dns_zone_map.specs.Sets.{in_all};
 ghost use Rattle.dns_zone.specs.Lookup.{target_of};
 
 use crate::answer::Parts;
 use dns_io::OutOfMemory;
-use dns_name::Name;
+use dns_name::{Name, NameView};
 use dns_wire::{Data, LentRecords, Record};
 use dns_zone_map::RecordSet;
 use std::alloc::Global;
@@ -20,7 +20,7 @@ use std::marker::Model;
 #[derive(Drop)]
 pub(crate) struct LentRecord<'a> {
     one: &'a Record,
-    asked: Option<&'a Name>,
+    asked: Option<NameView<'a>>,
 }
 
 impl<'a> Model for LentRecord<'a> {
@@ -32,13 +32,13 @@ impl<'a> Model for LentRecord<'a> {
 
     ghost use Rattle.dns_wire.specs.Given.{given};
 
-    ghost view = { λ l. given (option_map (λ n. fold_of n.now) l.asked) l.one.now };
+    ghost view = { λ l. given (option_map fold_of l.asked) l.one.now };
 }
 
 impl<'a> LentRecord<'a> {
     /// A record, with its own owner or the name that was asked.
-    pub(crate) fn new(one: &'a Record, asked: Option<&'a Name>) -> LentRecord<'a>
-        ensures { result ≡ given (option_map (λ n. fold_of n.now) asked.entry) one.now }
+    pub(crate) fn new(one: &'a Record, asked: Option<NameView<'a>>) -> LentRecord<'a>
+        ensures { result ≡ given (option_map fold_of asked.entry) one.now }
     {
         LentRecord { one, asked }
     }
@@ -47,7 +47,7 @@ impl<'a> LentRecord<'a> {
     pub(crate) fn alone(&self) -> LentRecords<'a>
         ensures { result ≡ self.now ∷ [] }
     {
-        LentRecords::new(std::slice::from_ref(self.one), self.asked)
+        LentRecords::new(std::slice::from_ref(self.one), again(&self.asked))
     }
 
     /// Where an alias leads.
@@ -72,7 +72,7 @@ fn target_of(one: &Record) -> Option<&Name>
 #[derive(Drop)]
 pub(crate) struct LentSets<'a> {
     sets: &'a [RecordSet],
-    asked: Option<&'a Name>,
+    asked: Option<NameView<'a>>,
 }
 
 impl<'a> Model for LentSets<'a> {
@@ -83,15 +83,15 @@ impl<'a> Model for LentSets<'a> {
     ghost Value = { List Record };
 
     ghost use Rattle.dns_wire.specs.Given.{given};
-    ghost use Rattle.dns_zone.specs.Lent.{in_all};
+    ghost use Rattle.dns_zone_map.specs.Sets.{in_all};
 
-    ghost view = { λ l. map (given (option_map (λ n. fold_of n.now) l.asked)) (in_all l.sets.now) };
+    ghost view = { λ l. map (given (option_map fold_of l.asked)) (in_all l.sets.now) };
 }
 
 impl<'a> LentSets<'a> {
     /// The records of sets, with their own owner or the name that was asked.
-    pub(crate) fn new(sets: &'a [RecordSet], asked: Option<&'a Name>) -> LentSets<'a>
-        ensures { result ≡ map (given (option_map (λ n. fold_of n.now) asked.entry)) (in_all sets.now) }
+    pub(crate) fn new(sets: &'a [RecordSet], asked: Option<NameView<'a>>) -> LentSets<'a>
+        ensures { result ≡ map (given (option_map fold_of asked.entry)) (in_all sets.now) }
     {
         LentSets { sets, asked }
     }
@@ -108,7 +108,7 @@ impl<'a> LentSets<'a> {
         ensures { IfSome result (λ part. part ≡ self.now) }
     {
         match self.sets {
-            [set] => Some(lent_set(set, self.asked)),
+            [set] => Some(lent_set(set, &self.asked)),
             _ => None,
         }
     }
@@ -118,15 +118,15 @@ impl<'a> LentSets<'a> {
         ensures { IfOk result (λ parts. parts ≡ self.now) }
     {
         match self.sets {
-            [set] => Ok(Parts::one(lent_set(set, self.asked))),
+            [set] => Ok(Parts::one(lent_set(set, &self.asked))),
             [first, second] => {
-                let first = lent_set(first, self.asked);
-                Ok(Parts::two(first, lent_set(second, self.asked)))
+                let first = lent_set(first, &self.asked);
+                Ok(Parts::two(first, lent_set(second, &self.asked)))
             }
             [first, second, third] => {
-                let first = lent_set(first, self.asked);
-                let second = lent_set(second, self.asked);
-                Ok(Parts::three(first, second, lent_set(third, self.asked)))
+                let first = lent_set(first, &self.asked);
+                let second = lent_set(second, &self.asked);
+                Ok(Parts::three(first, second, lent_set(third, &self.asked)))
             }
             _ => {
                 let mut parts = Vec::with_capacity(alloc, self.sets.len())?;
@@ -140,15 +140,25 @@ impl<'a> LentSets<'a> {
     pub(crate) fn add_to(&self, parts: &mut Vec<LentRecords<'a>>) -> Result<(), OutOfMemory>
         ensures { OnOk result (in_parts parts.new.items ≡ in_parts parts.old.items ++ self.now) }
     {
-        add_sets(self.sets, self.asked, parts)
+        add_sets(self.sets, &self.asked, parts)
+    }
+}
+
+/// The name that was asked, lent once more.
+fn again<'a>(asked: &Option<NameView<'a>>) -> Option<NameView<'a>>
+    ensures { result ≡ asked.now }
+{
+    match asked {
+        None => None,
+        Some(name) => Some(name.again()),
     }
 }
 
 /// The records of a set, with their own owner or the name that was asked.
-fn lent_set<'a>(set: &'a RecordSet, asked: Option<&'a Name>) -> LentRecords<'a>
-    ensures { result ≡ map (given (option_map (λ n. fold_of n.now) asked.entry)) set.now.records }
+fn lent_set<'a>(set: &'a RecordSet, asked: &Option<NameView<'a>>) -> LentRecords<'a>
+    ensures { result ≡ map (given (option_map fold_of asked.now)) set.now.records }
 {
-    LentRecords::new(set.records().as_slice(), asked)
+    LentRecords::new(set.records().as_slice(), again(asked))
 }
 
 /// Whether sets hold no record.
@@ -166,11 +176,11 @@ fn are_empty(sets: &[RecordSet]) -> bool
 /// Adds the records of each set at the end, as a part, with their own owner or the name that was asked.
 fn add_sets<'a>(
     sets: &'a [RecordSet],
-    asked: Option<&'a Name>,
+    asked: &Option<NameView<'a>>,
     parts: &mut Vec<LentRecords<'a>>,
 ) -> Result<(), OutOfMemory>
     ensures { OnOk result (in_parts parts.new.items
-        ≡ in_parts parts.old.items ++ map (given (option_map (λ n. fold_of n.now) asked.entry)) (in_all sets.now)) }
+        ≡ in_parts parts.old.items ++ map (given (option_map fold_of asked.now)) (in_all sets.now)) }
 {
     for set in sets {
         parts.push(lent_set(set, asked))?;

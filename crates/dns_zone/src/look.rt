@@ -14,10 +14,10 @@ use crate::descent::{Descent, descend};
 use crate::lent::{LentRecord, LentSets};
 use crate::zone::Zone;
 use dns_io::OutOfMemory;
-use dns_name::Name;
-use dns_wire::LentRecords;
+use dns_name::NameView;
 use dns_wire::record_type::{ANY, CNAME};
-use dns_zone_map::{OwnerSets, Presence, RecordSet, ZoneKey, ZoneMap};
+use dns_wire::{LentRecords, Record};
+use dns_zone_map::{OwnerSets, Presence, RecordSet, Walk, ZoneKey, ZoneMap};
 
 /// What a look finds, lent by the zone.
 #[derive(Drop)]
@@ -38,15 +38,15 @@ pub(crate) enum Look<'a> {
 /// label.
 pub(crate) fn look_of<'a>(
     zone: &'a Zone,
-    name: &'a Name,
+    name: NameView<'a>,
     rtype: u16,
 ) -> Result<Look<'a>, OutOfMemory>
-    requires { is_at_or_below name.now zone.now.origin ≡ true }
-    ensures { IfOk result (λ look. look ≡ look_of zone.now name.now rtype) }
+    requires { is_at_or_below name zone.now.origin ≡ true }
+    ensures { IfOk result (λ look. look ≡ look_of zone.now name.entry rtype) }
 {
     let map = zone.map();
     let mut room = [0u8; 255];
-    let key = ZoneKey::new(map.origin(), name, &mut room);
+    let key = ZoneKey::new(map.origin(), name.again(), &mut room);
     look_by(map, &key, name, rtype)
 }
 
@@ -54,19 +54,23 @@ pub(crate) fn look_of<'a>(
 pub(crate) fn look_by<'a>(
     map: &'a ZoneMap,
     key: &ZoneKey<'_>,
-    name: &'a Name,
+    name: NameView<'a>,
     rtype: u16,
 ) -> Result<Look<'a>, OutOfMemory>
     requires zone { IsZone map.now.origin map.now.records }
     requires origin { key.now.origin ≡ map.now.origin }
-    requires name { key.now.name ≡ name.now }
-    requires within { is_at_or_below name.now map.now.origin ≡ true }
-    ensures { IfOk result (λ look. look ≡ look_of (contents map.now) name.now rtype) }
+    requires name { key.now.name ≡ name }
+    requires within { is_at_or_below name map.now.origin ≡ true }
+    ensures { IfOk result (λ look. look ≡ look_of (contents map.now) key.now.name rtype) }
 {
-    match descend(map, key, rtype)? {
+    let mut walk = map.walk(key);
+    if walk.left() == 0 {
+        return Ok(look_at(map.sets(key, 0), None, rtype));
+    }
+    match descend(&mut walk, rtype)? {
         Descent::Cut(set) => Ok(Look::Referral(own(set))),
         Descent::Own(sets) => Ok(look_at(sets, None, rtype)),
-        Descent::Encloser(labels_dropped) => { look_at_star(map, key, labels_dropped, name, rtype) }
+        Descent::Gone => look_at_star(&walk, name, rtype),
     }
 }
 
@@ -78,22 +82,19 @@ fn own(set: &RecordSet) -> LentRecords<'_>
     LentRecords::new(set.records().as_slice(), None)
 }
 
-/// What a look finds at the wildcard under the closest encloser of a name (RFC 4592 3.3.1), which is the name without its
-/// first `labels_dropped` labels.
+/// What a look finds at the wildcard under the closest encloser of a name (RFC 4592 3.3.1), below which the way stands at a name that is
+/// not there.
 fn look_at_star<'a>(
-    map: &'a ZoneMap,
-    key: &ZoneKey<'_>,
-    labels_dropped: usize,
-    name: &'a Name,
+    walk: &Walk<'a, '_>,
+    name: NameView<'a>,
     rtype: u16,
 ) -> Result<Look<'a>, OutOfMemory>
-    requires origin { key.now.origin ≡ map.now.origin }
-    requires name { key.now.name ≡ name.now }
-    requires labels { length map.now.origin + labels_dropped ≤ length name.now }
-    ensures { IfOk result (λ look. look
-        ≡ look_at map.now.records (wildcard_under map.now.records name.now (Some (drop labels_dropped name.now))) rtype) }
+    requires name { walk.now.name ≡ name }
+    requires labels { length walk.now.origin + (walk.now.left + 1) ≤ length walk.now.name }
+    ensures { IfOk result (λ look. look ≡ look_at walk.now.records
+        (wildcard_under walk.now.records walk.now.name (Some (drop (walk.now.left + 1) walk.now.name))) rtype) }
 {
-    match map.star(key, labels_dropped)? {
+    match walk.star()? {
         Presence::Absent => Ok(Look::NoName),
         Presence::Empty => Ok(Look::NoData),
         Presence::Owner(sets) => Ok(look_in(sets, Some(name), rtype)),
@@ -102,8 +103,8 @@ fn look_at_star<'a>(
 
 /// What a look finds at a name that is there, with the sets that it owns, if any.
 #[tactic(auto, unfolding(crate::specs::Lent::look_in))]
-fn look_at<'a>(sets: Option<&'a OwnerSets>, asked: Option<&'a Name>, rtype: u16) -> Look<'a>
-    ensures is { result ≡ look_in (sets_or_none (option_copied sets.entry)) (option_map (λ n. fold_of n.now) asked.entry) rtype }
+fn look_at<'a>(sets: Option<&'a OwnerSets>, asked: Option<NameView<'a>>, rtype: u16) -> Look<'a>
+    ensures is { result ≡ look_in (sets_or_none (option_copied sets.entry)) (option_map fold_of asked.entry) rtype }
     ensures types { rtype ≡ ANY → TypesFit (sets_or_none (option_copied sets.entry)) }
 {
     match sets {
@@ -114,12 +115,12 @@ fn look_at<'a>(sets: Option<&'a OwnerSets>, asked: Option<&'a Name>, rtype: u16)
 
 /// What a look finds at the name that owns these sets.
 #[tactic(auto, unfolding(crate::specs::Lent::look_in))]
-fn look_in<'a>(sets: &'a OwnerSets, asked: Option<&'a Name>, rtype: u16) -> Look<'a>
-    ensures is { result ≡ look_in sets.now (option_map (λ n. fold_of n.now) asked.entry) rtype }
+fn look_in<'a>(sets: &'a OwnerSets, asked: Option<NameView<'a>>, rtype: u16) -> Look<'a>
+    ensures is { result ≡ look_in sets.now (option_map fold_of asked.entry) rtype }
     ensures types { rtype ≡ ANY → TypesFit sets.now }
 {
-    if let Some(alias) = alias_in(sets, asked, rtype) {
-        return Look::Alias(alias);
+    if let Some(alias) = alias_in(sets, rtype) {
+        return Look::Alias(LentRecord::new(alias, asked));
     }
     if rtype == ANY {
         return found_or_none(LentSets::new(all_of(sets), asked));
@@ -150,15 +151,14 @@ fn read_types(sets: &[RecordSet])
 }
 
 /// The alias that answers, unless CNAME or ANY was asked.
-fn alias_in<'a>(sets: &'a OwnerSets, asked: Option<&'a Name>, rtype: u16) -> Option<LentRecord<'a>>
-    ensures { result ≡ alias_in sets.now (option_map (λ n. fold_of n.now) asked.entry) rtype }
+fn alias_in(sets: &OwnerSets, rtype: u16) -> Option<&Record>
+    ensures { option_copied result ≡ alias_in sets.now None rtype }
 {
     if rtype == CNAME || rtype == ANY {
         return None;
     }
     let set = sets.set(CNAME)?;
-    let one = set.records().as_slice().first()?;
-    Some(LentRecord::new(one, asked))
+    set.records().as_slice().first()
 }
 
 fn found_or_none(found: LentSets<'_>) -> Look<'_>

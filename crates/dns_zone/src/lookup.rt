@@ -12,10 +12,10 @@ use crate::lent::{LentRecord, LentSets};
 use crate::look::{Look, look_of};
 use crate::zone::Zone;
 use dns_io::OutOfMemory;
-use dns_name::Name;
+use dns_name::{Name, NameView};
 use dns_wire::record_type::SOA;
 use dns_wire::response_code::{NO_ERROR, NX_DOMAIN};
-use dns_wire::{LentRecords, Question, Records};
+use dns_wire::{LentQuestion, LentRecords, Question, Records};
 use dns_zone_map::ZoneMap;
 use std::alloc::Global;
 
@@ -53,7 +53,7 @@ impl Zone {
         ensures code { IfOk result (λ answer. answer.code ≤ 3) }
     {
         let mut answer = Answer::none();
-        self.answer_into(alloc, question, &mut answer)?;
+        self.answer_into(alloc, &question.lent(), &mut answer)?;
         Ok(answer)
     }
 
@@ -61,7 +61,7 @@ impl Zone {
     pub fn answer_into<'a>(
         &'a self,
         alloc: Global,
-        question: &'a Question,
+        question: &LentQuestion<'a>,
         answer: &mut Answer<'a>,
     ) -> Result<(), OutOfMemory>
         requires { is_at_or_below question.now.name self.now.origin ≡ true }
@@ -71,7 +71,7 @@ impl Zone {
         ensures code { OnOk result (answer.new.code ≤ 3) }
     {
         let map = self.map();
-        match look_of(self, &question.name, question.qtype)? {
+        match look_of(self, question.name.again(), question.qtype)? {
             Look::Found(found) => put_found(alloc, &found, answer)?,
             Look::Referral(ns) => answer.set(NO_ERROR, false, Parts::none(), ns),
             Look::NoName => answer.set(NX_DOMAIN, true, Parts::none(), negative_soa(map)),
@@ -142,7 +142,7 @@ fn follow<'a>(
     alloc: Global,
     more: u32,
     zone: &'a Zone,
-    question: &'a Question,
+    question: &LentQuestion<'a>,
     last: LentRecord<'a>,
     mut aliases: Vec<LentRecord<'a>>,
     answer: &mut Answer<'a>,
@@ -297,7 +297,7 @@ fn copied(alloc: Global, lent: &LentRecords<'_>) -> Result<Records, OutOfMemory>
 fn next_look<'a>(
     more: u32,
     zone: &'a Zone,
-    first: &Name,
+    first: &NameView<'_>,
     rtype: u16,
     aliases: &[LentRecord<'a>],
     one: &LentRecord<'a>,
@@ -312,24 +312,24 @@ fn next_look<'a>(
             if !is_next(zone, first, aliases, target) {
                 return Ok(None);
             }
-            Ok(Some(look_of(zone, target, rtype)?))
+            Ok(Some(look_of(zone, target.view(), rtype)?))
         }
         None => Ok(None),
     }
 }
 
 /// Whether a target is inside the zone and was not asked yet.
-fn is_next(zone: &Zone, first: &Name, aliases: &[LentRecord<'_>], target: &Name) -> bool
+fn is_next(zone: &Zone, first: &NameView<'_>, aliases: &[LentRecord<'_>], target: &Name) -> bool
     ensures { result ≡ (is_at_or_below target.now zone.now.origin
         && not (list_any (is_same_name target.now) (asked_along first.now aliases.now))) }
 {
     target.at_or_below(zone.origin()) && !is_asked(first, aliases, target)
 }
 
-fn is_asked(first: &Name, aliases: &[LentRecord<'_>], name: &Name) -> bool
+fn is_asked(first: &NameView<'_>, aliases: &[LentRecord<'_>], name: &Name) -> bool
     ensures { result ≡ list_any (is_same_name name.now) (asked_along first.now aliases.now) }
 {
-    name.same(first) || is_target(aliases, name)
+    name.view().same(first) || is_target(aliases, name)
 }
 
 /// Whether an alias leads to a name.

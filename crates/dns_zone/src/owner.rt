@@ -16,7 +16,7 @@ impl Zone {
     {
         let map = self.map();
         let mut room = [0u8; 255];
-        let key = ZoneKey::new(map.origin(), name, &mut room);
+        let key = ZoneKey::new(map.origin(), name.view(), &mut room);
         match map.sets(&key, 0) {
             None => false,
             Some(sets) => has_another_set(sets.as_slice(), rtype),

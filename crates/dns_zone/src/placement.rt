@@ -5,15 +5,13 @@ ghost use Rattle.std.specs.Prelude.{◌≡◌, ◌&&◌, ◌||◌, not, true, Ok
 ghost use Rattle.std.specs.List.{list_any};
 ghost use Rattle.dns_name.specs.Name.{is_same_name, is_at_or_below};
 ghost use Rattle.dns_wire.specs.declared.record_type.TheConstants.{SOA};
-ghost use Rattle.dns_zone_map.specs.SameData.{data_eq};
 ghost use Rattle.dns_zone_map.specs.Zone.{is_type, IsEntry, IsSoFar};
-ghost use Rattle.dns_zone.specs.ZoneText.{is_beside_alias, placed, TellsKind};
-ghost use Rattle.dns_zone.specs.Beside.{is_other, stands_beside};
+ghost use Rattle.dns_zone.specs.ZoneText.{placed, TellsKind};
 
 use crate::zone_text::{LineFault, ZoneTextKind};
-use dns_wire::record_type::{CNAME, SOA};
-use dns_wire::{Data, Record};
-use dns_zone_map::{OwnerSets, ZoneKey, ZoneMap};
+use dns_wire::Record;
+use dns_wire::record_type::SOA;
+use dns_zone_map::{Beside, ZoneMap};
 use std::alloc::Global;
 
 /// Adds a record, if it may stand beside these: only those of its owner, and the SOA, are looked at.
@@ -34,11 +32,10 @@ pub(crate) fn place(alloc: Global, map: &mut ZoneMap, one: Record) -> Result<(),
     if is_soa_too_many(map, &one) {
         return Err(LineFault::Kind(ZoneTextKind::NotOneSoa));
     }
-    if has_alias_beside(map, &one) {
-        return Err(LineFault::Kind(ZoneTextKind::AliasBesideOther));
+    match map.put_beside(alloc, one)? {
+        Beside::New | Beside::Replaced => Ok(()),
+        Beside::Clash => Err(LineFault::Kind(ZoneTextKind::AliasBesideOther)),
     }
-    map.put(alloc, one)?;
-    Ok(())
 }
 
 /// Whether a record is an SOA away from the origin, or a second one.
@@ -56,50 +53,4 @@ pub(crate) fn has_soa(map: &ZoneMap) -> bool
     ensures { result ≡ list_any (is_type SOA) map.now.records }
 {
     map.set(map.origin(), SOA).is_some()
-}
-
-/// Whether a record would stand beside an alias of its name, or be one beside others.
-fn has_alias_beside(map: &ZoneMap, one: &Record) -> bool
-    requires { is_at_or_below one.now.name map.now.origin ≡ true }
-    ensures { result ≡ list_any (is_beside_alias one.now) map.now.records }
-{
-    let mut room = [0u8; 255];
-    let key = ZoneKey::new(map.origin(), &one.name, &mut room);
-    match map.sets(&key, 0) {
-        None => false,
-        Some(sets) => stands_beside(sets, one),
-    }
-}
-
-/// Whether a record would stand beside an alias among these sets of its name, or be one beside them.
-fn stands_beside(sets: &OwnerSets, one: &Record) -> bool
-    ensures { result ≡ stands_beside sets.now one.now }
-{
-    if one.rtype != CNAME {
-        return sets.set(CNAME).is_some();
-    }
-    for set in sets.as_slice() {
-        if has_other(set.records().as_slice(), one) {
-            return true;
-        }
-    }
-    false
-}
-
-/// Whether a record of these is another than this one.
-fn has_other(records: &[Record], one: &Record) -> bool
-    ensures { result ≡ list_any (is_other one.now) records.now }
-{
-    for other in records {
-        if other.rtype != one.rtype || !same_data(&other.rdata, &one.rdata) {
-            return true;
-        }
-    }
-    false
-}
-
-fn same_data(one: &Data, other: &Data) -> bool
-    ensures { result ≡ data_eq one.now other.now }
-{
-    one.same_data(other)
 }

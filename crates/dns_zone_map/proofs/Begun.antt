@@ -34,7 +34,7 @@ pub whole_star : (origin name : List (List ℕ)) (front key : List ℕ) → fron
 whole_star origin name front key at is = subst HasWholeLabel (sym is) (longer front (1 ∷ 42 ∷ []) (whole_key origin name front at) (omega arith))
 
 -- so what begins with the key has its first label
-same_label : (key rest : List ℕ) → HasWholeLabel key → 0 < length key → first_label (key ++ rest) ≡ first_label key
+pub same_label : (key rest : List ℕ) → HasWholeLabel key → 0 < length key → first_label (key ++ rest) ≡ first_label key
 same_label [] rest h some = absurd (omega (arith, some))
 same_label (size ∷ bytes) rest h some = take-append-le size bytes rest h
 
@@ -81,11 +81,6 @@ begun_in ts t key place zone there p view whole some is =
     is
     ∙ sym (ap (list_any (begins key)) (sym view ∙ p.was) ∙ any_behind key p.front (t.entries ++ p.back) (none_begins (length ts) key p.front whole some p.led_before)
     ∙ any_before key t.entries p.back (none_begins (length ts) key p.back whole some p.led_behind))
-
--- what there is at a name that owns nothing
-pub none_at : (es : Entries) (key : List ℕ) (there : Bool) (found : Presence) → [] ≡ sets_or_none (lookup (is_key key) es) → there ≡ is_begun es key → found ≡ (if there then Empty else Absent) → IsPresenceAt es key found
-none_at es key true found none is how = subst (IsPresenceAt es key) (sym how) (none, sym is)
-none_at es key false found none is how = subst (IsPresenceAt es key) (sym how) (sym is)
 
 -- nothing begins so where there is nothing
 pub none_begun : (es : Entries) (key : List ℕ) → length es ≡ 0 → false ≡ is_begun es key

@@ -1,6 +1,6 @@
 -- A record that is put into the map: where its name stands.
 use Rattle.std.proofs.Common.{◌≡◌, Ordering, ℕ, Bool, true, false, List, [], ◌∷◌, ◌++◌, refl, sym, ap, ◌∙◌, subst, inl, inr, Some, None, Vec, Global, Result, Ok, Err, IfOk, OnErr}
-use Rattle.std.specs.Prelude.{Option, cond, IfSome}
+use Rattle.std.specs.Prelude.{Option, cond, IfSome, if◌then◌else◌}
 use Rattle.std.specs.List.{AllByRecursion}
 use Rattle.std.specs.Str.{bytes_eq}
 use Rattle.std.specs.Map.{lookup, keys_of, remove_entry, set_value}
@@ -16,7 +16,11 @@ use Rattle.std.proofs.lemmas.Map.Text.{is_eq-slice_cmp}
 use Rattle.std.proofs.lemmas.Map.Steps.{set_value_same}
 use Rattle.dns_wire.specs.declared.record.Record.{Record}
 use Rattle.dns_zone_map.specs.declared.sets.RecordSet.{RecordSet}
-use Rattle.dns_zone_map.specs.Sets.{TypesRise}
+use Rattle.dns_zone_map.specs.declared.beside.Beside.{Beside}
+use Rattle.dns_zone_map.specs.declared.beside.Beside.TheVariants.{New, Replaced, Clash}
+use Rattle.dns_zone_map.specs.Zone.{is_type}
+use Rattle.dns_zone_map.specs.Sets.{TypesRise, sets_or_none}
+use Rattle.dns_zone_map.specs.Beside.{stands_beside, IsPutInSets, IsPutAt}
 use Rattle.dns_zone_map.proofs.Lent.{looked}
 use Rattle.dns_zone_map.specs.Insertion.{PutInSets, PutUnder, IsAdded, new_set}
 
@@ -152,9 +156,28 @@ module _ (key : List ℕ) (number : ℕ) (one : Record) (before after : Entries)
         replaced = refl;
       })
 
+  -- so it is where it may stand beside them
+  may_stand : (found : Option (List RecordSet)) (sets : List RecordSet) (stands : Bool) → Some sets ≡ found → stands_beside sets one ≡ stands → stands_beside (sets_or_none found) one ≡ stands
+  may_stand found sets stands at is = subst (λ (f : Option (List RecordSet)). stands_beside (sets_or_none f) one ≡ stands) at is
+
+  pub beside_name : {E : Type 0} (sets changed : List RecordSet) (result : Result Beside E) → Some sets ≡ lookup finds before → after ≡ set_value finds before changed → IfOk result (IsPutInSets number one sets changed) → IfOk result (IsPutAt key number one before after)
+  beside_name sets changed (Err e) at is put = tt
+  beside_name {E} sets changed (Ok New) at is put = (may_stand (lookup finds before) sets false at put.0, under_name {E = E} sets changed (Ok None) at is put.1)
+  beside_name {E} sets changed (Ok Replaced) at is put = (may_stand (lookup finds before) sets false at put.0, (put.1.0, under_name {E = E} sets changed (Ok (Some put.1.0)) at is put.1.1))
+  beside_name sets changed (Ok Clash) at is put =
+      (may_stand (lookup finds before) sets true at put.0, is ∙ ap (set_value finds before) put.1 ∙ set_value_same finds before sets (sym at))
+
+  none_beside : (alias : Bool) → (if alias then false else false) ≡ false
+  none_beside true = refl
+  none_beside false = refl
+
+  pub beside_new_name : (sets : List RecordSet) → None ≡ lookup finds before → sets ≡ new_set number one ∷ [] → IsAdded key sets before after → IsPutAt key number one before after New
+  beside_new_name sets at new added =
+      (subst (λ (f : Option (List RecordSet)). stands_beside (sets_or_none f) one ≡ false) at (none_beside (is_type 5 one)), under_new_name sets at new added)
+
   -- or nothing was changed
-  pub as_before : {E : Type 0} (sets changed : List RecordSet) (result : Result (Option Record) E) → Some sets ≡ lookup finds before → after ≡ set_value finds before changed → OnErr result (changed ≡ sets) → OnErr result (after ≡ before)
-  as_before sets changed (Ok old) at is same = tt
+  pub as_before : {T E : Type 0} (sets changed : List RecordSet) (result : Result T E) → Some sets ≡ lookup finds before → after ≡ set_value finds before changed → OnErr result (changed ≡ sets) → OnErr result (after ≡ before)
+  as_before sets changed (Ok end) at is same = tt
   as_before sets changed (Err e) at is same = is ∙ ap (set_value finds before) same ∙ set_value_same finds before sets (sym at)
 
   -- the sets that are found rise

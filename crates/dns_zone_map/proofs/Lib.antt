@@ -7,12 +7,15 @@ pub mod Exists
 pub mod Outside
 pub mod Putting
 pub mod Rivals
+pub mod Owned
+pub mod Besides
 pub mod InSets
 pub mod InEntries
 pub mod Rest
 pub mod Middle
 pub mod PutSets
 pub mod Put
+pub mod PutBeside
 pub mod SameOrder
 pub mod Serials
 pub mod Anew
@@ -23,6 +26,7 @@ pub mod Begun
 pub mod Taken
 pub mod Existing
 pub mod Written
+pub mod Ways
 pub mod Reading
 pub mod Counted
 pub mod Left

@@ -11,7 +11,10 @@ use Rattle.std.proofs.lemmas.Slice.Eq.{bytes_eq-Decides}
 use Rattle.dns_wire.specs.declared.record.Record.{Record}
 use Rattle.dns_zone_map.specs.declared.sets.RecordSet.{RecordSet}
 use Rattle.dns_zone_map.specs.Former.{blanked, HasName}
+use Rattle.dns_zone_map.specs.declared.beside.Beside.{Beside}
+use Rattle.dns_zone_map.specs.declared.beside.Beside.TheVariants.{New, Replaced, Clash}
 use Rattle.dns_zone_map.specs.Insertion.{PutUnder, new_set}
+use Rattle.dns_zone_map.specs.Beside.{stands_beside, IsPutAt}
 use Rattle.dns_zone_map.specs.Removal.{is_key, ChangedIn, ChangedFrom, SetTaken, IsTakenFrom, AreFreed, IsFreedFrom, AreCleared, IsClearedFrom, OneTaken, IsOneTakenFrom, HasNoEqual}
 use Rattle.dns_zone_map.specs.Serial.{IsSerialSetAt, IsSerialSet}
 use Rattle.dns_zone_map.specs.Sets.{set_in, in_sets, sets_or_none}
@@ -315,6 +318,22 @@ module _ (ts : List TreeOf) (t u : TreeOf) (key : List ℕ) (place : ℕ) (p : P
   pub table_put_ok : {E : Type 0} (number : ℕ) (one : Record) (result : Result (Option Record) E) → IfOk result (λ old. PutUnder key number one t.entries u.entries old) → OnErr result (u.entries ≡ t.entries) → IsTable (slice_set ts place u)
   table_put_ok number one (Ok old) h e = table_put number one old h
   table_put_ok number one (Err e) h same = table_same same
+
+  -- the same where it may stand beside what its name owns
+  stands_there : (one : Record) (stands : Bool) → stands_beside (sets_or_none (lookup (is_key key) t.entries)) one ≡ stands → stands_beside (sets_or_none (lookup (is_key key) before)) one ≡ stands
+  stands_there one stands h = subst (λ (found : Option (List RecordSet)). stands_beside (sets_or_none found) one ≡ stands) (sym seen) h
+
+  pub beside_ok : {E : Type 0} (number : ℕ) (one : Record) (result : Result Beside E) → IfOk result (IsPutAt key number one t.entries u.entries) → IfOk result (IsPutAt key number one before after)
+  beside_ok number one (Ok New) h = (stands_there one false h.0, put number one None h.1)
+  beside_ok number one (Ok Replaced) h = (stands_there one false h.0, (h.1.0, put number one (Some h.1.0) h.1.1))
+  beside_ok number one (Ok Clash) h = (stands_there one true h.0, same h.1)
+  beside_ok number one (Err e) h = tt
+
+  pub table_beside_ok : {E : Type 0} (number : ℕ) (one : Record) (result : Result Beside E) → IfOk result (IsPutAt key number one t.entries u.entries) → OnErr result (u.entries ≡ t.entries) → IsTable (slice_set ts place u)
+  table_beside_ok number one (Ok New) h e = table_put number one None h.1
+  table_beside_ok number one (Ok Replaced) h e = table_put number one (Some h.1.0) h.1.1
+  table_beside_ok number one (Ok Clash) h e = table_same h.1
+  table_beside_ok number one (Err e) h same = table_same same
 
   -- a name is there
   pub named : HasName key t.entries u.entries → HasName key before after

@@ -59,14 +59,10 @@ module _ (origin : List (List ℕ)) (es : List (Vec ℕ Global × List RecordSet
   there_at key there is begun = exists_at origin name key es zone there view (subst (λ o. is_at_or_below name o ≡ true) same within) (is ∙ ap (λ o. key_of o name) same) tree.each begun
 
   -- what there is at the name
-  presence_at : (key : List ℕ) (found : Presence) → KeysApart es → key ≡ key_of placed.origin name → IsPresenceAt es key found → IsPresence zone.records name found
+  pub presence_at : (key : List ℕ) (found : Presence) → KeysApart es → key ≡ key_of placed.origin name → IsPresenceAt es key found → IsPresence zone.records name found
   presence_at key (Owner sets) apart is h = (sets_at key (Some sets) apart is h.0, h.1)
   presence_at key Empty apart is h = (sets_at key None apart is h.0, sym (there_at key true is (sym h.1)))
   presence_at key Absent apart is h = sym (there_at key false is (sym h))
-
-  pub presence_ok : {E : Type 0} (key : List ℕ) (result : Result Presence E) → KeysApart es → key ≡ key_of placed.origin name → IfOk result (IsPresenceAt es key) → IfOk result (IsPresence zone.records name)
-  presence_ok key (Ok found) apart is h = presence_at key found apart is h
-  presence_ok key (Err e) apart is h = tt
 
 -- the sets of the origin are at the empty key
 pub top_sets_at : (origin : List (List ℕ)) (es : List (Vec ℕ Global × List RecordSet)) (next count : ℕ) (zone : Contents) → record { origin = origin; records = list_of (in_entries es) } ≡ zone → IsTree origin es next count

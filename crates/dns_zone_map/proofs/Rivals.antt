@@ -11,7 +11,7 @@ use Rattle.dns_zone_map.specs.Changes.{put_over, AtMostOne}
 use Rattle.dns_zone_map.proofs.SameData.{lists_eq-Decides, data_eq-Decides}
 
 -- that two names are equal can be said either way round
-same_turned : (a b : List (List ℕ)) → is_same_name a b ≡ is_same_name b a
+pub same_turned : (a b : List (List ℕ)) → is_same_name a b ≡ is_same_name b a
 same_turned a b =
     same_from_decides (is_same_name a b) (is_same_name b a) (lists_eq-Decides (fold_of a) (fold_of b))
     (λ passed. sym ((lists_eq-Decides (fold_of b) (fold_of a)).0 passed), λ same. (lists_eq-Decides (fold_of b) (fold_of a)).1 (sym same))
@@ -23,7 +23,7 @@ same_on a b c passed =
     rw same refl
 
 -- data is equal either way round
-data_turned : (a b : Data) → data_eq a b ≡ data_eq b a
+pub data_turned : (a b : Data) → data_eq a b ≡ data_eq b a
 data_turned a b =
     same_from_decides (data_eq a b) (data_eq b a) (data_eq-Decides a b)
     (λ passed. sym ((data_eq-Decides b a).0 passed), λ same. (data_eq-Decides b a).1 (sym same))
@@ -32,7 +32,7 @@ data_on : (a b c : Data) → data_eq a b ≡ true → data_eq b c ≡ data_eq a 
 data_on a b c passed = subst (λ other. data_eq other c ≡ data_eq a c) ((data_eq-Decides a b).0 passed) refl
 
 -- types are equal either way round
-type_turned : (r s : Record) → (r.rtype == s.rtype) ≡ (s.rtype == r.rtype)
+pub type_turned : (r s : Record) → (r.rtype == s.rtype) ≡ (s.rtype == r.rtype)
 type_turned r s =
     same_from_decides (r.rtype == s.rtype) (s.rtype == r.rtype) (Decides-eqb r.rtype s.rtype)
     (λ passed. sym ((Decides-eqb s.rtype r.rtype).0 passed), λ same. (Decides-eqb s.rtype r.rtype).1 (sym same))

@@ -263,7 +263,7 @@ and-second true b h = h
 and-second false b h = absurd cc
 
 -- the names above a name of the zone, down to the origin, are of the zone
-above_in : (origin name : List (List ℕ)) (at : ℕ) → is_at_or_below name origin ≡ true → length origin + at ≤ length name → is_at_or_below (drop at name) origin ≡ true
+pub above_in : (origin name : List (List ℕ)) (at : ℕ) → is_at_or_below name origin ≡ true → length origin + at ≤ length name → is_at_or_below (drop at name) origin ≡ true
 above_in origin name at within h =
     let size : length (drop at name) ≡ length name - at = length-drop at name in
     let a : nat_le (length origin) (length (drop at name)) ≡ true = le-leb (length origin) (length (drop at name)) (omega (arith, size)) in

@@ -11,7 +11,9 @@ pub mod Table
 pub mod Changes
 pub mod Insertion
 pub mod Removal
+pub mod Beside
 pub mod Serial
 pub mod Mapped
 pub mod Former
 pub mod Presence
+pub mod Walk

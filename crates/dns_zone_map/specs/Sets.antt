@@ -20,6 +20,19 @@ set_in rtype (s ∷ ss) = if s.rtype == rtype then Some s else set_in rtype ss
 abbrev pub records_in : RecordSet → List Record
 records_in s = s.records
 
+-- the records of a set, if there is one
+abbrev pub records_or_none : Option RecordSet → List Record
+records_or_none None = []
+records_or_none (Some s) = s.records
+
+-- the records of all sets, in their order
+abbrev pub in_all : List RecordSet → List Record
+in_all = flat_map records_in
+
+-- the records of one type
+abbrev pub of_type : List RecordSet → ℕ → List Record
+of_type sets rtype = records_or_none (set_in rtype sets)
+
 -- a list that is not empty
 abbrev pub some_of : List Record → Option (List Record)
 some_of [] = None

@@ -5,7 +5,7 @@ ghost use Rattle.std.specs.Char.{to_ascii_lowercase};
 ghost use Rattle.dns_name.specs.Name.{IsName, IsLabel, label_bytes, labels_bytes, is_at_or_below};
 ghost use Rattle.dns_zone_map.specs.Keys.{key_of};
 
-use dns_name::Name;
+use dns_name::{Name, NameView};
 use std::marker::Model;
 
 /// How many bytes a key takes at most: fewer than a name, which has its zero byte and the labels of the origin besides.
@@ -18,7 +18,7 @@ const MAX_KEY_LEN: usize = 255;
 #[derive(Drop)]
 pub struct ZoneKey<'a> {
     origin: &'a Name,
-    name: &'a Name,
+    name: NameView<'a>,
     /// The key of the name, at the end.
     room: &'a [u8],
     start: usize,
@@ -32,20 +32,20 @@ impl<'a> Model for ZoneKey<'a> {
 
     ghost Value = { Placed };
 
-    ghost view = { λ k. record { origin = k.origin.now; name = k.name.now } };
+    ghost view = { λ k. record { origin = k.origin.now; name = k.name } };
 
-    ghost invariant = { λ k. HasKey k.origin.now k.name.now k.room.now k.start k.depth };
+    ghost invariant = { λ k. HasKey k.origin.now k.name k.room.now k.start k.depth };
 }
 
 impl<'a> ZoneKey<'a> {
     /// The keys of a name at the origin or below it, in whatever case. They are written into the room, whatever that
     /// holds. Takes no memory.
-    pub fn new(origin: &'a Name, name: &'a Name, room: &'a mut [u8; 255]) -> ZoneKey<'a>
-        requires { is_at_or_below name.now origin.now ≡ true }
+    pub fn new(origin: &'a Name, name: NameView<'a>, room: &'a mut [u8; 255]) -> ZoneKey<'a>
+        requires { is_at_or_below name origin.now ≡ true }
         ensures origin { result.origin ≡ origin.now }
-        ensures name { result.name ≡ name.now }
+        ensures name { result.name ≡ name.entry }
     {
-        let written = write_labels(origin, name, room);
+        let written = write_labels(origin, &name, room);
         ZoneKey {
             origin,
             name,
@@ -62,6 +62,15 @@ impl<'a> ZoneKey<'a> {
         self.depth
     }
 
+    /// The key of the name.
+    pub(crate) fn whole(&self) -> &[u8]
+        ensures key { result.now ≡ key_of self.now.origin self.now.name }
+        ensures within { is_at_or_below self.now.name self.now.origin ≡ true }
+        ensures short { length result.now ≤ 255 }
+    {
+        behind(self.room, self.start)
+    }
+
     /// The key of the name without its first `labels_dropped` labels.
     pub(crate) fn above(&self, labels_dropped: usize) -> &[u8]
         requires { length self.now.origin + labels_dropped ≤ length self.now.name }
@@ -69,7 +78,7 @@ impl<'a> ZoneKey<'a> {
         ensures within { is_at_or_below (drop labels_dropped self.now.name) self.now.origin ≡ true }
         ensures short { length result.now ≤ 255 }
     {
-        let end = cut_back(self.name, labels_dropped, MAX_KEY_LEN);
+        let end = cut_back(&self.name, labels_dropped, MAX_KEY_LEN);
         part(self.room, self.start, end)
     }
 }
@@ -98,6 +107,22 @@ fn part(bytes: &[u8], start: usize, end: usize) -> &[u8]
     &bytes[start..end]
 }
 
+/// The bytes before a place.
+pub(crate) fn front_of(bytes: &[u8], end: usize) -> &[u8]
+    requires { end ≤ length bytes.now }
+    ensures { result.now ≡ take end bytes.now }
+{
+    &bytes[..end]
+}
+
+/// The bytes from a place on.
+pub(crate) fn behind(bytes: &[u8], start: usize) -> &[u8]
+    requires { start ≤ length bytes.now }
+    ensures { result.now ≡ drop start bytes.now }
+{
+    &bytes[start..]
+}
+
 /// Writes the key of a name at the end of a room, and gives the place where it starts.
 pub(crate) fn write_key(origin: &Name, name: &Name, room: &mut [u8]) -> usize
     requires within { is_at_or_below name.now origin.now ≡ true }
@@ -107,7 +132,7 @@ pub(crate) fn write_key(origin: &Name, name: &Name, room: &mut [u8]) -> usize
     ensures key { drop result room.new ≡ key_of origin.now name.now }
     ensures named { IsName name.now }
 {
-    write_labels(origin, name, room).start
+    write_labels(origin, &name.view(), room).start
 }
 
 /// What was written of a key.
@@ -120,7 +145,7 @@ struct Written {
 }
 
 /// Writes the key of a name at the end of a room: label by label, until only those of the origin are left.
-fn write_labels(origin: &Name, name: &Name, room: &mut [u8]) -> Written
+fn write_labels(origin: &Name, name: &NameView<'_>, room: &mut [u8]) -> Written
     requires within { is_at_or_below name.now origin.now ≡ true }
     requires room { length room.old ≡ 255 }
     ensures size { length room.new ≡ 255 }
@@ -144,7 +169,7 @@ fn write_labels(origin: &Name, name: &Name, room: &mut [u8]) -> Written
 }
 
 /// Where the key of a name starts.
-fn first_place(origin: &Name, name: &Name) -> usize
+fn first_place(origin: &Name, name: &NameView<'_>) -> usize
     requires { is_at_or_below name.now origin.now ≡ true }
     ensures is { result + length (labels_bytes name.now) ≡ 255 + length (labels_bytes origin.now) }
     ensures named { IsName name.now }
@@ -179,7 +204,7 @@ fn copy_folded(room: &mut [u8], label: &[u8])
 }
 
 /// The place that is before another by as many bytes as the first labels of a name take.
-fn cut_back(name: &Name, labels: usize, end: usize) -> usize
+fn cut_back(name: &NameView<'_>, labels: usize, end: usize) -> usize
     requires labels { labels ≤ length name.now }
     requires fits { length (labels_bytes name.now) ≤ end }
     ensures { result + length (labels_bytes name.now) ≡ end + length (labels_bytes (drop labels name.now)) }

@@ -1,20 +1,20 @@
 //! The names of a map with their sets: a table of trees.
 
 ghost use Rattle.std.specs.Prelude.{◌≡◌, ◌&&◌, ◌<◌, ◌^◌, [], length, IfOk, IfSome, OnOk, OnErr};
-ghost use Rattle.std.specs.Prelude.{nat_eq as eqb};
 ghost use Rattle.std.specs.Option.{option_copied, IsSome};
 ghost use Rattle.std.specs.Map.{lookup, set_value};
-ghost use Rattle.std.specs.List.{list_any, starts_with, AllByRecursion};
+ghost use Rattle.std.specs.List.{AllByRecursion};
 ghost use Rattle.dns_zone_map.specs.Sets.{sets_or_none, are_some, ArePaired, TypesRise};
 ghost use Rattle.dns_zone_map.specs.Tree.{in_entries, KeysApart, OwnsSame};
-ghost use Rattle.dns_zone_map.specs.Table.{first_label, HasWholeLabel, hash_from, place_of, all_in};
+ghost use Rattle.dns_zone_map.specs.Table.{first_label, hash_from, place_of, all_in};
 ghost use Rattle.dns_zone_map.specs.Removal.{is_key, IsTakenFrom, IsFreedFrom, IsClearedFrom, IsOneTakenFrom};
 ghost use Rattle.dns_zone_map.specs.Insertion.{PutUnder};
+ghost use Rattle.dns_zone_map.specs.Beside.{IsPutAt};
 ghost use Rattle.dns_zone_map.specs.Serial.{IsSerialSetAt};
 ghost use Rattle.dns_zone_map.specs.Former.{blanked, HasName};
-ghost use Rattle.dns_zone_map.specs.Presence.{IsPresenceAt, is_begun};
+ghost use Rattle.dns_zone_map.specs.Walk.{HasAllBehind};
 
-use crate::presence::{Presence, without_sets};
+use crate::beside::Beside;
 use crate::sets::{OwnerSets, RecordSet};
 use crate::tree;
 use crate::tree::Tree;
@@ -103,22 +103,13 @@ impl Names {
         tree::copied_sets(alloc, &self.trees[place], key)
     }
 
-    /// What there is at the name with this key. Takes memory in a tree of many names alone.
-    pub(crate) fn presence(&self, alloc: Global, key: &[u8]) -> Result<Presence<'_>, OutOfMemory>
-        requires { HasWholeLabel key.now }
-        ensures { IfOk result (IsPresenceAt self.now key.now) }
+    /// The tree in which the names with the first label of this key stand.
+    pub(crate) fn tree_of(&self, key: &[u8]) -> &Tree
+        ensures tree { HasAllBehind (first_label key.now) result.now.entries self.now }
+        ensures apart { KeysApart self.now }
     {
         let place = place_of(self.trees.len(), key);
-        let tree = &self.trees[place];
-        match tree::sets_at(tree, key) {
-            Some(sets) => Ok(Presence::Owner(sets)),
-            None => {
-                if key.is_empty() {
-                    return Ok(without_sets(is_any_begun(alloc, &self.trees, key)?));
-                }
-                Ok(without_sets(tree::is_begun(alloc, tree, key)?))
-            }
-        }
+        &self.trees[place]
     }
 
     /// Puts a record of the name with this key in the place of its rival, which is given back, or at the end of its set with
@@ -138,6 +129,25 @@ impl Names {
         let place = place_of(self.trees.len(), key);
         let tree = &mut self.trees[place];
         tree::put_under(alloc, tree, key, number, one)
+    }
+
+    /// Puts a record of the name with this key as `put_under` does, where it may stand beside what the name owns; where it may
+    /// not, or memory runs out, the names are as before.
+    pub(crate) fn put_beside(
+        &mut self,
+        alloc: Global,
+        key: &[u8],
+        number: u64,
+        one: Record,
+    ) -> Result<Beside, OutOfMemory>
+        requires { AllByRecursion (λ e. TypesRise e.1) self.old }
+        ensures put { IfOk result (IsPutAt key.now number one self.old self.new) }
+        ensures others { IsSome (lookup (is_key key.now) self.old) → blanked key.now self.new ≡ blanked key.now self.old }
+        ensures err { OnErr result (self.new ≡ self.old) }
+    {
+        let place = place_of(self.trees.len(), key);
+        let tree = &mut self.trees[place];
+        tree::put_beside(alloc, tree, key, number, one)
     }
 
     /// Takes a set away from the name with this key, which stays.
@@ -233,18 +243,6 @@ fn trees_for(names: usize) -> usize
     let few = TREES_A_NAME * names.min(FEW);
     let many = names / NAMES_A_TREE;
     (few.max(many) + 1).min(MOST_TREES)
-}
-
-/// Whether a key of some tree begins with this one at which there are sets.
-fn is_any_begun(alloc: Global, trees: &[Tree], key: &[u8]) -> Result<bool, OutOfMemory>
-    ensures { IfOk result (λ there. there ≡ is_begun (all_in trees.now) key.now) }
-{
-    for tree in trees {
-        if tree::is_begun(alloc, tree, key)? {
-            return Ok(true);
-        }
-    }
-    Ok(false)
 }
 
 /// The place of the tree, among so many, in which a key stands.

@@ -9,10 +9,13 @@ ghost use Rattle.dns_zone_map.specs.Sets.{sets_or_none, are_some, ArePaired, Typ
 ghost use Rattle.dns_zone_map.specs.Tree.{in_entries, OwnsSame};
 ghost use Rattle.dns_zone_map.specs.Removal.{is_key, IsTakenFrom, IsFreedFrom, IsClearedFrom, IsOneTakenFrom};
 ghost use Rattle.dns_zone_map.specs.Insertion.{PutUnder, IsAdded};
+ghost use Rattle.dns_zone_map.specs.Beside.{IsPutAt};
 ghost use Rattle.dns_zone_map.specs.Serial.{IsSerialSetAt};
 ghost use Rattle.dns_zone_map.specs.Former.{blanked, HasName};
-ghost use Rattle.dns_zone_map.specs.Presence.{is_begun};
+ghost use Rattle.dns_zone_map.specs.Presence.{IsPresenceAt, is_begun};
 
+use crate::beside::{Beside, put_among};
+use crate::presence::{Presence, without_sets};
 use crate::sets::{OwnerSets, RecordSet};
 use dns_io::OutOfMemory;
 use dns_wire::Record;
@@ -54,8 +57,23 @@ pub(crate) fn copied_sets(alloc: Global, names: &Tree, key: &[u8]) -> Result<Own
     }
 }
 
+/// What there is at the name with this key. Takes memory in a tree of many names alone.
+#[inline]
+pub(crate) fn presence_in<'a>(
+    alloc: Global,
+    names: &'a Tree,
+    key: &[u8],
+) -> Result<Presence<'a>, OutOfMemory>
+    ensures { IfOk result (IsPresenceAt names.now.entries key.now) }
+{
+    match sets_at(names, key) {
+        Some(sets) => Ok(Presence::Owner(sets)),
+        None => Ok(without_sets(is_begun(alloc, names, key)?)),
+    }
+}
+
 /// Whether a key begins with this one at which there are sets. Takes memory in a tree of many names alone.
-pub(crate) fn is_begun(alloc: Global, names: &Tree, key: &[u8]) -> Result<bool, OutOfMemory>
+fn is_begun(alloc: Global, names: &Tree, key: &[u8]) -> Result<bool, OutOfMemory>
     ensures { IfOk result (λ there. there ≡ is_begun names.now.entries key.now) }
 {
     let count = names.len();
@@ -150,6 +168,39 @@ pub(crate) fn put_under(
             Ok(sets) => {
                 place.insert(sets);
                 Ok(None)
+            }
+            Err(fault) => {
+                place.insert(OwnerSets::none(alloc));
+                names.remove(key);
+                Err(fault)
+            }
+        },
+    }
+}
+
+/// Puts a record of the name with this key as `put_under` does, where it may stand beside what the name owns (RFC 1034 3.6.2);
+/// where it may not, or memory runs out, the names are as before.
+pub(crate) fn put_beside(
+    alloc: Global,
+    names: &mut Tree,
+    key: &[u8],
+    number: u64,
+    one: Record,
+) -> Result<Beside, OutOfMemory>
+    requires { AllByRecursion (λ e. TypesRise e.1) names.old.entries }
+    ensures put { IfOk result (IsPutAt key.now number one names.old.entries names.new.entries) }
+    ensures others { IsSome (lookup (is_key key.now) names.old.entries)
+        → blanked key.now names.new.entries ≡ blanked key.now names.old.entries }
+    ensures err { OnErr result (names.new.entries ≡ names.old.entries) }
+{
+    let mut stored = Vec::with_capacity(alloc, key.len())?;
+    stored.extend_from_slice(key)?;
+    match names.entry(stored)? {
+        Entry::Occupied(held) => put_among(alloc, held.into_mut(), number, one),
+        Entry::Vacant(place) => match OwnerSets::one(alloc, number, one) {
+            Ok(sets) => {
+                place.insert(sets);
+                Ok(Beside::New)
             }
             Err(fault) => {
                 place.insert(OwnerSets::none(alloc));

@@ -6,24 +6,27 @@ ghost use Rattle.std.specs.Map.{lookup};
 ghost use Rattle.std.specs.List.{list_any, starts_with, AllByRecursion};
 ghost use Rattle.std.specs.Prelude.{nat_eq as eqb};
 ghost use Rattle.dns_name.specs.Name.{is_same_name};
-ghost use Rattle.dns_zone_map.specs.Keys.{star_above};
 ghost use Rattle.dns_zone_map.specs.Mapped.{contents, begun, kept, undone};
 ghost use Rattle.dns_zone_map.specs.Former.{blanked};
 ghost use Rattle.dns_zone_map.specs.Zone.{is_in_set, set_of, serial_or, serial_of, first_serial, is_equal, is_rival, IsEntry, IsSoFar};
 ghost use Rattle.dns_zone_map.specs.Changes.{put_over, first_that, bears, is_kept_type, is_free_at, is_taken_with_name, is_taken_with_set, set_serial};
 ghost use Rattle.dns_zone_map.specs.Serial.{IsSerialSetAt};
-ghost use Rattle.dns_zone_map.specs.Presence.{IsPresence};
 ghost use Rattle.dns_zone_map.specs.Sets.{some_of, sets_or_none, are_some, AreSetsOf, ArePaired, TypesRise};
 ghost use Rattle.dns_zone_map.specs.Removal.{is_key, IsTakenFrom, IsFreedFrom, IsClearedFrom, IsOneTakenFrom};
 ghost use Rattle.dns_zone_map.specs.Tree.{in_entries};
 ghost use Rattle.dns_zone_map.specs.Insertion.{PutUnder};
+ghost use Rattle.dns_zone_map.specs.Beside.{IsPutBeside};
+ghost use Rattle.dns_zone_map.specs.Table.{first_label};
+ghost use Rattle.dns_zone_map.specs.Walk.{Tells};
 
+use crate::beside::Beside;
 use crate::former::{Undoing, keep_former, put_all_back, sweep, sweep_unless};
-use crate::key::{ZoneKey, write_key, write_star};
+use crate::key::{ZoneKey, behind, write_key};
 use crate::listing::{copied, in_order};
 use crate::names::Names;
-use crate::presence::Presence;
 use crate::sets::{OwnerSets, RecordSet, is_kept_type};
+use crate::tree::Tree;
+use crate::walk::Walk;
 use dns_io::OutOfMemory;
 use dns_name::Name;
 use dns_wire::record_type::SOA;
@@ -202,6 +205,23 @@ impl ZoneMap {
         self.put_next(alloc, one)
     }
 
+    /// Puts a record as `put` does, where it may stand beside what its name owns: it stands beside no alias of its name, nor is it
+    /// one beside others (RFC 1034 3.6.2). Where it may not, or memory runs out, nothing is changed.
+    pub fn put_beside(&mut self, alloc: Global, one: Record) -> Result<Beside, OutOfMemory>
+        requires entry { IsEntry self.old.origin one }
+        requires so_far { IsSoFar self.old.origin self.old.records }
+        ensures origin { self.new.origin ≡ self.old.origin }
+        ensures put { IfOk result (IsPutBeside one self.old.records self.new.records) }
+        ensures so_far { IsSoFar self.new.origin self.new.records }
+        ensures before { self.new.before ≡ self.old.before }
+        ensures err { OnErr result (self.new ≡ self.old) }
+    {
+        if self.next == u64::MAX && self.undoing.is_none() {
+            self.number_anew(alloc)?;
+        }
+        self.put_beside_next(alloc, one)
+    }
+
     /// Numbers the records anew, from 0 in their order; where memory runs out nothing is changed.
     fn number_anew(&mut self, alloc: Global) -> Result<(), OutOfMemory>
         requires so_far { IsSoFar self.old.origin self.old.records }
@@ -262,6 +282,36 @@ impl ZoneMap {
                 self.count += 1;
                 Ok(None)
             }
+        }
+    }
+
+    /// Puts a record as `put_beside` does, where a number is left for it.
+    fn put_beside_next(&mut self, alloc: Global, one: Record) -> Result<Beside, OutOfMemory>
+        requires entry { IsEntry self.old.origin one }
+        requires so_far { IsSoFar self.old.origin self.old.records }
+        ensures origin { self.new.origin ≡ self.old.origin }
+        ensures put { IfOk result (IsPutBeside one self.old.records self.new.records) }
+        ensures before { self.new.before ≡ self.old.before }
+        ensures so_far { IsSoFar self.new.origin self.new.records }
+        ensures err { OnErr result (self.new ≡ self.old) }
+    {
+        if self.next == u64::MAX {
+            return Err(OutOfMemory);
+        }
+        let mut room = [0u8; 255];
+        let start = write_key(&self.origin, &one.name, &mut room);
+        let key = behind(&room, start);
+        let _apart = self.names.tree_count();
+        keep_former(alloc, &mut self.names, &mut self.undoing, key)?;
+        let _still_apart = self.names.tree_count();
+        match self.names.put_beside(alloc, key, self.next, one)? {
+            Beside::New => {
+                self.next += 1;
+                self.count += 1;
+                Ok(Beside::New)
+            }
+            Beside::Replaced => Ok(Beside::Replaced),
+            Beside::Clash => Ok(Beside::Clash),
         }
     }
 
@@ -426,7 +476,7 @@ impl ZoneMap {
             return None;
         }
         let mut room = [0u8; 255];
-        let key = ZoneKey::new(&self.origin, name, &mut room);
+        let key = ZoneKey::new(&self.origin, name.view(), &mut room);
         let sets = self.sets(&key, 0)?;
         let set = sets.set(rtype)?;
         Some(set.records())
@@ -452,36 +502,22 @@ impl ZoneMap {
         self.names.sets_at(b"")
     }
 
-    /// What the zone has at the name without its first `labels_dropped` labels. Takes memory at most where the name owns nothing,
-    /// and the first label below the origin has many names under it.
-    pub fn presence(
-        &self,
-        key: &ZoneKey<'_>,
-        labels_dropped: usize,
-    ) -> Result<Presence<'_>, OutOfMemory>
-        requires origin { key.now.origin ≡ self.now.origin }
-        requires labels { length self.now.origin + labels_dropped ≤ length key.now.name }
-        ensures { IfOk result (IsPresence self.now.records (drop labels_dropped key.now.name)) }
+    /// The way from the origin down to a name, at the origin. Takes no memory.
+    pub fn walk<'a, 'k>(&'a self, key: &'k ZoneKey<'k>) -> Walk<'a, 'k>
+        requires { key.now.origin ≡ self.now.origin }
+        ensures origin { result.origin ≡ self.now.origin }
+        ensures records { result.records ≡ self.now.records }
+        ensures name { result.name ≡ key.now.name }
+        ensures left { length self.now.origin + result.left ≡ length key.now.name }
     {
-        let _apart = self.names.tree_count();
-        self.names.presence(self.alloc, key.above(labels_dropped))
+        Walk::new(self.alloc, self, key)
     }
 
-    /// What the zone has at the label `*` under the name without its first `labels_dropped` labels (RFC 4592 2.1.1). Takes memory
-    /// as `presence` does.
-    pub fn star(
-        &self,
-        key: &ZoneKey<'_>,
-        labels_dropped: usize,
-    ) -> Result<Presence<'_>, OutOfMemory>
-        requires origin { key.now.origin ≡ self.now.origin }
-        requires labels { length self.now.origin + labels_dropped ≤ length key.now.name }
-        ensures { IfOk result (IsPresence self.now.records (star_above labels_dropped key.now.name)) }
+    /// The tree in which the names with the first label of this key stand.
+    pub(crate) fn tree_of(&self, key: &[u8]) -> &Tree
+        ensures { Tells self.now.origin self.now.records (first_label key.now) result.now.entries }
     {
-        let _apart = self.names.tree_count();
-        let mut room = [0u8; 257];
-        let end = write_star(&mut room, key.above(labels_dropped));
-        self.names.presence(self.alloc, front_of(&room, end))
+        self.names.tree_of(key)
     }
 }
 
@@ -530,20 +566,4 @@ fn record_count(set: RecordSet) -> usize
     ensures { result ≡ length set.records }
 {
     set.records.len()
-}
-
-/// The bytes before a place.
-fn front_of(bytes: &[u8], end: usize) -> &[u8]
-    requires { end ≤ length bytes.now }
-    ensures { result.now ≡ take end bytes.now }
-{
-    &bytes[..end]
-}
-
-/// The bytes from a place on.
-fn behind(bytes: &[u8], start: usize) -> &[u8]
-    requires { start ≤ length bytes.now }
-    ensures { result.now ≡ drop start bytes.now }
-{
-    &bytes[start..]
 }

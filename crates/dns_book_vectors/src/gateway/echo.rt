@@ -2,9 +2,12 @@
 
 ghost use Rattle.std.specs.Prelude.{◌≤◌, length};
 
-use dns_io::OutOfMemory;
-use dns_server_core::{AccessControl, Ask, ReplyBytes, RequestHandler, Settled, SettledInto};
+use dns_io::{Octets, OutOfMemory};
+use dns_server_core::{
+    AccessControl, Ask, LentAsk, ReplyBytes, RequestHandler, Settled, SettledInto, bytes_of,
+};
 use dns_wire::Protocol;
+use std::alloc::Global;
 use std::test::Fail;
 
 /// How many messages came, and by which protocol and for which client the last one.
@@ -13,15 +16,31 @@ pub(crate) struct Echo {
     pub(crate) messages: u64,
     pub(crate) protocol: Option<Protocol>,
     pub(crate) client: u32,
+    alloc: Global,
 }
 
 impl Echo {
-    pub(crate) fn new() -> Echo {
+    pub(crate) fn new(alloc: Global) -> Echo {
         Echo {
             messages: 0,
             protocol: None,
             client: 9,
+            alloc,
         }
+    }
+
+    /// Counts a message, and gives it back.
+    fn settled(&mut self, ask: &LentAsk<'_>) -> Result<Settled, OutOfMemory>
+        requires bytes { length ask.now.bytes ≤ 65535 }
+    {
+        self.messages = self.messages.saturating_add(1);
+        self.protocol = Some(ask.protocol);
+        self.client = ask.client;
+        Ok(Settled {
+            reply: reply_to(self.alloc, bytes_of(ask))?,
+            length: 0,
+            receipt: None,
+        })
     }
 
     /// Adds how many messages came, by which protocol, and for which client.
@@ -42,33 +61,26 @@ impl RequestHandler for Echo {
     fn handle_request(&mut self, _access: &AccessControl, ask: &Ask) -> Result<Settled, OutOfMemory>
         requires bytes { length ask.now.bytes ≤ 65535 }
     {
-        self.messages = self.messages.saturating_add(1);
-        self.protocol = Some(ask.protocol);
-        self.client = ask.client;
-        Ok(Settled {
-            reply: reply_to(ask)?,
-            length: 0,
-            receipt: None,
-        })
+        self.settled(&ask.lent())
     }
 
     fn handle_into(
         &mut self,
-        access: &AccessControl,
-        ask: &Ask,
+        _access: &AccessControl,
+        ask: &LentAsk<'_>,
         out: &mut Vec<u8>,
         is_framed: bool,
     ) -> Result<SettledInto, OutOfMemory> {
-        self.handle_request(access, ask)?.add_to(out, is_framed)
+        self.settled(ask)?.add_to(out, is_framed)
     }
 }
 
 /// The message itself.
-fn reply_to(ask: &Ask) -> Result<Option<ReplyBytes>, OutOfMemory>
-    requires { length ask.now.bytes ≤ 65535 }
+fn reply_to(alloc: Global, bytes: &[u8]) -> Result<Option<ReplyBytes>, OutOfMemory>
+    requires { length bytes.now ≤ 65535 }
 {
-    if ask.bytes.len() == 0 {
+    if bytes.len() == 0 {
         return Ok(None);
     }
-    Ok(Some(ReplyBytes::new(ask.bytes.copy()?)?))
+    Ok(Some(ReplyBytes::new(Octets::from_slice(alloc, bytes)?)?))
 }

@@ -17,7 +17,7 @@ pub fn by_book(alloc: Global, fields: &str, answer: &mut String) -> Result<(), F
 
 /// What comes of a message that is given back, and what its handler saw.
 pub fn by_echo(alloc: Global, fields: &str, answer: &mut String) -> Result<(), Fail> {
-    let mut echo = Echo::new();
+    let mut echo = Echo::new(alloc);
     settle(alloc, &mut echo, fields, answer)?;
     echo.tell(answer)
 }

@@ -1,5 +1,5 @@
 -- Nothing was handed over, or all that was whole and may still come.
-use Rattle.std.proofs.Common.{◌≡◌, ℕ, [], ap, not, subst}
+use Rattle.std.proofs.Common.{◌≡◌, ℕ, ap, not, subst}
 use Rattle.dns_server_core.specs.Connections.{Connection}
 use Rattle.dns_server_core.specs.Steps.{heard_messages, piece_at, unread_messages}
 use Rattle.dns_server_core.proofs.OnePiece.{on_err, heard_in_time, heard_late, moved_in_time, moved_late}
@@ -26,7 +26,7 @@ returns-in_err-answer-in-InTime-clause-halted g c =
     on_err c.from_residual-in_err-answer-in-InTime.result
     (falters_same (g.H.RequestHandler.serves c.args.access.now) g.H.RequestHandler.skips c.args.handler.now c.answer.new.handler _ _
     (heard_in_time c.args.session.now c.hear.new.self c.args.at c.args.piece.now (rw c.in-InTime.is at c.in_ok-heard.ensures.ok))
-    (falters_settled (g.H.RequestHandler.serves c.args.access.now) g.H.RequestHandler.skips c.hear.new.self c.args.at [] c.args.handler.now _ (rw c.peer.ensures at c.in_err-answer-in-InTime.ensures.err)))
+    (falters_settled (g.H.RequestHandler.serves c.args.access.now) g.H.RequestHandler.skips c.hear.new.self c.args.at c.args.handler.now _ c.in_err-answer-in-InTime.ensures.err))
 
 pub returns-in_ok-answer-in-InTime-clause-ran : goal.returns-in_ok-answer-in-InTime-clause-ran
 returns-in_ok-answer-in-InTime-clause-ran g c =
@@ -36,4 +36,4 @@ returns-in_ok-answer-in-InTime-clause-ran g c =
     replies_same serves c.args.session.now.number c.args.handler.now c.answer.new.handler _ _ c.args.replies.now.items c.answer.new.replies.items
     (heard_in_time c.args.session.now c.hear.new.self c.args.at c.args.piece.now heard)
     (subst (λ (n : ℕ). RepliesTo serves c.args.handler.now (unread_messages c.args.at c.hear.new.self) c.answer.new.handler n c.args.replies.now.items c.answer.new.replies.items) number
-    (replies_settled serves c.hear.new.self c.args.at [] c.args.handler.now _ c.args.replies.now.items _ (rw c.peer.ensures at c.in_ok-answer-in-InTime.ensures.ok)))
+    (replies_settled serves c.hear.new.self c.args.at c.args.handler.now _ c.args.replies.now.items _ c.in_ok-answer-in-InTime.ensures.ok))

@@ -1,7 +1,6 @@
-use Rattle.std.proofs.Common.{take, sym, subst}
+use Rattle.std.proofs.Common.{take, subst}
 use Rattle.std.proofs.lemmas.List.{take_more, take_all}
 use Rattle.dns_keeper.specs.RunsSoFar.{AreRunsOf}
-use Rattle.dns_keeper.specs.Batches.{runs_of}
 use Rattle.dns_keeper.proofs.row_runs.runs_in.Goals as goal
 
 pub loop-row-preserved : goal.loop-row-preserved

@@ -1,17 +1,16 @@
 -- From read to read, and how it ends.
-use Rattle.std.proofs.Common.{◌≡◌, ◌≢◌, ◌∙◌, ℕ, List, length, map, take, refl, sym, subst, arith}
+use Rattle.std.proofs.Common.{◌≡◌, ◌≢◌, ◌∙◌, ℕ, List, length, map, take, refl, sym, ap, subst, arith}
 use Rattle.std.proofs.lemmas.List.{length-take-le}
 use Rattle.std.proofs.lemmas.Result.{err_from_is_err_and}
 use Rattle.dns_io.proofs.ToldContents.{Keeps-same, Keeps-more}
-use Rattle.dns_book.specs.declared.ask.Ask.{Ask}
+use Rattle.dns_io.specs.declared.peer.Peer.{Peer}
 use Rattle.dns_requests.specs.Arrivals.{ask_at}
 use Rattle.dns_requests.specs.Ends.{Parts, Terms}
-use Rattle.dns_server_core.specs.Connections.{Connection, messages_left}
-use Rattle.dns_server_core.specs.FrameRuns.{Adds, Halts, first_asks}
+use Rattle.dns_server_core.specs.Connections.{Connection}
+use Rattle.dns_server_core.specs.FrameRuns.{Adds, Halts}
 use Rattle.dns_server_core.specs.Steps.{HearsPiece, messages_in, with_piece}
 use Rattle.dns_server_core.specs.declared.session.Heard.TheVariants.{InTime}
 use Rattle.dns_server_core.proofs.LongerRuns.{Halts-none}
-use Rattle.dns_requests.proofs.MoreArrivals.{ask_stays}
 use Rattle.dns_requests.proofs.Going.{Going, Going-begun, Heard-more, Heard-answered, ends_answering, ends_cut_off, ends_full, ends_late, ends_reading, ends_served, ends_writing}
 use Rattle.dns_requests.proofs.connection.serve_connection.Goals as goal
 
@@ -24,7 +23,7 @@ loop-turn-init g c =
           (record { handler = c.args.handler.now; source = c.args.source.now; sink = c.args.sink.now; clock = c.now-began.new.self }) 0 k)
           (sym c.open-session.ensures)
           (Going-begun (g.T.RequestHandler.serves c.args.access.now) g.T.RequestHandler.skips g.R.Source.source g.W.Sink.sink g.C.Clock.clock terms before c.now-began.new.self c.now-began.result c.now-began.ensures.next);
-      ask = refl;
+      peer = ap (λ (k : Connection). k.peer) c.open-session.ensures;
       written = c.new-replies.ensures.items;
       unflushed = Keeps-same _;
     }
@@ -92,7 +91,8 @@ returns-in_err-answer-clause-ends g c =
     let in_time = subst (λ (l : List ℕ). HearsPiece c.loop-turn.session at l InTime c.hear.new.self) c.split_at.ensures.front (rw c.in-InTime.is at c.in_ok-heard.ensures.ok) in
     let heard = Heard-more serves g.T.RequestHandler.skips g.R.Source.source g.W.Sink.sink g.C.Clock.clock terms before now c.loop-turn._turn c.loop-turn.session c.receive.new.source c.now-at.new.self at piece c.hear.new.self
     c.loop-turn.invariant.going c.in_ok-count.ensures.ok some c.now-at.ensures.next in_time in
-    let halts = subst (λ (x : Ask). Halts serves g.T.RequestHandler.skips c.loop-turn.handler (first_asks (record x { at = at }) (messages_left new) new.rest) c.answer.new.handler) c.loop-turn.invariant.ask c.in_err-answer.ensures.err in
+    let same_peer : new.peer ≡ c.args.peer = ap (λ (k : Connection). k.peer) in_time.1 ∙ c.loop-turn.invariant.peer in
+    let halts = subst (λ (q : Peer). Halts serves g.T.RequestHandler.skips c.loop-turn.handler (map (ask_at q at) (messages_in new new.rest)) c.answer.new.handler) same_peer c.in_err-answer.ensures.err in
     rw (p.1, p.2)
     (ends_answering serves g.T.RequestHandler.skips g.R.Source.source g.W.Sink.sink g.C.Clock.clock terms before now c.loop-turn._turn c.loop-turn.session
     c.receive.new.source c.now-at.new.self at new c.answer.new.handler heard c.loop-turn-test.true halts)
@@ -112,7 +112,8 @@ returns-in_err-send-clause-ends g c =
     c.loop-turn.invariant.going c.in_ok-count.ensures.ok some c.now-at.ensures.next in_time in
     let new = c.hear.new.self in
     let replies = c.answer.new.replies.items in
-    let adds = subst (λ (x : Ask). Adds serves c.loop-turn.handler (first_asks (record x { at = at }) (messages_left new) new.rest) c.answer.new.handler c.loop-turn.replies.items replies) c.loop-turn.invariant.ask c.in_ok-answer.ensures.ok in
+    let same_peer : new.peer ≡ c.args.peer = ap (λ (k : Connection). k.peer) in_time.1 ∙ c.loop-turn.invariant.peer in
+    let adds = subst (λ (q : Peer). Adds serves c.loop-turn.handler (map (ask_at q at) (messages_in new new.rest)) c.answer.new.handler c.loop-turn.replies.items replies) same_peer c.in_ok-answer.ensures.ok in
     let added = subst (λ (l : List ℕ). Adds serves c.loop-turn.handler (map (ask_at c.args.peer at) (messages_in new new.rest)) c.answer.new.handler l replies) c.loop-turn.invariant.written adds in
     let p = err_from_is_err_and c.from_residual-in_err-send.result c.from_residual-in_err-send.ensures.1 in
     rw (p.1, p.2)
@@ -139,7 +140,8 @@ returns-then-is_over-clause-ends g c =
     c.loop-turn.invariant.going c.in_ok-count.ensures.ok some c.now-at.ensures.next in_time in
     let new = c.hear.new.self in
     let replies = c.answer.new.replies.items in
-    let adds = subst (λ (x : Ask). Adds serves c.loop-turn.handler (first_asks (record x { at = at }) (messages_left new) new.rest) c.answer.new.handler c.loop-turn.replies.items replies) c.loop-turn.invariant.ask c.in_ok-answer.ensures.ok in
+    let same_peer : new.peer ≡ c.args.peer = ap (λ (k : Connection). k.peer) in_time.1 ∙ c.loop-turn.invariant.peer in
+    let adds = subst (λ (q : Peer). Adds serves c.loop-turn.handler (map (ask_at q at) (messages_in new new.rest)) c.answer.new.handler c.loop-turn.replies.items replies) same_peer c.in_ok-answer.ensures.ok in
     let added = subst (λ (l : List ℕ). Adds serves c.loop-turn.handler (map (ask_at c.args.peer at) (messages_in new new.rest)) c.answer.new.handler l replies) c.loop-turn.invariant.written adds in
     rw c.taken-then-is_over.ensures
     (ends_full serves g.T.RequestHandler.skips g.R.Source.source g.W.Sink.sink g.C.Clock.clock terms before now c.loop-turn._turn c.loop-turn.session
@@ -161,13 +163,14 @@ loop-turn-preserved g c =
     c.loop-turn.invariant.going c.in_ok-count.ensures.ok some c.now-at.ensures.next in_time in
     let new = c.hear.new.self in
     let replies = c.answer.new.replies.items in
-    let adds = subst (λ (x : Ask). Adds serves c.loop-turn.handler (first_asks (record x { at = at }) (messages_left new) new.rest) c.answer.new.handler c.loop-turn.replies.items replies) c.loop-turn.invariant.ask c.in_ok-answer.ensures.ok in
+    let same_peer : new.peer ≡ c.args.peer = ap (λ (k : Connection). k.peer) in_time.1 ∙ c.loop-turn.invariant.peer in
+    let adds = subst (λ (q : Peer). Adds serves c.loop-turn.handler (map (ask_at q at) (messages_in new new.rest)) c.answer.new.handler c.loop-turn.replies.items replies) same_peer c.in_ok-answer.ensures.ok in
     let added = subst (λ (l : List ℕ). Adds serves c.loop-turn.handler (map (ask_at c.args.peer at) (messages_in new new.rest)) c.answer.new.handler l replies) c.loop-turn.invariant.written adds in
     record {
       going = Heard-answered serves g.T.RequestHandler.skips g.R.Source.source g.W.Sink.sink g.C.Clock.clock terms before now c.loop-turn._turn c.loop-turn.session
           c.receive.new.source c.now-at.new.self at new c.answer.new.session c.answer.new.handler c.send.new.sink replies heard added c.in_ok-send.ensures.ok c.in_ok-send.ensures.counts
           c.in_ok-answer.ensures.fed (sym c.is_over.ensures ∙ c.if-is_over.false);
-      ask = ask_stays c.answer.new.ask c.loop-turn.ask c.args.peer at c.loop-turn.invariant.ask c.answer.ensures.ask;
+      peer = ap (λ (k : Connection). k.peer) c.in_ok-answer.ensures.fed ∙ same_peer;
       written = c.in_ok-send.ensures.sent;
       unflushed = Keeps-more _ _ _ c.loop-turn.invariant.unflushed c.send.ensures.unflushed;
     }

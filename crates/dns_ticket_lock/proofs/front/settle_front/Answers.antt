@@ -1,15 +1,14 @@
 -- Messages behind those of which nothing came.
-use Rattle.std.proofs.Common.{◌≡◌, ◌∷◌, ◌+◌, ◌-◌, ℕ, length, true, refl, sym, ap, subst, ◌∙◌, arith}
+use Rattle.std.proofs.Common.{◌≡◌, ◌∷◌, ◌+◌, ◌-◌, ℕ, length, true, sym, ap, subst, ◌∙◌, arith}
 use Rattle.dns_book.specs.declared.ask.Ask.{Ask}
 use Rattle.dns_book.specs.Book.{Settles}
 use Rattle.dns_book.specs.Into.{SettlesInto}
-use Rattle.dns_server_core.proofs.LongerRuns.{with_bytes}
 use Rattle.dns_ticket_lock.specs.Naming.{Advances}
 use Rattle.dns_server_core.specs.FrameRuns.{AddsFront, behind_first, first_asks, first_messages}
 use Rattle.dns_ticket_lock.specs.declared.held.Told.{Told}
 use Rattle.dns_ticket_lock.specs.Rule.{settled}
 use Rattle.dns_ticket_lock.specs.Settling.{SettledAs, done_by, receipt_in}
-use Rattle.dns_ticket_lock.proofs.Fronts.{Quiet, Quiet-begun, Quiet-more, Quiet-end, Quiet-halts, one_more, if_ok, on_ok, on_err}
+use Rattle.dns_ticket_lock.proofs.Fronts.{Quiet, Quiet-begun, Quiet-more, Quiet-end, Quiet-halts, one_more, if_ok, on_err}
 use Rattle.dns_ticket_lock.proofs.front.settle_front.Goals as goal
 
 pub loop-message-init : goal.loop-message-init
@@ -17,7 +16,6 @@ loop-message-init g c =
     let bytes = c.args.bytes.now in
     let none : c.args.most - 0 ≡ c.args.most = omega arith in
     record {
-      ask = refl;
       within = (omega arith, omega arith);
       quiet = subst (λ (n : ℕ). Quiet g.K.Keeper.keeper c.args.access.now c.args.ask.now c.args.book.now c.args.book.now c.args.most n bytes bytes c.args.replies.now.items c.args.replies.now.items 0) (sym none)
           (Quiet-begun g.K.Keeper.keeper c.args.access.now c.args.ask.now c.args.book.now c.args.most bytes c.args.replies.now.items);
@@ -28,34 +26,34 @@ loop-message-init g c =
 
 pub returns-in_default-answer-clause-err : goal.returns-in_default-answer-clause-err
 returns-in_default-answer-clause-err g c =
-    let s = c.settle_next-answer in
+    let s = c.settle_book-answer in
     let receipt = s.ensures.receipt ∙ ap receipt_in c.in_default-answer.is in
     Quiet-halts g.K.Keeper.keeper c.args.access.now c.args.ask.now c.args.book.now c.loop-message.book s.new.book c.args.most (c.args.most - c.loop-message.messages) c.args.bytes.now c.loop-message.left.now c.args.replies.now.items
     c.loop-message.replies.items c.loop-message.messages s.result.1 c.loop-message.invariant.quiet (on_err s.result.0 c.in_default-answer.field-0 _ c.in_default-answer.is s.ensures.err) receipt s.ensures.rise
 
 pub returns-then-not-goes_on-clause-ok : goal.returns-then-not-goes_on-clause-ok
 returns-then-not-goes_on-clause-ok g c =
-    let s = c.settle_next-answer in
+    let s = c.settle_book-answer in
     let access = c.args.access.now in
-    let same = with_bytes c.args.ask.now c.loop-message.ask c.in-Some.message.now c.in-Some.message.now c.loop-message.invariant.ask refl in
-    let client = ap (λ (x : Ask). x.client) c.loop-message.invariant.ask in
+    let same = c.message_in-asked.ensures in
+    let client = ap (λ (x : Ask). x.client) same in
     let ok = if_ok s.result.0 c.in-Ok._settled _ c.in-Ok.is s.ensures.ok in
     let less : c.args.most - c.loop-message.messages - 1 ≡ c.args.most - (c.loop-message.messages + 1) = omega arith in
     let to_come : first_messages (c.args.most - c.loop-message.messages) c.loop-message.left.now ≡ c.in-Some.message.now ∷ first_messages (c.args.most - (c.loop-message.messages + 1)) c.in-Some.after.now =
     c.in-Some.ensures.messages ∙ ap (λ (n : ℕ). c.in-Some.message.now ∷ first_messages n c.in-Some.after.now) less
     in
     one_more g.K.Keeper.keeper access c.args.ask.now c.args.book.now c.loop-message.book s.new.book c.args.most (c.args.most - c.loop-message.messages) (c.args.most - (c.loop-message.messages + 1)) c.args.bytes.now c.loop-message.left.now c.in-Some.after.now c.in-Some.message.now c.args.replies.now.items
-    c.loop-message.replies.items s.new.replies.items c.loop-message.messages s.result.1 c.in-Ok._settled to_come c.loop-message.invariant.quiet
-    (subst (λ (k : Ask). SettlesInto (λ settled. Settles g.K.Keeper.keeper access c.loop-message.book k settled s.new.book) true c.loop-message.replies.items s.new.replies.items c.in-Ok._settled) same ok)
+    c.loop-message.replies.items s.new.out.items c.loop-message.messages s.result.1 c.in-Ok._settled to_come c.loop-message.invariant.quiet
+    (subst (λ (k : Ask). SettlesInto (λ settled. Settles g.K.Keeper.keeper access c.loop-message.book k settled s.new.book) true c.loop-message.replies.items s.new.out.items c.in-Ok._settled) same ok)
     (subst (λ (n : ℕ). Advances g.K.Keeper.keeper n c.loop-message.book s.result.1.receipt s.result.1.count s.new.book) client s.ensures.advances)
-    (s.ensures.receipt ∙ ap receipt_in c.in-Ok.is) s.ensures.rise (on_ok s.result.0 c.in-Ok._settled _ c.in-Ok.is s.ensures.rose)
+    (s.ensures.receipt ∙ ap receipt_in c.in-Ok.is) s.ensures.rise s.ensures.rose
 
 pub loop-message-preserved : goal.loop-message-preserved
 loop-message-preserved g c =
-    let s = c.settle_next-answer in
+    let s = c.settle_book-answer in
     let access = c.args.access.now in
-    let same = with_bytes c.args.ask.now c.loop-message.ask c.in-Some.message.now c.in-Some.message.now c.loop-message.invariant.ask refl in
-    let client = ap (λ (x : Ask). x.client) c.loop-message.invariant.ask in
+    let same = c.message_in-asked.ensures in
+    let client = ap (λ (x : Ask). x.client) same in
     let ok = if_ok s.result.0 c.in-Ok._settled _ c.in-Ok.is s.ensures.ok in
     let less : c.args.most - c.loop-message.messages - 1 ≡ c.args.most - (c.loop-message.messages + 1) = omega arith in
     let to_come : first_messages (c.args.most - c.loop-message.messages) c.loop-message.left.now ≡ c.in-Some.message.now ∷ first_messages (c.args.most - (c.loop-message.messages + 1)) c.in-Some.after.now =
@@ -64,13 +62,12 @@ loop-message-preserved g c =
     let nothing = c.goes_on.ensures.nothing c.if-not-goes_on.false in
     let within = c.goes_on.ensures.more c.if-not-goes_on.false in
     record {
-      ask = s.ensures.ask ∙ ap (λ (x : Ask). record x { bytes = s.new.ask.bytes }) c.loop-message.invariant.ask;
       within = (omega (arith, within.0), within.1);
       quiet = Quiet-more g.K.Keeper.keeper access c.args.ask.now c.args.book.now c.loop-message.book s.new.book c.args.most (c.args.most - c.loop-message.messages) (c.args.most - (c.loop-message.messages + 1)) c.args.bytes.now c.loop-message.left.now c.in-Some.after.now c.in-Some.message.now c.args.replies.now.items
-          c.loop-message.replies.items s.new.replies.items c.loop-message.messages s.result.1 c.in-Ok._settled to_come c.loop-message.invariant.quiet
-          (subst (λ (k : Ask). SettlesInto (λ settled. Settles g.K.Keeper.keeper access c.loop-message.book k settled s.new.book) true c.loop-message.replies.items s.new.replies.items c.in-Ok._settled) same ok)
+          c.loop-message.replies.items s.new.out.items c.loop-message.messages s.result.1 c.in-Ok._settled to_come c.loop-message.invariant.quiet
+          (subst (λ (k : Ask). SettlesInto (λ settled. Settles g.K.Keeper.keeper access c.loop-message.book k settled s.new.book) true c.loop-message.replies.items s.new.out.items c.in-Ok._settled) same ok)
           (subst (λ (n : ℕ). Advances g.K.Keeper.keeper n c.loop-message.book s.result.1.receipt s.result.1.count s.new.book) client s.ensures.advances)
-          (s.ensures.receipt ∙ ap receipt_in c.in-Ok.is) s.ensures.rise (on_ok s.result.0 c.in-Ok._settled _ c.in-Ok.is s.ensures.rose) nothing.0 nothing.1 nothing.2;
+          (s.ensures.receipt ∙ ap receipt_in c.in-Ok.is) s.ensures.rise s.ensures.rose nothing.0 nothing.1 nothing.2;
       count = omega (arith, c.loop-message.invariant.count, ap length to_come);
       behind = sym (c.in-Some.ensures.behind ∙ ap (λ (n : ℕ). behind_first n c.in-Some.after.now) less) ∙ c.loop-message.invariant.behind;
       shorter = omega (arith, c.loop-message.invariant.shorter, c.in-Some.ensures.inside);

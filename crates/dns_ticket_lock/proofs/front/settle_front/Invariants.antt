@@ -7,9 +7,8 @@ use Rattle.dns_ticket_lock.proofs.front.settle_front.Given as goal
 abbrev pub invariant-loop-message : goal.invariant-loop-message
 invariant-loop-message g l =
     record {
-      ask : l.ask ≡ record l.fn.ask { bytes = l.ask.bytes };
       within : (l.messages ≤ l.most) × (l.messages < 64);
-      quiet : Quiet g.K.Keeper.keeper l.access l.fn.ask l.fn.book l.book l.most (l.most - l.messages) l.bytes l.left l.fn.replies.items l.replies.items l.messages;
+      quiet : Quiet g.K.Keeper.keeper l.access l.ask l.fn.book l.book l.most (l.most - l.messages) l.bytes l.left l.fn.replies.items l.replies.items l.messages;
       count : l.messages + length (first_messages (l.most - l.messages) l.left) ≡ length (first_messages l.most l.bytes);
       behind : behind_first (l.most - l.messages) l.left ≡ behind_first l.most l.bytes;
       shorter : 2 * l.messages + length l.left ≤ length l.bytes;

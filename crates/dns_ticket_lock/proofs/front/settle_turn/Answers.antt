@@ -25,6 +25,7 @@ settle_held_front-requires-clause-low g c =
     let small = finds_place v.accounts v.low took.1 took.2 (omega arith) took.4.1 in
     let many = ap (λ (l : List Member). length l) n.has_members in
     let client = c.requires.number in
+    let same = c.client_of.ensures in
     omega arith
 
 pub end_turn-requires-clause-done : goal.end_turn-requires-clause-done
@@ -68,7 +69,8 @@ end_turn-requires-clause-names g c =
     let step = subst (λ (n : ℕ). Advances g.K.Keeper.keeper n was.book now.1.receipt now.1.count then.book) c.requires.number c.settle_held_front.ensures.advances in
     let turn = turn_of g.K.Keeper.keeper (v.low + 1) took.1 was.book then.book now.1 n.has_rows step in
     let done = done_by g.K.Keeper.keeper (v.low + 1) took.1 then.book now.1 in
-    let low : c.args.ask.now.client - 1 ≡ v.low = omega arith in
+    let same = c.client_of.ensures in
+    let low : c.client_of.result - 1 ≡ v.low = omega arith in
     let later = subst₂ (λ (ms : List Member) (i : ℕ). (m : Member) → get_elem? ms i ≡ some m → then.members.items ≡ set ms i (record { share = m.share + now.1.rise; mark = m.mark || now.1.mark }))
     n.has_members low c.settle_held_front.ensures.members in
     let members = members_are v.accounts v.low took.1 took.2 then.members.items done (omega arith) took.4.1 later in

@@ -21,11 +21,10 @@ returns-in_err-front-clause-err g c =
     let after = own s.new.seat.me.0.accounts in
     let left = c.loop-message.left.now in
     let more = c.args.most - c.loop-message.messages in
-    let all : List Ask = first_asks c.args.ask.now c.args.most c.args.bytes.now in
+    let all : List Ask = first_asks c.args.ask.now c.args.most c.args.ask.now.bytes in
     let to_come : List Ask = first_asks c.args.ask.now more left in
     let err = on_err s.result.0 c.in_err-front.field-0.0 _ c.in_err-front.was s.ensures.err in
-    let asked = subst (λ (k : Ask). Halts (by c.loop-message.seat.me.0.terms k.client) LeftAs before (first_asks k more left) after) i.ask err in
-    let halts = subst (λ (t : Terms). Halts (by t c.args.ask.now.client) LeftAs before to_come after) i.low.1 asked in
+    let halts = subst (λ (t : Terms). Halts (by t c.args.ask.now.client) LeftAs before to_come after) i.low.1 err in
     let front = subst (λ (l : List Ask). AddsFront (by c.args.seat.now.me.0.terms c.args.ask.now.client) start all before l c.args.replies.now.items c.loop-message.replies.items) (sym (append-nil to_come)) i.front in
     if_err c.from_residual.result (AddsFront-halts (by c.args.seat.now.me.0.terms c.args.ask.now.client) LeftAs start before after all to_come [] _ _ front halts)
 
@@ -41,8 +40,7 @@ loop-message-preserved g c =
     let more = c.args.most - c.loop-message.messages in
     let less : more - f.messages ≡ c.args.most - (c.loop-message.messages + f.messages) = omega arith in
     let ok = if_ok s.result.0 f _ c.in_ok-front.was s.ensures.ok in
-    let asked = subst (λ (k : Ask). AddsFront (by c.loop-message.seat.me.0.terms k.client) before (first_asks k more left) after (first_asks k (more - f.messages) f.left.now) c.loop-message.replies.items s.new.replies.items) i.ask ok in
-    let front = subst (λ (t : Terms). AddsFront (by t c.args.ask.now.client) before (first_asks c.args.ask.now more left) after (first_asks c.args.ask.now (more - f.messages) f.left.now) c.loop-message.replies.items s.new.replies.items) i.low.1 asked in
+    let front = subst (λ (t : Terms). AddsFront (by t c.args.ask.now.client) before (first_asks c.args.ask.now more left) after (first_asks c.args.ask.now (more - f.messages) f.left.now) c.loop-message.replies.items s.new.replies.items) i.low.1 ok in
     let fewer = subst (λ (n : ℕ). AddsFront (by c.args.seat.now.me.0.terms c.args.ask.now.client) before (first_asks c.args.ask.now more left) after (first_asks c.args.ask.now n f.left.now) c.loop-message.replies.items s.new.replies.items) less front in
     let count = if_ok s.result.0 f _ c.in_ok-front.was s.ensures.count in
     let shorter = if_ok s.result.0 f _ c.in_ok-front.was s.ensures.shorter in
@@ -52,8 +50,7 @@ loop-message-preserved g c =
       idle = s.ensures.idle;
       low = (s.ensures.low.0 ∙ i.low.0, s.ensures.low.1 ∙ i.low.1);
       seen = s.ensures.seen;
-      ask = s.ensures.ask ∙ ap (λ (x : Ask). record x { bytes = s.new.ask.bytes }) i.ask;
-      front = AddsFront-append (by c.args.seat.now.me.0.terms c.args.ask.now.client) (own c.args.seat.now.me.0.accounts) before after (first_asks c.args.ask.now c.args.most c.args.bytes.now) (first_asks c.args.ask.now more left) (first_asks c.args.ask.now (c.args.most - (c.loop-message.messages + f.messages)) f.left.now)
+      front = AddsFront-append (by c.args.seat.now.me.0.terms c.args.ask.now.client) (own c.args.seat.now.me.0.accounts) before after (first_asks c.args.ask.now c.args.most c.args.ask.now.bytes) (first_asks c.args.ask.now more left) (first_asks c.args.ask.now (c.args.most - (c.loop-message.messages + f.messages)) f.left.now)
           c.args.replies.now.items c.loop-message.replies.items s.new.replies.items i.front fewer;
       within = omega (arith, i.within, few.0);
       count = omega (arith, i.count, count, ap (λ (n : ℕ). length (first_messages n f.left.now)) less);

@@ -12,12 +12,11 @@ invariant-loop-message g l =
       idle : (l.seat.me.1 ≡ []) × (l.seat.me.0.phase ≡ 0) × (length l.seat.me.0.accounts ≡ 1);
       low : (l.seat.me.0.low ≡ l.fn.seat.me.0.low) × (l.seat.me.0.terms ≡ l.fn.seat.me.0.terms);
       seen : length (own l.seat.me.0.accounts).seen ≡ l.seen;
-      ask : l.ask ≡ record l.fn.ask { bytes = l.ask.bytes };
-      front : AddsFront (SettledAs g.K.Keeper.keeper l.fn.seat.me.0.terms l.access l.fn.ask.client) (own l.fn.seat.me.0.accounts) (first_asks l.fn.ask l.most l.bytes) (own l.seat.me.0.accounts) (first_asks l.fn.ask (l.most - l.messages) l.left) l.fn.replies.items l.replies.items;
+      front : AddsFront (SettledAs g.K.Keeper.keeper l.fn.seat.me.0.terms l.access l.ask.client) (own l.fn.seat.me.0.accounts) (first_asks l.ask l.most l.ask.bytes) (own l.seat.me.0.accounts) (first_asks l.ask (l.most - l.messages) l.left) l.fn.replies.items l.replies.items;
       within : l.messages ≤ l.most;
-      count : l.messages + length (first_messages (l.most - l.messages) l.left) ≡ length (first_messages l.most l.bytes);
-      behind : behind_first (l.most - l.messages) l.left ≡ behind_first l.most l.bytes;
-      shorter : 2 * l.messages + length l.left ≤ length l.bytes;
+      count : l.messages + length (first_messages (l.most - l.messages) l.left) ≡ length (first_messages l.most l.ask.bytes);
+      behind : behind_first (l.most - l.messages) l.left ≡ behind_first l.most l.ask.bytes;
+      shorter : 2 * l.messages + length l.left ≤ length l.ask.bytes;
     }
 
 abbrev pub decreases-loop-message : goal.decreases-loop-message

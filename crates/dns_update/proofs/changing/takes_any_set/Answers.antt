@@ -11,10 +11,10 @@ returns-in-Some c =
     let z = c.args.map.now in
     let name = c.args.name.now in
     c.has_free_set.ensures ∙ ap (list_any (λ set. not (c.same-keeps.result && is_kept_type set.rtype))) c.as_slice.ensures
-    ∙ named_sets z.origin z.records c.new-key.result.name name c.in-Some.sets.now c.same-keeps.result c.new-key.ensures.name (c.same-keeps.ensures.test ∙ ap (is_same_name name) c.origin.ensures) c.in-Some.ensures.sets
+    ∙ named_sets z.origin z.records c.new-key.result.name name c.in-Some.sets.now c.same-keeps.result (c.new-key.ensures.name ∙ c.view.ensures) (c.same-keeps.ensures.test ∙ ap (is_same_name name) c.origin.ensures) c.in-Some.ensures.sets
 
 pub returns-in-None : goal.returns-in-None
 returns-in-None c =
     let z = c.args.map.now in
     let name = c.args.name.now in
-    named_sets z.origin z.records c.new-key.result.name name [] c.same-keeps.result c.new-key.ensures.name (c.same-keeps.ensures.test ∙ ap (is_same_name name) c.origin.ensures) c.in-None.ensures.sets
+    named_sets z.origin z.records c.new-key.result.name name [] c.same-keeps.result (c.new-key.ensures.name ∙ c.view.ensures) (c.same-keeps.ensures.test ∙ ap (is_same_name name) c.origin.ensures) c.in-None.ensures.sets

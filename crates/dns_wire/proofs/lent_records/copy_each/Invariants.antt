@@ -6,5 +6,5 @@ use Rattle.dns_wire.proofs.lent_records.copy_each.Given as goal
 
 abbrev pub invariant-loop-one : goal.invariant-loop-one
 invariant-loop-one l =
-    l.out.items ++ map (given_as (option_map (λ n. fold_of n.now) l.owner) l.is_negative) (drop l.one-index l.records)
-    ≡ l.fn.out.items ++ map (given_as (option_map (λ n. fold_of n.now) l.owner) l.is_negative) l.records
+    l.out.items ++ map (given_as (option_map fold_of l.owner) l.is_negative) (drop l.one-index l.records)
+    ≡ l.fn.out.items ++ map (given_as (option_map fold_of l.owner) l.is_negative) l.records

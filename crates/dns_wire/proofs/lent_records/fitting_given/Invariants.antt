@@ -7,5 +7,5 @@ use Rattle.dns_wire.proofs.lent_records.fitting_given.Given as goal
 
 abbrev pub invariant-loop-one : goal.invariant-loop-one
 invariant-loop-one l =
-    (l.left + length (records_bytes (map (given_as (option_map (λ n. fold_of n.now) l.owner) l.is_negative) (take l.one-index l.records))) ≡ l.room)
+    (l.left + length (records_bytes (map (given_as (option_map fold_of l.owner) l.is_negative) (take l.one-index l.records))) ≡ l.room)
     × (l.count ≡ l.one-index) × (l.count + l.left ≤ l.room)

@@ -5,5 +5,5 @@ use Rattle.dns_wire.proofs.lent_records.put_given.Goals as goal
 
 pub returns : goal.returns
 returns c =
-    let owner = option_map (λ n. fold_of n.now) c.args.owner in
+    let owner = option_map fold_of c.args.owner.now in
     given_put owner c.args.is_negative c.args.one.now _ _ _ _ _ c.in_ok-put_owner.ensures (c.given_ttl-ttl.ensures owner) c.put_rest.ensures

@@ -1,7 +1,8 @@
-use Rattle.std.proofs.Common.{◌+◌, ◌-◌}
-use Rattle.dns_zone_map.specs.Mapped.{contents}
-use Rattle.dns_zone.specs.Descent.{IsAbove}
+use Rattle.dns_zone.proofs.Descending.{IsUnderway}
 use Rattle.dns_zone.proofs.descent.descend.Given as goal
 
-abbrev pub invariant-loop-labels : goal.invariant-loop-labels
-invariant-loop-labels l = IsAbove (contents l.zone) l.key.name (l.depth + 1 - l.labels)
+abbrev pub invariant-loop-end : goal.invariant-loop-end
+invariant-loop-end l = IsUnderway l.fn.walk l.walk
+
+abbrev pub decreases-loop-end : goal.decreases-loop-end
+decreases-loop-end l = l.walk.left

@@ -1,5 +1,5 @@
 use Rattle.std.proofs.Common.{◌≡◌, drop}
-use Rattle.dns_zone.specs.Lent.{in_all}
+use Rattle.dns_zone_map.specs.Sets.{in_all}
 use Rattle.dns_zone.proofs.lent.are_empty.Given as goal
 
 abbrev pub invariant-loop-set : goal.invariant-loop-set

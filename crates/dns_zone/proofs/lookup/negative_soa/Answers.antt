@@ -1,7 +1,7 @@
 use Rattle.std.proofs.Common.{◌∙◌, [], ap, map, sym}
 use Rattle.dns_wire.specs.Given.{negative}
-use Rattle.dns_zone.specs.Lent.{records_or_none}
-use Rattle.dns_zone.proofs.Owned.{set_is}
+use Rattle.dns_zone_map.specs.Sets.{records_or_none}
+use Rattle.dns_zone_map.proofs.Owned.{set_is}
 use Rattle.dns_zone.proofs.lookup.negative_soa.Goals as goal
 
 pub returns-in-None : goal.returns-in-None

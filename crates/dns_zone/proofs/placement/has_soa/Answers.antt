@@ -2,7 +2,7 @@ use Rattle.std.proofs.Common.{sym, ap, ◌∙◌}
 use Rattle.std.specs.Prelude.{is_some}
 use Rattle.dns_zone_map.specs.Sets.{some_of}
 use Rattle.dns_zone_map.specs.Zone.{set_of}
-use Rattle.dns_zone.proofs.Besides.{soa_is, copied_some}
+use Rattle.dns_zone_map.proofs.Besides.{soa_is, copied_some}
 use Rattle.dns_zone.proofs.placement.has_soa.Goals as goal
 
 pub returns : goal.returns

@@ -1,6 +1,6 @@
-use Rattle.std.proofs.Common.{◌++◌, ◌∷◌, [], Some, sym, ap, subst, ◌∙◌}
+use Rattle.std.proofs.Common.{Some, sym, ap, subst, ◌∙◌}
 use Rattle.dns_keeper.specs.declared.row_runs.Maker.{Maker}
-use Rattle.dns_keeper.specs.Batches.{runs_of, goes_on, grown}
+use Rattle.dns_keeper.specs.Batches.{goes_on, grown}
 use Rattle.dns_keeper.specs.RunsSoFar.{is_made_by, AreRunsOf}
 use Rattle.dns_keeper.proofs.RunsGrow.{runs_grow, goes_on-more}
 use Rattle.dns_keeper.proofs.row_runs.RowRuns.count_row.Goals as goal

@@ -6,13 +6,12 @@ use Rattle.dns_server_core.proofs.handler.RequestHandler.handle_frames.Given as 
 abbrev pub invariant-loop-message : goal.invariant-loop-message
 invariant-loop-message g l =
     record {
-      ask : l.ask ≡ record l.fn.ask { bytes = l.ask.bytes };
       within : l.messages ≤ l.most;
-      goes : AddsFront (g.Self.RequestHandler.serves l.access) l.fn.self (first_asks l.fn.ask l.most l.bytes) l.self
-          (first_asks l.fn.ask (l.most - l.messages) l.left) l.fn.replies.items l.replies.items;
-      count : l.messages + length (first_messages (l.most - l.messages) l.left) ≡ length (first_messages l.most l.bytes);
-      behind : behind_first (l.most - l.messages) l.left ≡ behind_first l.most l.bytes;
-      shorter : 2 * l.messages + length l.left ≤ length l.bytes;
+      goes : AddsFront (g.Self.RequestHandler.serves l.access) l.fn.self (first_asks l.stream l.most l.stream.bytes) l.self
+          (first_asks l.stream (l.most - l.messages) l.left) l.fn.replies.items l.replies.items;
+      count : l.messages + length (first_messages (l.most - l.messages) l.left) ≡ length (first_messages l.most l.stream.bytes);
+      behind : behind_first (l.most - l.messages) l.left ≡ behind_first l.most l.stream.bytes;
+      shorter : 2 * l.messages + length l.left ≤ length l.stream.bytes;
     }
 
 abbrev pub decreases-loop-message : goal.decreases-loop-message

@@ -26,7 +26,7 @@ pub returns-clause-ok : goal.returns-clause-ok
 returns-clause-ok g c =
     let before : ResponderOf g.row.H.Denot = record { handler = c.self.inside.handler; access = c.self.inside.access; outs = c.self.inside.out.items; settled = c.self.inside.settled } in
     let after : ResponderOf g.row.H.Denot = record { handler = c.handle_into.new.self; access = c.self.inside.access; outs = c.send.new.out.items; settled = c.self.inside.settled + 1 } in
-    let one : Completed = record { to = c.args.to; ask = c.args.ask } in
+    let one : Completed = record { to = c.args.to; ask = c.args.ask.now } in
     let into : SettlesInto (λ (settled : Settled). g.H.RequestHandler.serves before.access before.handler one.ask settled after.handler) (is_connection one.to) [] c.handle_into.new.out.items c.in_ok-settled.settled =
     rw (c.is_connection-is_framed.ensures, c.new-bytes.ensures.items) at c.in_ok-settled.ensures.ok
     in

@@ -1,23 +1,13 @@
 -- One message more, or a message in front of which it stopped.
-use Rattle.std.proofs.Common.{◌≡◌, ◌∙◌, ◌∷◌, [], List, ℕ, ◌+◌, ◌-◌, map, length, subst, ap, sym, refl, inl, arith}
+use Rattle.std.proofs.Common.{◌≡◌, ◌∙◌, ◌∷◌, [], List, ℕ, ◌+◌, ◌-◌, map, length, subst, ap, sym, arith}
 use Rattle.dns_server_core.specs.Connections.{message_of, messages_left}
 use Rattle.dns_server_core.specs.FrameRuns.{behind_first, first_messages}
 use Rattle.dns_server_core.specs.Handing.{HandsFront}
 use Rattle.dns_server_core.specs.Steps.{unread_messages}
 use Rattle.dns_server_core.proofs.FirstFrames.{behind_none}
 use Rattle.dns_server_core.proofs.OnePiece.{on_err}
-use Rattle.dns_server_core.proofs.Running.{Front-end, Front-more, Breaks-none, Breaks-within}
+use Rattle.dns_server_core.proofs.Running.{Front-end, Front-more, Breaks-within}
 use Rattle.dns_server_core.proofs.responder.Responder.settle_unread.Goals as goal
-
-pub returns-in_err-from_slice-clause-err : goal.returns-in_err-from_slice-clause-err
-returns-in_err-from_slice-clause-err g c =
-    let serves = g.H.RequestHandler.serves in
-    let skips = g.H.RequestHandler.skips in
-    let most : ℕ = messages_left c.args.connection.now - c.loop-message.messages in
-    on_err c.from_residual.result
-    (Breaks-within serves skips c.args.self.now c.loop-message.self c.loop-message.self (unread_messages c.args.at c.args.connection.now)
-    [] (map (message_of c.args.at c.args.connection.now) (first_messages most c.loop-message.left.now)) c.loop-message.invariant.front
-    (Breaks-none serves skips c.loop-message.self c.loop-message.self.handler [] (inl refl)))
 
 pub returns-in_err-settle_message-clause-err : goal.returns-in_err-settle_message-clause-err
 returns-in_err-settle_message-clause-err g c =
@@ -26,10 +16,10 @@ returns-in_err-settle_message-clause-err g c =
     let most : ℕ = messages_left c.args.connection.now - c.loop-message.messages in
     let to_come : first_messages most c.loop-message.left.now ≡ c.in-Some.message.now ∷ first_messages (most - 1) c.in-Some.after.now = rw c.most.ensures at c.in-Some.ensures.messages in
     let front = subst (λ (ms : List (List ℕ)). HandsFront g.H.RequestHandler.serves c.args.self.now all c.loop-message.self (map asked ms)) to_come c.loop-message.invariant.front in
-    on_err c.from_residual-in_err-settle_message.result
+    on_err c.from_residual.result
     (Breaks-within g.H.RequestHandler.serves g.H.RequestHandler.skips c.args.self.now c.loop-message.self c.settle_message.new.self all
     (asked c.in-Some.message.now ∷ []) (map asked (first_messages (most - 1) c.in-Some.after.now)) front
-    (rw (c.number.ensures, c.peer.ensures, c.in_ok-from_slice.ensures) at c.in_err-settle_message.ensures.err))
+    (rw (c.number.ensures, c.peer.ensures) at c.in_err-settle_message.ensures.err))
 
 pub loop-message-preserved : goal.loop-message-preserved
 loop-message-preserved g c =
@@ -48,7 +38,7 @@ loop-message-preserved g c =
     record {
       front = Front-more g.H.RequestHandler.serves c.args.self.now c.loop-message.self c.settle_message.new.self all
           (map asked (first_messages (messages_left c.args.connection.now - (c.loop-message.messages + 1)) after))
-          (asked c.in-Some.message.now) front (rw (c.number.ensures, c.peer.ensures, c.in_ok-from_slice.ensures) at c.in_ok-settle_message.ensures.ok);
+          (asked c.in-Some.message.now) front (rw (c.number.ensures, c.peer.ensures) at c.in_ok-settle_message.ensures.ok);
       within = omega (arith, i.within, c.in-Some.ensures.some, c.most.ensures);
       count = omega (arith, i.count, ap length to_come);
       behind = sym (behind ∙ ap (λ (n : ℕ). behind_first n after) less) ∙ i.behind;

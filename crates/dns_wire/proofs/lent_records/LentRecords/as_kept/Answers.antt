@@ -6,4 +6,4 @@ use Rattle.dns_wire.proofs.Lending.{kinds_given}
 use Rattle.dns_wire.proofs.lent_records.LentRecords.as_kept.Goals as goal
 
 pub returns : goal.returns
-returns c = sym (kinds_given (option_map (λ n. fold_of n.now) c.self.inside.owner) c.self.inside.is_negative c.self.inside.records.now) ∙ ap kinds c.self.view_is
+returns c = sym (kinds_given (option_map fold_of c.self.inside.owner) c.self.inside.is_negative c.self.inside.records.now) ∙ ap kinds c.self.view_is

@@ -1,10 +1,10 @@
-use Rattle.std.proofs.Common.{Bool, if◌then◌else◌, append_assoc, ◌≡◌, ◌++◌, ◌-◌, List, ℕ, arith, length, length-append, [], ap, ◌∙◌}
+use Rattle.std.proofs.Common.{Bool, if◌then◌else◌, append_assoc, ◌≡◌, ◌++◌, ◌-◌, List, ℕ, arith, length, [], ap, ◌∙◌}
 use Rattle.std.specs.Int.{w16, to_be_bytes, from_be_bytes}
 use Rattle.dns_wire.specs.declared.header.Header.{Header}
 use Rattle.dns_wire.specs.declared.reply.Reply.{Reply}
 use Rattle.dns_wire.specs.Edns.{opt_records}
 use Rattle.dns_wire.specs.Header.{flag_bytes}
-use Rattle.dns_wire.specs.WireFormat.{question_bytes, questions_bytes, records_bytes}
+use Rattle.dns_wire.specs.WireFormat.{questions_bytes, records_bytes}
 use Rattle.dns_wire.specs.Written.{question_list, reply_bytes, Written, sent_as}
 use Rattle.dns_wire.proofs.Fitting.{written_made, length-reply_bytes, answers_written}
 use Rattle.dns_wire.proofs.lent_reply.LentReply.append.Goals as goal
@@ -24,8 +24,7 @@ returns c =
     let written : Written r c.args.limit bytes = written_made r c.args.limit _ n
     (omega (
       arith,
-      c.question_len.ensures.is,
-      length-append (question_bytes c.self.inside.question.now) [],
+      c.asked_len.ensures.is,
       c.opt_len.ensures.is,
       c.from-limit.ensures,
       c.requires,
@@ -38,8 +37,7 @@ returns c =
       arith,
       length-reply_bytes r n,
       c.kept_in-kept.ensures.left,
-      c.question_len.ensures.is,
-      length-append (question_bytes c.self.inside.question.now) [],
+      c.asked_len.ensures.is,
       c.opt_len.ensures.is,
       c.from-limit.ensures,
       c.requires,

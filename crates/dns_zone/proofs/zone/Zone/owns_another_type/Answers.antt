@@ -8,11 +8,11 @@ pub returns-in-None : goal.returns-in-None
 returns-in-None c =
     another_is c.args.self.now.records c.args.name.now [] c.args.rtype
     (subst (λ records. AreSetsOf records c.args.name.now []) (ap (λ zone. zone.records) c.map-map.ensures.is)
-    (subst (λ name. AreSetsOf c.map-map.result.now.records name []) c.new-key.ensures.name c.in-None.ensures.sets))
+    (subst (λ name. AreSetsOf c.map-map.result.now.records name []) (c.new-key.ensures.name ∙ c.view.ensures) c.in-None.ensures.sets))
 
 pub returns-in-Some : goal.returns-in-Some
 returns-in-Some c =
     c.has_another_set.ensures ∙ ap (has_another_set c.args.rtype) c.as_slice.ensures
     ∙ another_is c.args.self.now.records c.args.name.now c.in-Some.sets.now c.args.rtype
     (subst (λ records. AreSetsOf records c.args.name.now c.in-Some.sets.now) (ap (λ zone. zone.records) c.map-map.ensures.is)
-    (subst (λ name. AreSetsOf c.map-map.result.now.records name c.in-Some.sets.now) c.new-key.ensures.name c.in-Some.ensures.sets))
+    (subst (λ name. AreSetsOf c.map-map.result.now.records name c.in-Some.sets.now) (c.new-key.ensures.name ∙ c.view.ensures) c.in-Some.ensures.sets))

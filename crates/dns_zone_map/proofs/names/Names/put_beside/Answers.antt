@@ -1,0 +1,40 @@
+use Rattle.std.proofs.Common.{rules}
+use Rattle.dns_zone_map.specs.Sets.{TypesRise}
+use Rattle.dns_zone_map.proofs.Table.{found_tree}
+use Rattle.dns_zone_map.proofs.Lifted.{held_by, beside_ok, same_err, table_beside_ok, others_found}
+use Rattle.dns_zone_map.proofs.names.Names.put_beside.Goals as goal
+
+pub put_beside-requires : goal.put_beside-requires
+put_beside-requires c =
+    let ts = c.self.inside.trees.items in
+    let t = c.index_mut-tree.result.now in
+    let p = found_tree ts c.args.key.now c.len.result c.place_of-place.result t c.self.invariant (search rules) c.place_of-place.ensures.is c.place_of-place.ensures.within (search rules) in
+    held_by ts t t c.args.key.now c.place_of-place.result p _ c.self.view_is (λ e. TypesRise e.1) c.requires
+
+pub invariant_of-self : goal.invariant_of-self
+invariant_of-self c =
+    let ts = c.self.inside.trees.items in
+    let t = c.index_mut-tree.result.now in
+    let p = found_tree ts c.args.key.now c.len.result c.place_of-place.result t c.self.invariant (search rules) c.place_of-place.ensures.is c.place_of-place.ensures.within (search rules) in
+    table_beside_ok ts t c.put_beside.new.names c.args.key.now c.place_of-place.result p _ c.self.view_is c.args.number c.args.one c.put_beside.result c.put_beside.ensures.put c.put_beside.ensures.err
+
+pub returns-clause-put : goal.returns-clause-put
+returns-clause-put c =
+    let ts = c.self.inside.trees.items in
+    let t = c.index_mut-tree.result.now in
+    let p = found_tree ts c.args.key.now c.len.result c.place_of-place.result t c.self.invariant (search rules) c.place_of-place.ensures.is c.place_of-place.ensures.within (search rules) in
+    beside_ok ts t c.put_beside.new.names c.args.key.now c.place_of-place.result p _ c.self.view_is c.args.number c.args.one c.put_beside.result c.put_beside.ensures.put
+
+pub returns-clause-others : goal.returns-clause-others
+returns-clause-others c =
+    let ts = c.self.inside.trees.items in
+    let t = c.index_mut-tree.result.now in
+    let p = found_tree ts c.args.key.now c.len.result c.place_of-place.result t c.self.invariant (search rules) c.place_of-place.ensures.is c.place_of-place.ensures.within (search rules) in
+    others_found ts t c.put_beside.new.names c.args.key.now c.place_of-place.result p _ c.self.view_is c.put_beside.ensures.others
+
+pub returns-clause-err : goal.returns-clause-err
+returns-clause-err c =
+    let ts = c.self.inside.trees.items in
+    let t = c.index_mut-tree.result.now in
+    let p = found_tree ts c.args.key.now c.len.result c.place_of-place.result t c.self.invariant (search rules) c.place_of-place.ensures.is c.place_of-place.ensures.within (search rules) in
+    same_err ts t c.put_beside.new.names c.args.key.now c.place_of-place.result p _ c.self.view_is c.put_beside.result c.put_beside.ensures.err
