@@ -420,9 +420,9 @@ def refused():
         yield "the server's address as people write it", sent_to(server.port, ADD, 7, HOST), (0, "0007 0\n")
     with open("/dev/full", "wb") as full, plain(answering(lambda m: framed(reply_to(m)))) as server:
         yield "an output that takes nothing", run([f"--server={IP}:{server.port}", "--id=0"], ADD, stdout=full)[0], 7
-    yield "the version", run(["--version"], ""), (0, "dns_nsupdate 0.1.0\n")
+    yield "the version", run(["--version"], ""), (0, "dns-nsupdate 0.1.0\n")
     status, text = run(["--help"], "")
-    yield "the help", (status, text.splitlines()[2]), (0, "usage: dns_nsupdate --server=IP:PORT --id=N")
+    yield "the help", (status, text.splitlines()[2]), (0, "usage: dns-nsupdate --server=IP:PORT --id=N")
 
 
 def example():

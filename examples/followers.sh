@@ -1,6 +1,6 @@
 #!/bin/sh
 # A primary and two followers on one machine, as lines that can be copied one by one. Run it at the top of the repository; it takes a few
-# seconds, and what it made is gone at its end. It needs dig, socat, and the ports 5300 to 5303 of the loopback address.
+# seconds, and what it made is gone at its end. It needs dig, socat, sqlite3, and the ports 5300 to 5303 of the loopback address.
 set -eu
 here=$(mktemp -d)
 primary='' second='' third=''
