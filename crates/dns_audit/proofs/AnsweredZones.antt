@@ -1,5 +1,5 @@
 -- The zone at the length that an answer tells.
-use Rattle.std.proofs.Common.{◌≡◌, ◌⊎◌, inl, inr, ℕ, ◌+◌, ◌<◌, ◌≤◌, ℤ, List, [], ◌++◌, length, take, Bool, true, false, Option, Some, None, Result, Ok, Err, refl, sym, ap, ◌∙◌, subst, arith, length-append}
+use Rattle.std.proofs.Common.{◌≡◌, ◌⊎◌, inl, inr, ℕ, ◌+◌, ◌<◌, ◌≤◌, List, ◌++◌, length, take, Bool, Option, Some, None, Result, Ok, Err, refl, sym, ap, ◌∙◌, subst, arith, length-append}
 use Rattle.std.proofs.Math.Seq.{take-append_seam}
 use Rattle.std.proofs.lemmas.Option.{same_Some}
 use Rattle.dns_name.specs.Name.{fold_of}
@@ -7,7 +7,7 @@ use Rattle.dns_wire.specs.declared.record.Record.{Record}
 use Rattle.dns_keeper.specs.declared.row.Row.{Row}
 use Rattle.dns_keeper.specs.Keeping.{KeeperOf}
 use Rattle.dns_zone_map.specs.Zone.{Contents}
-use Rattle.dns_update.specs.Replay.{Refusal, Replays}
+use Rattle.dns_update.specs.Replay.{Replays}
 use Rattle.dns_update.proofs.Replayed.{replays_one}
 use Rattle.dns_store.specs.Store.{HasRows, StandFor}
 use Rattle.dns_book.specs.declared.ask.Ask.{Ask}

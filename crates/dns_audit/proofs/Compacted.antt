@@ -1,11 +1,10 @@
 -- A journal that was compacted into another one, or was not.
-use Rattle.std.proofs.Common.{◌≡◌, ◌⊎◌, inl, inr, ℕ, ◌≤◌, ℤ, pos, ◌+ℤ◌, List, [], ◌∷◌, length, Option, Some, None, Result, Ok, Err, refl, sym, ap, ◌∙◌, subst, arith}
+use Rattle.std.proofs.Common.{◌≡◌, inl, inr, ℕ, ℤ, pos, ◌+ℤ◌, List, [], ◌∷◌, length, Option, Some, None, Result, Ok, Err, refl, sym, ap, ◌∙◌, subst}
 use Rattle.std.specs.Prelude.{IfSome, ◌≢◌}
-use Rattle.dns_io.specs.Told.{Keeps, Told, Rose}
-use Rattle.dns_io.proofs.ToldContents.{Keeps-same}
+use Rattle.dns_io.specs.Told.{Keeps, Told}
 use Rattle.dns_name.specs.Name.{fold_of}
 use Rattle.dns_wire.specs.declared.record.Record.{Record}
-use Rattle.dns_edges.specs.Edges.{Around, around}
+use Rattle.dns_edges.specs.Edges.{around}
 use Rattle.dns_keeper.specs.declared.row.Row.{Row}
 use Rattle.dns_keeper.specs.declared.batch_row.BatchRow.{BatchRow}
 use Rattle.dns_keeper.specs.declared.keeper.KeepFault.{KeepFault}
@@ -13,15 +12,15 @@ use Rattle.dns_keeper.specs.declared.keeper.KeepFault.TheVariants as keep
 use Rattle.dns_keeper.specs.Rows.{last_id, appended}
 use Rattle.dns_keeper.specs.Batches.{Covers, batches_with}
 use Rattle.dns_keeper.specs.Keeping.{KeeperOf, KeeperTold, IsFirstRow, HasBatch, GrowsByBatch, GrowsByRun, KeepsBatches, HasCause}
-use Rattle.dns_keeper.specs.Calls.{ReadsRow, Appends}
-use Rattle.dns_keeper.specs.Crash.{LeavesTold, LeavesNoOther, LeavesWhole}
+use Rattle.dns_keeper.specs.Calls.{ReadsRow}
+use Rattle.dns_keeper.specs.Crash.{LeavesWhole}
 use Rattle.dns_zone_map.specs.Zone.{Contents, serial_of}
 use Rattle.dns_update.specs.Replay.{Refusal, Replays, opening_of}
 use Rattle.dns_store.specs.declared.opening.OpenKind.{OpenKind}
 use Rattle.dns_store.specs.declared.opening.OpenKind.TheVariants as kind
-use Rattle.dns_store.specs.Store.{HasRows, StandFor}
-use Rattle.dns_store.specs.Covered.{IsCovered, HadNothing}
-use Rattle.dns_store.specs.Opening.{HadRows, HadNoRow, AreUnread}
+use Rattle.dns_store.specs.Store.{StandFor}
+use Rattle.dns_store.specs.Covered.{IsCovered}
+use Rattle.dns_store.specs.Opening.{HadNoRow, AreUnread}
 use Rattle.dns_store.proofs.Opened.{since, HasRows-begun, StandFor-begun}
 use Rattle.dns_store.proofs.ToldBatches.{covered_begun, since_both, batches_on, whole_since}
 use Rattle.dns_store.proofs.ReadRows.{kept_on}
@@ -31,7 +30,7 @@ use Rattle.dns_audit.specs.declared.commands.Command.TheVariants.{Compact}
 use Rattle.dns_audit.specs.Commands.{command_of}
 use Rattle.dns_audit.specs.Faults.{of_kind, of_keeper}
 use Rattle.dns_audit.specs.Reading.{CountsByFault, ReadsJournal}
-use Rattle.dns_audit.specs.Compacting.{IsWholeZone, IsWholeRefused, GetsZone, GetsNoZone, HasNoWholeZone, SeesRow, IsOfKeeper, Compacts, CompactsNot, IsUncompacted, CountsBoth, LeavesCompacted, unwritten, in_append, LeavesInto, unused, by_compact}
+use Rattle.dns_audit.specs.Compacting.{IsWholeZone, GetsZone, GetsNoZone, HasNoWholeZone, SeesRow, IsOfKeeper, Compacts, CompactsNot, IsUncompacted, CountsBoth, LeavesCompacted, in_append, LeavesInto, unused, by_compact}
 
 -- ---- the look at the other journal
 

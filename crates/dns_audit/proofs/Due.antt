@@ -1,25 +1,20 @@
 -- Of what the program was given one status is due: and that comes, where no object fails and memory does not run out.
-use Rattle.std.proofs.Common.{◌≡◌, ◌⊎◌, inl, inr, ℕ, ◌<◌, ◌≤◌, ℤ, pos, List, [], true, false, length, take, Option, Some, None, IsSome, Result, Ok, Err, refl, sym, ap, ◌∙◌, subst, arith}
+use Rattle.std.proofs.Common.{◌≡◌, ◌⊎◌, inl, inr, ℕ, pos, List, [], false, Option, Some, None, IsSome, Ok, Err, refl, sym, ap, ◌∙◌, subst}
 use Rattle.std.specs.Prelude.{IfSome, ◌≢◌}
 use Rattle.std.proofs.lemmas.Option.{same_Some}
-use Rattle.dns_io.specs.Told.{Rose, Keeps, Told}
+use Rattle.dns_io.specs.Told.{Keeps, Told}
 use Rattle.dns_name.specs.Name.{fold_of}
-use Rattle.dns_wire.specs.declared.record.Record.{Record}
-use Rattle.dns_edges.specs.Edges.{Around}
 use Rattle.dns_keeper.specs.declared.row.Row.{Row}
 use Rattle.dns_keeper.specs.declared.batch_row.BatchRow.{BatchRow}
 use Rattle.dns_keeper.specs.Batches.{Covers, uncovered}
-use Rattle.dns_keeper.specs.Keeping.{KeeperTold, KeepsBatches}
-use Rattle.dns_keeper.proofs.Covering.{covering}
+use Rattle.dns_keeper.specs.Keeping.{KeepsBatches}
 use Rattle.dns_zone_map.specs.Zone.{Contents}
 use Rattle.dns_update.specs.declared.replay_kind.ReplayKind.{ReplayKind}
 use Rattle.dns_update.specs.declared.replay_kind.ReplayKind.TheVariants.{BatchOutOfPlace}
-use Rattle.dns_update.specs.Replay.{Refusal, Replays}
-use Rattle.dns_update.proofs.Replayed.{replays_one}
+use Rattle.dns_update.specs.Replay.{Replays}
 use Rattle.dns_store.specs.declared.opening.OpenKind.{OpenKind}
 use Rattle.dns_store.specs.declared.opening.OpenKind.TheVariants as kind
-use Rattle.dns_store.specs.Opening.{HadRows, HadNoRow, AreRefused}
-use Rattle.dns_store.specs.Covered.{StandOrNone, AreUncovered}
+use Rattle.dns_store.specs.Covered.{StandOrNone}
 use Rattle.dns_store.specs.Listing.{IsUnsound}
 use Rattle.dns_printed.specs.Lone.{has_alias_beside_other}
 use Rattle.dns_audit.specs.declared.fault.AuditFault.{AuditFault}
@@ -30,14 +25,14 @@ use Rattle.dns_audit.specs.declared.commands.Command.TheVariants.{PrintZone, Lis
 use Rattle.dns_audit.specs.Commands.{command_of}
 use Rattle.dns_audit.specs.Faults.{of_kind}
 use Rattle.dns_audit.specs.Reading.{CountsByFault, IsZoneAt, IsShort, IsRefusedAt, HasNoZoneAt}
-use Rattle.dns_audit.specs.Listed.{Lists, ListsNot}
+use Rattle.dns_audit.specs.Listed.{Lists}
 use Rattle.dns_audit.specs.Printing.{TellsPrint}
-use Rattle.dns_audit.specs.Compacting.{IsWholeRefused, Compacts, CompactsNot, IsUncompacted, CountsBoth}
+use Rattle.dns_audit.specs.Compacting.{CompactsNot, CountsBoth}
 use Rattle.dns_audit.specs.Status.{status_of}
 use Rattle.dns_audit.specs.World.{World}
-use Rattle.dns_audit.specs.Steps.{FindsZone, FindsNoZone, no_zone, no_text, IsDone, printed, listed, compacted, IsRefused, at_words, without_memory, at_zone, at_list, at_compact}
+use Rattle.dns_audit.specs.Steps.{no_zone, no_text, IsDone, printed, listed, compacted, IsRefused, at_words, without_memory, at_zone, at_list, at_compact}
 use Rattle.dns_audit.specs.Ends.{Ends, with_output, with_refusal, without_line, with_write_fault, cut_for_memory}
-use Rattle.dns_audit.specs.Completeness.{ZoneDue, ListDue, CompactDue, IsDue, by_words, by_zone, by_list, by_compact, IsFaultless, IsTold, Completes}
+use Rattle.dns_audit.specs.Completeness.{ZoneDue, ListDue, IsDue, by_words, by_zone, by_list, by_compact, IsFaultless, IsTold, Completes}
 use Rattle.dns_audit.specs.Completeness.{ZoneDue as zone}
 use Rattle.dns_audit.specs.Completeness.{ListDue as list}
 use Rattle.dns_audit.specs.Completeness.{CompactDue as compact}

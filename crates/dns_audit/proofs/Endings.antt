@@ -1,5 +1,5 @@
 -- How the program ends, by what its parts did.
-use Rattle.std.proofs.Common.{◌≡◌, ◌⊎◌, inl, inr, ℕ, List, true, false, Option, Some, None, Result, Ok, Err, refl, sym, ap, ◌∙◌, subst}
+use Rattle.std.proofs.Common.{◌≡◌, ◌⊎◌, inl, inr, ℕ, List, false, Option, Some, None, Result, Ok, Err, refl, sym, ap, subst}
 use Rattle.dns_io.specs.declared.io_fault.IoFault.{IoFault}
 use Rattle.dns_io.specs.declared.io_fault.IoFault.TheVariants.{Failed, OutOfMemory}
 use Rattle.dns_io.specs.Told.{Rose, Keeps}
@@ -12,17 +12,16 @@ use Rattle.dns_audit.specs.declared.status.AuditStatus.{AuditStatus}
 use Rattle.dns_audit.specs.declared.status.AuditStatus.TheVariants as status
 use Rattle.dns_audit.specs.declared.commands.Command.TheVariants.{PrintZone, ListBatches, Compact}
 use Rattle.dns_audit.specs.Commands.{command_of}
-use Rattle.dns_audit.specs.Reading.{CountsByFault, HasNoZoneAt}
-use Rattle.dns_audit.specs.Printing.{TellsPrint}
-use Rattle.dns_audit.specs.Compacting.{CompactsNot, CountsBoth}
+use Rattle.dns_audit.specs.Reading.{CountsByFault}
+use Rattle.dns_audit.specs.Compacting.{CountsBoth}
 use Rattle.dns_audit.specs.Status.{refusal_line, has_line, status_of}
 use Rattle.dns_audit.specs.World.{World, IsStill}
 use Rattle.dns_audit.specs.Writing.{after_writing, EndsWriting, EndsRefusing, silent, by_line}
-use Rattle.dns_audit.specs.Steps.{FindsNoZone, no_zone, no_text, UsesJournal, IsDone, printed, listed, compacted, IsRefused, at_words, without_memory, at_zone, at_list, at_compact}
+use Rattle.dns_audit.specs.Steps.{no_zone, no_text, UsesJournal, IsDone, printed, listed, compacted, IsRefused, at_words, without_memory, at_zone, at_list, at_compact}
 use Rattle.dns_audit.specs.Ends.{TookFront, IsCut, in_refusal, in_output, Ends, with_output, with_refusal, without_line, with_write_fault, cut_for_memory}
 use Rattle.dns_audit.specs.Counts as counting
-use Rattle.dns_audit.specs.Counts.{TellsFailed, CountsJournal, CountsWriting, Counts}
-use Rattle.dns_audit.specs.Parts.{Finishes, did, refused, PrintsText, PrintsNoText, PrintsZone, PrintsNoZone, PrintsBatches, PrintsNoBatches, PrintsRows, PrintsNoRows, Tells}
+use Rattle.dns_audit.specs.Counts.{TellsFailed, CountsJournal, CountsWriting}
+use Rattle.dns_audit.specs.Parts.{Finishes, did, refused, PrintsZone, PrintsNoZone, PrintsBatches, PrintsNoBatches, PrintsRows, PrintsNoRows, Tells}
 use Rattle.dns_audit.proofs.Due.{completes}
 
 -- ---- the text of the output, or the line of a refusal

@@ -1,5 +1,5 @@
 -- One status alone is due.
-use Rattle.std.proofs.Common.{◌≡◌, ◌⊎◌, inl, inr, ℕ, ◌<◌, ◌≤◌, ℤ, pos, List, [], true, false, length, take, Option, Some, None, Result, Ok, Err, refl, sym, ap, ◌∙◌, subst, arith}
+use Rattle.std.proofs.Common.{◌≡◌, inl, inr, ℕ, ℤ, pos, List, [], true, false, take, Option, Some, None, Result, Ok, Err, refl, sym, ap, ◌∙◌, subst, arith}
 use Rattle.std.specs.Prelude.{◌≢◌}
 use Rattle.std.proofs.lemmas.Option.{same_Some}
 use Rattle.dns_name.specs.Name.{fold_of}
@@ -8,8 +8,7 @@ use Rattle.dns_keeper.specs.declared.row.Row.{Row}
 use Rattle.dns_keeper.specs.declared.batch_row.BatchRow.{BatchRow}
 use Rattle.dns_keeper.specs.Batches.{Covers, uncovered}
 use Rattle.dns_keeper.proofs.Covering.{covering}
-use Rattle.dns_update.specs.declared.replay_kind.ReplayKind.{ReplayKind}
-use Rattle.dns_update.specs.declared.replay_kind.ReplayKind.TheVariants.{NoRecord, BatchOutOfPlace}
+use Rattle.dns_update.specs.declared.replay_kind.ReplayKind.TheVariants.{BatchOutOfPlace}
 use Rattle.dns_update.specs.Replay.{Refusal, Replays}
 use Rattle.dns_update.proofs.Replayed.{replays_one}
 use Rattle.dns_store.specs.Covered.{StandOrNone}

@@ -1,5 +1,5 @@
 -- How the parts of the top call end.
-use Rattle.std.proofs.Common.{◌≡◌, ℕ, ◌++◌, List, Result, Ok, Err, refl, sym, ap, ◌∙◌, subst}
+use Rattle.std.proofs.Common.{◌≡◌, ℕ, ◌++◌, List, Result, Ok, Err, refl}
 use Rattle.std.specs.Prelude.{IfSome}
 use Rattle.dns_io.specs.declared.io_fault.IoFault.{IoFault}
 use Rattle.dns_wire.specs.declared.record.Record.{Record}
@@ -19,7 +19,7 @@ use Rattle.dns_audit.specs.Printing.{IsPrintable, TellsPrint}
 use Rattle.dns_audit.specs.Compacting.{Compacts, CompactsNot}
 use Rattle.dns_audit.specs.Status.{status_of, refusal_line}
 use Rattle.dns_audit.specs.Writing.{after_writing, EndsWriting, EndsRefusing}
-use Rattle.dns_audit.specs.Steps.{FindsZone, FindsNoZone, no_zone, no_text}
+use Rattle.dns_audit.specs.Steps.{no_zone, no_text}
 use Rattle.dns_audit.specs.Parts.{Finishes, did, refused, PrintsText, PrintsNoText, PrintsZone, PrintsNoZone, PrintsBatches, PrintsNoBatches, PrintsRows, PrintsNoRows}
 
 module _ {S : Type 0} (sink : SinkOf S) (before after : S) where

@@ -1,28 +1,20 @@
 -- What readings of a journal are to an audit, and their causes.
-use Rattle.std.proofs.Common.{◌≡◌, ℕ, ◌<◌, ◌≤◌, ℤ, List, Option, Some, None, Result, Ok, Err, refl, sym, ap, ◌∙◌, subst}
+use Rattle.std.proofs.Common.{◌≡◌, ℕ, ◌<◌, ℤ, List, Option, Some, None, Ok, Err, sym, subst}
 use Rattle.std.specs.Prelude.{IfSome}
-use Rattle.dns_name.specs.Name.{fold_of}
 use Rattle.dns_keeper.specs.declared.row.Row.{Row}
-use Rattle.dns_keeper.specs.declared.keeper.KeepFault.{KeepFault}
 use Rattle.dns_keeper.specs.declared.keeper.KeepFault.TheVariants as keep
-use Rattle.dns_keeper.specs.Keeping.{KeeperOf, KeeperTold, IsFirstRow, CountsBy}
-use Rattle.dns_keeper.specs.Calls.{ReadsRow}
-use Rattle.dns_edges.specs.Edges.{Around}
+use Rattle.dns_keeper.specs.Keeping.{KeeperOf}
 use Rattle.dns_zone_map.specs.Zone.{Contents}
 use Rattle.dns_update.specs.declared.replay_kind.ReplayKind.{ReplayKind}
-use Rattle.dns_update.specs.Replay.{Replays}
 use Rattle.dns_store.specs.declared.opening.OpenKind.{OpenKind}
 use Rattle.dns_store.specs.declared.opening.OpenKind.TheVariants as kind
 use Rattle.dns_store.specs.declared.front.Front.TheVariants as front
-use Rattle.dns_store.specs.declared.listing.ListedBatch.{ListedBatch}
 use Rattle.dns_store.specs.Front.{IsFront, EndsFront, IsFrontUnread}
-use Rattle.dns_store.specs.Opening.{AreUnread}
-use Rattle.dns_store.specs.Listing.{IsUnsound}
 use Rattle.dns_store.specs.Recovering.{ReadsRows}
 use Rattle.dns_audit.specs.declared.fault.AuditFault.{AuditFault}
 use Rattle.dns_audit.specs.declared.fault.AuditFault.TheVariants as fault
-use Rattle.dns_audit.specs.Faults.{of_kind, of_keeper}
-use Rattle.dns_audit.specs.Reading.{CountsByFault, ReadsJournal, IsZoneAt, IsShort, IsRefusedAt, HasNoZoneAt}
+use Rattle.dns_audit.specs.Faults.{of_kind}
+use Rattle.dns_audit.specs.Reading.{CountsByFault, ReadsJournal, IsZoneAt, IsRefusedAt, HasNoZoneAt}
 
 -- a journal was read, or was not
 pub read_well : {K S T : Type 0} (keeper : KeeperOf K) (old new : K) (value : S) (other : T) → ReadsRows keeper old new (Ok value) → ReadsJournal keeper old new (Ok other)

@@ -1,9 +1,9 @@
 -- The line of a refusal, written or not.
-use Rattle.std.proofs.Common.{◌≡◌, ℕ, List, true, false, Result, Ok, Err, refl, sym, ap, ◌∙◌, subst}
+use Rattle.std.proofs.Common.{◌≡◌, ℕ, List, true, Result, Ok, Err, refl, sym, ◌∙◌, subst}
 use Rattle.std.specs.Result.{IsErrOf}
 use Rattle.dns_io.specs.declared.io_fault.IoFault.{IoFault}
 use Rattle.dns_io.specs.declared.io_fault.IoFault.TheVariants.{Failed, OutOfMemory}
-use Rattle.dns_edges.specs.Edges.{Around, around, SinkOf, SinkTold}
+use Rattle.dns_edges.specs.Edges.{Around, SinkOf, SinkTold}
 use Rattle.dns_words.specs.Writing.{WritesWhole, WantedMemory}
 use Rattle.dns_audit.specs.declared.status.AuditStatus.{AuditStatus}
 use Rattle.dns_audit.specs.declared.status.AuditStatus.TheVariants as status

@@ -1,5 +1,5 @@
 -- What compacting a journal does: another one, without rows, gets a snapshot and the records of the zone that its rows stand for.
-use Rattle.std.specs.Prelude.{◌≡◌, ◌⊎◌, ◌≤◌, ℕ, ℤ, List, [], length, Option, Some, IfSome, Ok, Err}
+use Rattle.std.specs.Prelude.{◌≡◌, ◌⊎◌, ℕ, ℤ, List, [], length, Option, Some, IfSome, Ok, Err}
 use Rattle.dns_io.specs.Told.{Keeps, Rose}
 use Rattle.dns_edges.specs.Edges.{Around}
 use Rattle.dns_name.specs.Name.{fold_of}

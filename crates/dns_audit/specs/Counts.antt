@@ -1,5 +1,5 @@
 -- Which counts of faults rose in the top call: those alone of which its status tells.
-use Rattle.std.specs.Prelude.{◌≡◌, ◌⊎◌, ℕ, List}
+use Rattle.std.specs.Prelude.{◌≡◌, ◌⊎◌}
 use Rattle.dns_io.specs.Told.{Rose}
 use Rattle.dns_keeper.specs.Keeping.{KeeperTold}
 use Rattle.dns_edges.specs.Edges.{Around, SinkOf, SinkTold}

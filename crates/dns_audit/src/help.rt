@@ -1,16 +1,16 @@
 //! What the program says of itself.
 
 /// The answer to `--version`.
-pub const VERSION: &str = "dns_audit 0.1.0\n";
+pub const VERSION: &str = "dns-audit 0.1.0\n";
 
 /// The answer to `--help`.
 pub const HELP: &str = "\
-dns_audit: tells what the journal of a DNS zone holds, and makes a short one of it
+dns-audit: tells what the journal of a DNS zone holds, and makes a short one of it
 
-usage: dns_audit zone ORIGIN LENGTH [--journal=PATH]
-       dns_audit list ORIGIN [--journal=PATH]
-       dns_audit compact ORIGIN [--journal=PATH] [--into=PATH]
-       dns_audit --help | --version
+usage: dns-audit zone ORIGIN LENGTH [--journal=PATH]
+       dns-audit list ORIGIN [--journal=PATH]
+       dns-audit compact ORIGIN [--journal=PATH] [--into=PATH]
+       dns-audit --help | --version
 
 zone writes the zone that the first LENGTH rows of the journal stand for, as a master file (RFC 1035 5), and behind it the line
   ; length N serial S                    how many rows they are, and the zone's serial
@@ -43,6 +43,6 @@ Exit status, and the one line that is written in place of the output:
   13  not empty                 the other journal has rows
   14  alias beside other        a name has an alias and another record, which no master file may have
 
-example: dns_audit zone example.com. 9 --journal=example.journal
-         dns_audit compact example.com. --journal=example.journal --into=short.journal
+example: dns-audit zone example.com. 9 --journal=example.journal
+         dns-audit compact example.com. --journal=example.journal --into=short.journal
 ";

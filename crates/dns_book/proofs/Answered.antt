@@ -8,9 +8,8 @@ use Rattle.dns_wire.specs.declared.record.Record.{Record}
 use Rattle.dns_wire.specs.declared.reply.Reply.{Reply}
 use Rattle.dns_wire.specs.declared.lent_reply.Appended.{Appended}
 use Rattle.dns_wire.specs.Standing.{word_at}
-use Rattle.dns_wire.specs.Written.{Written, sent_as, Appends}
+use Rattle.dns_wire.specs.Written.{Written, Appends}
 use Rattle.dns_keeper.specs.Keeping.{KeeperOf}
-use Rattle.dns_counts.specs.declared.asked.Asked.{Asked}
 use Rattle.dns_counts.specs.declared.asked.Replied.{Replied}
 use Rattle.dns_counts.specs.Counters.{recorded}
 use Rattle.dns_book.specs.declared.ask.Ask.{Ask}
@@ -20,8 +19,8 @@ use Rattle.dns_book.specs.declared.decision.Request.{Request}
 use Rattle.dns_book.specs.declared.decision.Decision.{Decision}
 use Rattle.dns_book.specs.Owed.{edns_for, limit_of, reply_to, reply_of, case_batch}
 use Rattle.dns_book.specs.Counted.{counted_question, kinds_of, replied_of}
-use Rattle.dns_book.specs.Book.{SeenOf, IsKept, IsLeft, Ends, idle, grounds_of}
-use Rattle.dns_book.specs.Crash.{LeavesBatch, LeavesBy, LeavesSettled, LeavesOn}
+use Rattle.dns_book.specs.Book.{SeenOf, IsKept, Ends, idle, grounds_of}
+use Rattle.dns_book.specs.Crash.{LeavesBy, LeavesSettled, LeavesOn}
 use Rattle.dns_book.specs.Into.{SettlesInto}
 use Rattle.dns_book.specs.Carrying.{replied_by, IsPut, CarriesOut, Carries}
 use Rattle.dns_book.proofs.Carried.{left_by}
@@ -107,12 +106,13 @@ module _ {K : Type 0} (keeper : KeeperOf K) (before : SeenOf K) (ask : Ask) (d :
 
 -- where no memory was found before anything was done
 pub carries_none : {K : Type 0} (keeper : KeeperOf K) (before : SeenOf K) (ask : Ask) (d : Decision) (framed : Bool) (had has : List ℕ) (answer : Result SettledInto OutOfMemory) (after : SeenOf K)
-    → is_err answer ≡ true → IsKept keeper before → after ≡ before → Carries keeper before ask d framed had has answer after
-carries_none keeper before ask d framed had has (Ok into) after fails kept same = absurd cc
-carries_none keeper before ask d framed had has (Err fault) after fails kept same = subst (λ (b : SeenOf _). Carries keeper before ask d framed had has (Err fault) b) (sym same) (record {
+    → is_err answer ≡ true → IsKept keeper before → after ≡ before → has ≡ had → Carries keeper before ask d framed had has answer after
+carries_none keeper before ask d framed had has (Ok into) after fails kept same as_before = absurd cc
+carries_none keeper before ask d framed had has (Err fault) after fails kept same as_before = subst (λ (b : SeenOf _). Carries keeper before ask d framed had has (Err fault) b) (sym same) (record {
   ok = tt;
   kept = kept;
   err = IsLeft-same keeper before;
+  out = as_before;
   left = λ some now. inl now;
   left_on = λ on. on;
 })
@@ -132,6 +132,7 @@ carries_idle keeper before ask d framed had has after kept way question reply co
   ok = put_idle keeper before ask d way after question reply framed had has counts into asked is none p same (told_before into None counts before after same told);
   kept = subst (IsKept keeper) (sym same) kept;
   err = tt;
+  out = tt;
   left = tt;
   left_on = λ on. subst (LeavesOn keeper) (sym same) on;
 }
@@ -147,6 +148,7 @@ carries_journalled keeper before ask d framed had has after way fails receipt ba
   ok = put_journalled keeper before ask d way fails receipt batch ended after reply framed had has counts into asked is brings ends by p same (told_before into receipt counts ended after same told);
   kept = subst (IsKept keeper) (sym same) kept;
   err = tt;
+  out = tt;
   left = tt;
   left_on = λ on. subst (LeavesOn keeper) (sym same) (goes on);
 }

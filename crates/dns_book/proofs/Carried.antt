@@ -1,5 +1,5 @@
 -- A message is settled where what was decided of it is carried out, and a crash leaves no more than so.
-use Rattle.std.proofs.Common.{◌≡◌, ℕ, ◌<◌, List, [], length, Option, Some, None, Bool, true, false, Result, Ok, Err, IfOk, inl, inr, refl, sym, ap, ◌∙◌, subst, arith}
+use Rattle.std.proofs.Common.{◌≡◌, ℕ, ◌<◌, List, [], length, Option, Some, None, Bool, true, false, Result, Ok, Err, IfOk, inl, inr, refl, sym, ◌∙◌, subst, arith}
 use Rattle.std.specs.Prelude.{OnErr}
 use Rattle.std.proofs.lemmas.List.{append-nil}
 use Rattle.dns_io.specs.declared.fault.OutOfMemory.{OutOfMemory}
@@ -21,9 +21,9 @@ use Rattle.dns_book.specs.declared.decision.Case.TheVariants.{ShutOut, Malformed
 use Rattle.dns_book.specs.declared.decision.Decision.{Decision}
 use Rattle.dns_book.specs.Access.{Access}
 use Rattle.dns_book.specs.Cases.{only_question, Decides}
-use Rattle.dns_book.specs.Owed.{code_of, reply_to, case_reply, reply_of, passing_batch, case_batch, batch_by, IsWritten}
+use Rattle.dns_book.specs.Owed.{code_of, reply_to, case_reply, reply_of, passing_batch, case_batch, IsWritten}
 use Rattle.dns_book.specs.Counted.{counts_after}
-use Rattle.dns_book.specs.Book.{SeenOf, IsKept, IsLeft, grounds_of, Ends, idle, journalled, failed, Settles}
+use Rattle.dns_book.specs.Book.{SeenOf, IsKept, grounds_of, Ends, idle, journalled, failed, Settles}
 use Rattle.dns_book.specs.Crash.{LeavesBatch, LeavesBy, LeavesSettled, SettlesLeaving, LeavesUnsettled, refused}
 use Rattle.dns_book.specs.Into.{SettlesInto}
 use Rattle.dns_book.specs.Carrying.{CarriesOut, Carries}

@@ -1,7 +1,7 @@
 -- What is decided of a message: by what was read of it, and that it is one decision.
 use Rattle.std.proofs.Common.{◌≡◌, List, [], ◌∷◌, length, Bool, true, false, not, is_err, if◌then◌else◌, Option, Some, None, ℕ, refl, sym, ap, ◌∙◌, subst}
 use Rattle.std.specs.List.{AllByRecursion}
-use Rattle.std.specs.Prelude.{IfSome, IfNone, IsSomeAnd, ◌==◌, ◌||◌}
+use Rattle.std.specs.Prelude.{IfSome, IsSomeAnd, ◌==◌, ◌||◌}
 use Rattle.dns_wire.specs.declared.header.Header.{Header}
 use Rattle.dns_wire.specs.declared.message.Message.{Message}
 use Rattle.dns_wire.specs.declared.question.Question.{Question}

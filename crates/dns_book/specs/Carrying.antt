@@ -63,11 +63,13 @@ pub record CarriesOut {K : Type 0} (keeper : KeeperOf K) (before : SeenOf K) (as
   pub length : settled.length ≡ after.row_count
   pub leaves : LeavesSettled keeper before ask (case_batch before.zone before.allow_update d.case) failed settled.receipt after
 
--- so it was, with its reply at the end of a buffer, or no memory was found: then nothing has changed but what the keeper does not tell
+-- so it was, with its reply at the end of a buffer, or no memory was found: then nothing has changed but what the keeper does not tell, and the
+-- buffer has what it had
 pub record Carries {K : Type 0} (keeper : KeeperOf K) (before : SeenOf K) (ask : Ask) (d : Decision) (framed : Bool) (had has : List ℕ) (answer : Result SettledInto OutOfMemory)
     (after : SeenOf K) : Type 0 where
   pub ok : IfOk answer (SettlesInto (λ settled. CarriesOut keeper before ask d settled after) framed had has)
   pub kept : IsKept keeper after
   pub err : OnErr answer (IsLeft keeper before after)
+  pub out : OnErr answer (has ≡ had)
   pub left : OnErr answer (LeavesBatch keeper before ask (case_batch before.zone before.allow_update d.case) after)
   pub left_on : LeavesOn keeper before → LeavesOn keeper after

@@ -94,7 +94,7 @@ fn looked_reply<'a>(
     }
 }
 
-/// Writes a reply at the end of a buffer, within its limit. Where memory runs out, part of it may be written.
+/// Writes a reply at the end of a buffer, within its limit. Where memory runs out the buffer is as it was.
 pub(crate) fn append(
     request: &Request,
     reply: &LentReply<'_>,
@@ -104,13 +104,14 @@ pub(crate) fn append(
     requires { HasRoom reply.now }
     ensures appends { IfOk result (Appends reply.now (limit_of request.now.protocol reply.now.edns) is_framed out.old.items out.new.items) }
     ensures short { IfOk result (λ appended. appended.len ≤ 65535) }
+    ensures err { OnErr result (out.new.items ≡ out.old.items) }
     ensures limit { limit_of request.now.protocol reply.now.edns ≤ 65535 }
 {
     reply.append(out, limit_of(request.protocol, reply.edns), is_framed)
 }
 
-/// Writes a reply at the end of a buffer, within its limit, and counts it with its message. Where memory runs out, part of it may be written,
-/// and nothing is counted.
+/// Writes a reply at the end of a buffer, within its limit, and counts it with its message. Where memory runs out the buffer is as it was, and
+/// nothing is counted.
 pub(crate) fn put(
     request: &Request,
     question: Option<(u16, u16)>,
@@ -122,14 +123,15 @@ pub(crate) fn put(
     requires { HasRoom reply.now }
     ensures ok { OnOk result (IsPut request.now question reply.now is_framed out.old.items out.new.items counts.old counts.new) }
     ensures err { OnErr result (counts.new ≡ counts.old) }
+    ensures out { OnErr result (out.new.items ≡ out.old.items) }
 {
     let appended = append(request, reply, out, is_framed)?;
     count(request, question, reply, &appended, counts);
     Ok(())
 }
 
-/// Looks a query up (RFC 1034 4.3.2), writes its reply at the end of a buffer, within its limit, and counts it. Where memory runs out, part
-/// of it may be written, and nothing is counted.
+/// Looks a query up (RFC 1034 4.3.2), writes its reply at the end of a buffer, within its limit, and counts it. Where memory runs out the
+/// buffer is as it was, and nothing is counted.
 pub(crate) fn put_looked<'a>(
     alloc: Global,
     zone: &'a Zone,
@@ -144,6 +146,7 @@ pub(crate) fn put_looked<'a>(
         (looked_reply request.now question.now (lookup_of zone.now question.now.name question.now.qtype))
         is_framed out.old.items out.new.items counts.old counts.new) }
     ensures err { OnErr result (counts.new ≡ counts.old) }
+    ensures out { OnErr result (out.new.items ≡ out.old.items) }
 {
     let question = lent_again(question);
     let mut answer = Answer::none();

@@ -8,6 +8,7 @@ ghost use Rattle.dns_book.specs.Sources.{sanitized};
 
 use crate::reply_bytes::{LENGTH_LEN, ReplyBytes};
 use dns_io::{Ip, Octets, OutOfMemory, Peer, Protocol};
+use std::alloc::Global;
 use std::marker::Model;
 
 /// One whole message that came in.
@@ -69,6 +70,21 @@ impl<'a> Model for LentAsk<'a> {
     } };
 }
 
+impl<'a> LentAsk<'a> {
+    /// The message, with a copy of its bytes.
+    pub fn copied(&self, alloc: Global) -> Result<Ask, OutOfMemory>
+        ensures { IfOk result (λ asked. asked ≡ self.now) }
+    {
+        Ok(Ask {
+            bytes: Octets::from_slice(alloc, self.bytes)?,
+            source: self.source,
+            protocol: self.protocol,
+            at: self.at,
+            client: self.client,
+        })
+    }
+}
+
 /// The rows of the journal that an update added.
 #[derive(Clone, Copy, Debug, PartialEq, Eq)]
 pub struct Receipt {
@@ -122,9 +138,9 @@ impl Settled {
         Ok(self.put_into(out, is_framed))
     }
 
-    /// Adds the reply, where one is owed, to a buffer that has the room. Takes no memory.
-    pub(crate) fn put_into(&self, out: &mut Vec<u8>, is_framed: bool) -> SettledInto
-        requires { IfSome self.now.reply (λ bytes. vec_len out.old + (length bytes + 2) ≤ vec_capacity out.old) }
+    /// Adds the reply, where one is owed, to a buffer that has the room. A reply has at most 65,535 bytes. Takes no memory.
+    pub fn put_into(&self, out: &mut Vec<u8>, is_framed: bool) -> SettledInto
+        requires { IfSome self.now.reply (λ bytes. length bytes ≤ 65535 → vec_len out.old + (length bytes + 2) ≤ vec_capacity out.old) }
         ensures { SettlesInto (λ settled. settled ≡ self.now) is_framed out.old.items out.new.items result }
     {
         let is_owed = match &self.reply {

@@ -63,7 +63,7 @@ impl<K: Keeper> Book<K> {
     }
 
     /// Settles one message as [`Book::settle`] does, and adds its reply, where one is owed, to what a buffer has: as it is, or behind the
-    /// two bytes of its length, as it goes over a connection (RFC 1035 4.2.2). Where memory ran out, part of a reply may have been added.
+    /// two bytes of its length, as it goes over a connection (RFC 1035 4.2.2). Where memory ran out the buffer is as it was.
     ///
     /// It is read no further than it has to be: its source and its header, then whether it is let in, then a query of plain form where it
     /// stands, and any other message whole.
@@ -80,6 +80,7 @@ impl<K: Keeper> Book<K> {
             is_framed out.old.items out.new.items) }
         ensures book { IsKept K.keeper self.new }
         ensures err { OnErr result (IsLeft K.keeper self.old self.new) }
+        ensures out { OnErr result (out.new.items ≡ out.old.items) }
         ensures left { IfOk result (SettlesInto (λ settled. SettlesLeaving K.keeper access.now self.old ask.now settled self.new)
             is_framed out.old.items out.new.items) }
         ensures left_unsettled { OnErr result (LeavesUnsettled K.keeper access.now self.old ask.now self.new) }

@@ -69,7 +69,7 @@ impl ReplyBytes {
 
     /// Adds the reply to a buffer that has the room, as it is or behind its length. Takes no memory.
     pub(crate) fn append_to(&self, out: &mut Vec<u8>, is_framed: bool)
-        requires { vec_len out.old + (length self.now + 2) ≤ vec_capacity out.old }
+        requires { length self.now ≤ 65535 → vec_len out.old + (length self.now + 2) ≤ vec_capacity out.old }
         ensures sent { out.new.items ≡ out.old.items ++ sent_as is_framed self.now }
         ensures short { length self.now ≤ 65535 }
     {

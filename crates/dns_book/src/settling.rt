@@ -25,8 +25,8 @@ use dns_zone::{Modified, Verdict};
 
 impl<K: Keeper> Book<K> {
     /// Carries out what was decided of a message: its reply is added to what a buffer has, as it is or behind its length, and counted; a
-    /// change of the zone is journalled by one append, and then the zone is changed. Where memory ran out, nothing has changed, and part of
-    /// the reply may have been added.
+    /// change of the zone is journalled by one append, and then the zone is changed. Where memory ran out, nothing has changed, and the
+    /// buffer is as it was.
     pub(crate) fn carry_out(
         &mut self,
         ask: &LentAsk<'_>,
@@ -150,7 +150,7 @@ impl<K: Keeper> Book<K> {
     }
 
     /// Does an update that breaks no rule. Its reply is written before the one append, so that nothing but the keeper can fail afterwards:
-    /// then the code alone is another one.
+    /// then the code alone is another one. Where the keeper finds no memory, the reply is taken back.
     fn do_update(
         &mut self,
         ask: &LentAsk<'_>,
@@ -173,6 +173,7 @@ impl<K: Keeper> Book<K> {
     {
         let request = &decision.request;
         let done = code_reply(request, NO_ERROR, question);
+        let len = out.len();
         let appended = append(request, &done, out, is_framed)?;
         match self.journal(ask, updates) {
             Ok(receipt) => {
@@ -185,7 +186,10 @@ impl<K: Keeper> Book<K> {
                 count(request, None, &failed, &appended, &mut self.counts);
                 Ok(self.told(true, None))
             }
-            Err(KeepFault::OutOfMemory) => Err(OutOfMemory),
+            Err(KeepFault::OutOfMemory) => {
+                out.truncate(len);
+                Err(OutOfMemory)
+            }
         }
     }
 

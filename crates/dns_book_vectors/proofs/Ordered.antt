@@ -1,5 +1,5 @@
 -- Passes that stand in order, taken out from the end and put back.
-use Rattle.std.proofs.Common.{◌≡◌, ℕ, ◌+◌, List, [], ◌∷◌, ◌++◌, length, Option, Some, None, IfSome, option_to_list, refl, sym, ap, subst, ◌∙◌}
+use Rattle.std.proofs.Common.{◌≡◌, ◌+◌, List, [], ◌∷◌, ◌++◌, length, Option, Some, None, IfSome, option_to_list, refl, sym, ap, subst, ◌∙◌}
 use Rattle.std.proofs.lemmas.List.{length-append, append-nil}
 use mathlib.Core.Option.{some-ne-none}
 use Rattle.dns_ticket_lock.specs.Passes.{BookId, PassSeen, InOrder, AreAll}

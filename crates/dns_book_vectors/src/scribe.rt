@@ -1,9 +1,7 @@
 //! A handler that gives each message back with the last digit of its moment, and leaves empty messages without a reply.
 
 use dns_io::{Octets, OutOfMemory};
-use dns_server_core::{
-    AccessControl, Ask, LentAsk, ReplyBytes, RequestHandler, Settled, SettledInto,
-};
+use dns_server_core::{AccessControl, Ask, ReplyBytes, RequestHandler, Settled};
 use std::alloc::Global;
 
 /// How many messages came.
@@ -13,39 +11,24 @@ pub struct Scribe {
     pub alloc: Global,
 }
 
-impl Scribe {
-    /// Counts a message, and gives the reply to it.
-    fn settled(&mut self, bytes: &[u8], at: u64) -> Result<Settled, OutOfMemory> {
-        self.messages = self.messages.saturating_add(1);
-        Ok(Settled {
-            reply: reply_to(self.alloc, bytes, at)?,
-            length: 0,
-            receipt: None,
-        })
-    }
-}
-
 impl RequestHandler for Scribe {
     ghost serves = { λ access before ask settled after. Unit {0} };
 
     ghost skips = { λ before after. Unit {0} };
+
+    ghost skips_same = { λ a. tt };
 
     fn handle_request(
         &mut self,
         _access: &AccessControl,
         ask: &Ask,
     ) -> Result<Settled, OutOfMemory> {
-        self.settled(ask.bytes.as_slice(), ask.at)
-    }
-
-    fn handle_into(
-        &mut self,
-        _access: &AccessControl,
-        ask: &LentAsk<'_>,
-        out: &mut Vec<u8>,
-        is_framed: bool,
-    ) -> Result<SettledInto, OutOfMemory> {
-        self.settled(ask.bytes, ask.at)?.add_to(out, is_framed)
+        self.messages = self.messages.saturating_add(1);
+        Ok(Settled {
+            reply: reply_to(self.alloc, ask.bytes.as_slice(), ask.at)?,
+            length: 0,
+            receipt: None,
+        })
     }
 }
 

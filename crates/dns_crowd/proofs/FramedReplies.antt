@@ -79,10 +79,10 @@ module _ {H : Type 0} (serves : H → Ask → Settled → H → Type 0) where
   pub falters_same : (skips : H → H → Type 0) (before after : H) (xs ys : List Completed) → ys ≡ xs → Falters serves skips before xs after → Falters serves skips before ys after
   falters_same skips before after xs ys e f = subst (λ (l : List Completed). Falters serves skips before l after) (sym e) f
 
-  pub falters_settled : (skips : H → H → Type 0) (k : Connection) (at : ℕ) (before after : H)
-      → Halts serves skips before (map (ask_at k.peer at) (messages_in k k.rest)) after
+  pub falters_settled : (skips : H → H → Type 0) (k : Connection) (at : ℕ) (before after : H) (had has : List ℕ)
+      → Halts serves skips before (map (ask_at k.peer at) (messages_in k k.rest)) after had has
       → Falters serves skips before (unread_messages at k) after
-  falters_settled skips k at before after h =
+  falters_settled skips k at before after had has h =
       let s = split_asks k.peer at (messages_in k k.rest) h.first h.others h.parts in
       let r = by_replies k.number k.peer at s.0 before h.last h.bytes (subst (λ (l : List Ask). frame.Run serves before l h.bytes h.last) (sym s.3) h.run) in
       record {

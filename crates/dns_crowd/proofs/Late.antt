@@ -1,6 +1,6 @@
 -- Connections that are late are let go one by one, in the order in which their time was over.
 use Rattle.std.proofs.Common.{◌≡◌, ◌≢◌, ◌≤◌, ◌<◌, ◌+◌, ◌∙◌, ℕ, zero, suc, List, [], ◌∷◌, ◌++◌, length, drop, get_or, Bool, true, false, Option, Result, Ok, Err, cond, ltb, refl, sym, ap, subst, append-nil, append_assoc, arith}
-use Rattle.std.specs.List.{AllByRecursion, Contains, count_by, filter_map, remove}
+use Rattle.std.specs.List.{AllByRecursion, Contains, remove}
 use Rattle.std.specs.List.Sorted.{IsPermutation}
 use Rattle.std.proofs.lemmas.Bool.{cond-true, cond-false, le-ltb, lt-ltb}
 use Rattle.std.proofs.lemmas.List.Sorted.{IsPermutation-append_right, IsPermutation-middle, IsPermutation-refl, IsPermutation-trans, All-permutation, sum_by-IsPermutation}
@@ -11,7 +11,7 @@ use Rattle.dns_io.specs.declared.io_fault.IoFault.{IoFault}
 use Rattle.dns_io.specs.Told.{Grows}
 use Rattle.dns_io.proofs.ToldContents.{Grows-more, Grows-nothing}
 use Rattle.dns_server_core.specs.declared.event.Event.TheVariants.{Bytes, Ended}
-use Rattle.dns_server_core.specs.Connections.{Connection, Kept, is_within}
+use Rattle.dns_server_core.specs.Connections.{Connection, is_within}
 use Rattle.dns_server_core.specs.Order.{Climbs, IsKept}
 use Rattle.dns_server_core.specs.Steps.{step}
 use Rattle.dns_server_core.proofs.ConnectionTurns.{ended_goes}
@@ -19,7 +19,7 @@ use Rattle.dns_server_core.proofs.KeptOrder.{all_at, climbs_kept, step-number}
 use Rattle.dns_readiness.specs.Order.{IsFirstBefore}
 use Rattle.dns_crowd.specs.Tables.{IsTimed, KeepsTable, ShutsSome, count_before}
 use Rattle.dns_crowd.specs.Turns.{ShutsAll, late_number, late_numbers, timely}
-use Rattle.dns_crowd.proofs.Closings.{kept_lost, removed_gone}
+use Rattle.dns_crowd.proofs.Closings.{kept_lost}
 use Rattle.dns_crowd.proofs.Timed.{behind_front, put_has, put_wider, within_earlier}
 
 -- the front of the order goes

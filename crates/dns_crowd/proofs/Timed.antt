@@ -1,22 +1,18 @@
 -- Connections stand in the order of the moments at which they are still within their time.
-use Rattle.std.proofs.Common.{◌≡◌, ◌≢◌, ◌≤◌, ◌<◌, ◌+◌, ◌||◌, ◌⊎◌, ◌∙◌, ℕ, zero, suc, List, [], ◌∷◌, ◌++◌, length, get_or, Bool, true, false, Option, Some, None, cond, eqb, leb, ltb, inl, inr, refl, sym, ap, subst, arith}
-use Rattle.std.specs.List.{AllByRecursion, Contains, cons_option, filter_map, remove}
+use Rattle.std.proofs.Common.{◌≡◌, ◌≢◌, ◌≤◌, ◌<◌, ◌+◌, ◌||◌, ◌⊎◌, ℕ, zero, suc, List, [], ◌∷◌, ◌++◌, get_or, Bool, true, false, Some, None, cond, eqb, leb, inl, inr, refl, sym, ap, subst, arith}
+use Rattle.std.specs.List.{AllByRecursion, Contains, cons_option, filter_map}
 use Rattle.std.specs.List.Sorted.{IsPermutation}
 use Rattle.std.proofs.lemmas.Bool.{eq-eqb, leb-true, le-leb}
 use Rattle.std.proofs.lemmas.List.Elements.{Contains-append_cases, Contains-append_right}
 use Rattle.std.proofs.lemmas.List.Sorted.{Contains-permutation}
 use Rattle.dns_server_core.specs.declared.event.Event.{Event}
 use Rattle.dns_server_core.specs.declared.event.Event.TheVariants.{Accepted, Bytes, Ended, Datagram, Tick, Stop}
-use Rattle.dns_server_core.specs.Connections.{Connection, Kept, Piece, Over, Other, accepted, is_safe, is_within, new_connection}
+use Rattle.dns_server_core.specs.Connections.{Connection, Piece, Over, Other, is_within}
 use Rattle.dns_server_core.specs.Events.{moment}
-use Rattle.dns_server_core.specs.Order.{Climbs, IsKept}
-use Rattle.dns_server_core.specs.Steps.{base_by, fed_by, messages_in, moved, open_next, step}
-use Rattle.dns_server_core.proofs.ConnectionTurns.{ended_goes, idle_conns}
-use Rattle.dns_server_core.proofs.KeptOrder.{all_at, all_kept, all_push, all_weaker}
+use Rattle.dns_server_core.specs.Steps.{base_by, fed_by, messages_in, moved, step}
+use Rattle.dns_server_core.proofs.KeptOrder.{all_kept, all_push, all_weaker}
 use Rattle.dns_readiness.specs.Order.{LetsGoOf}
-use Rattle.dns_crowd.specs.Tables.{IsTable, IsTimed, KeepsTable, KeepsTimes}
-use Rattle.dns_crowd.specs.Turns.{lost}
-use Rattle.dns_crowd.proofs.Closings.{kept_lost, removed_gone}
+use Rattle.dns_crowd.specs.Tables.{IsTimed, KeepsTimes}
 
 -- what is within a limit is so at each earlier moment, and behind a later base
 within_so : (no_limit : Bool) (at later bound farther : ℕ) → (no_limit || leb later bound) ≡ true → at ≤ later → bound ≤ farther → (no_limit || leb at farther) ≡ true

@@ -1,5 +1,5 @@
 -- The pass of a crowd's worker counts a fault at least for each update that got ServFail, or has the mark.
-use Rattle.std.proofs.Common.{◌≡◌, ℕ, List, [], ◌∷◌, ⊎_elim, refl}
+use Rattle.std.proofs.Common.{◌≡◌, List, [], ◌∷◌, ⊎_elim, refl}
 use Rattle.dns_keeper.specs.Keeping.{KeeperOf}
 use Rattle.dns_book.specs.Access.{Access}
 use Rattle.dns_ticket_lock.specs.Passes.{PassSeen, SettledBy, LeftBy}

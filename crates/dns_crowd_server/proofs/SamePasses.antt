@@ -1,5 +1,5 @@
 -- A pass that serves a crowd stays the same pass.
-use Rattle.std.proofs.Common.{◌≡◌, ℕ, List, [], ◌∷◌, ◌++◌, Result, Ok, Err, ⊎_elim}
+use Rattle.std.proofs.Common.{◌≡◌, List, [], ◌∷◌, ⊎_elim}
 use Rattle.dns_keeper.specs.Keeping.{KeeperOf}
 use Rattle.dns_book.specs.Access.{Access}
 use Rattle.dns_ticket_lock.specs.Passes.{PassSeen, IsSame, SettledBy, LeftBy}

@@ -1,6 +1,5 @@
 -- Workers that serve a crowd of connections each, by the passes of a shared book.
-use Rattle.std.specs.Prelude.{◌≡◌, ◌≤◌, ℕ, List, Result, Ok, Err}
-use Rattle.dns_io.specs.declared.io_fault.IoFault.{IoFault}
+use Rattle.std.specs.Prelude.{◌≡◌}
 use Rattle.dns_keeper.specs.Keeping.{KeeperOf}
 use Rattle.dns_book.specs.Access.{Access}
 use Rattle.dns_ticket_lock.specs.Passes.{IsSame, SettledBy, LeftBy}

@@ -1,5 +1,5 @@
 -- What opens sockets and crowds together, and takes them back.
-use Rattle.std.specs.Prelude.{◌≡◌, ◌+◌, ◌/◌, max, nat_eq, if◌then◌else◌, ℕ, List, [], ◌∷◌, length, Option, Some, None, Result, Ok, Err, OnOk, OnErr}
+use Rattle.std.specs.Prelude.{◌≡◌, ◌+◌, ◌/◌, max, nat_eq, if◌then◌else◌, ℕ, List, [], ◌∷◌, length, Option, Some, None, Result, OnOk, OnErr}
 use Rattle.std.specs.List.{sum_by}
 use Rattle.dns_io.specs.declared.io_fault.IoFault.{IoFault}
 use Rattle.dns_io.specs.declared.peer.Peer.{Peer}

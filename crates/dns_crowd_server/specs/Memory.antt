@@ -1,5 +1,5 @@
 -- What is seen of a hub in memory, and of one of the operating system.
-use Rattle.std.specs.Prelude.{◌≡◌, ℕ, List, [], Option, Some, None}
+use Rattle.std.specs.Prelude.{ℕ, List, [], Some, None}
 use Rattle.dns_ports.specs.Memory.{UdpState}
 use Rattle.dns_readiness.specs.Decisions.{SocketState}
 use Rattle.dns_crowd.specs.Memory.{CrowdState, crowd_told}

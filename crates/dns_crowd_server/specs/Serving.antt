@@ -1,9 +1,9 @@
 -- What is done where a book is served: it is shared among workers of sockets and of crowds, which serve until a source ends, and closed.
-use Rattle.std.specs.Prelude.{◌≡◌, ◌≤◌, ◌+◌, ℕ, List, ◌∷◌, [], ◌++◌, length, Result, Ok, Err}
+use Rattle.std.specs.Prelude.{◌≡◌, ◌+◌, ℕ, List, ◌∷◌, [], ◌++◌, length, Result, Err}
 use Rattle.std.specs.List.{AllByRecursion}
 use Rattle.dns_io.specs.declared.io_fault.IoFault.{IoFault}
 use Rattle.dns_io.specs.declared.io_fault.IoFault.TheVariants.{OutOfMemory}
-use Rattle.dns_io.specs.Told.{Grows, Keeps, Takes}
+use Rattle.dns_io.specs.Told.{Grows, Keeps}
 use Rattle.dns_edges.specs.Edges.{Around, HasCause, SourceTold}
 use Rattle.dns_keeper.specs.Keeping.{KeeperOf}
 use Rattle.dns_book.specs.Access.{Access}

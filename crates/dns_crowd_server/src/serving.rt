@@ -121,7 +121,8 @@ where
     requires limit { places.now.limit < 2 ^ 47 }
     requires empty_workers { (rooms.sockets.items ≡ []) × (rooms.crowds.items ≡ []) }
     requires empty_ports { (rooms.socket_ports.items ≡ []) × (rooms.crowd_ports.items ≡ []) }
-    requires socket_room { (sockets_of places.now ≤ vec_capacity rooms.sockets) × (sockets_of places.now ≤ vec_capacity rooms.socket_ports) }
+    requires socket_room { (sockets_of places.now ≤ vec_capacity rooms.sockets)
+        × (sockets_of places.now ≤ vec_capacity rooms.socket_ports) }
     requires crowd_room { (crowds_of places.now ≤ vec_capacity rooms.crowds) × (crowds_of places.now ≤ vec_capacity rooms.crowd_ports) }
     requires sockets { length sockets.items ≡ sockets_of places.now }
     requires crowds { length crowds.items ≡ crowds_of places.now }

@@ -30,6 +30,8 @@ impl RequestHandler for Scribe {
 
     ghost skips = { λ before after. Unit {0} };
 
+    ghost skips_same = { λ a. tt };
+
     fn handle_request(
         &mut self,
         _access: &AccessControl,

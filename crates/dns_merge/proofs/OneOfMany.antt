@@ -1,5 +1,5 @@
 -- One connection among all: its messages are those that it completes by itself.
-use Rattle.std.proofs.Common.{◌≡◌, ◌≢◌, ◌≤◌, ◌<◌, ℕ, List, [], ◌∷◌, ◌++◌, length, map, refl, sym, ap, ◌∙◌, arith, cond, zero, suc, Bool, true, false, append-nil, append_assoc, length-append}
+use Rattle.std.proofs.Common.{◌≡◌, ◌≢◌, ℕ, List, [], ◌∷◌, ◌++◌, length, map, refl, sym, ap, ◌∙◌, arith, cond, zero, suc, Bool, true, false, append-nil, append_assoc}
 use Rattle.std.proofs.lemmas.Bool.{cond-true, eqb-true}
 use Rattle.std.proofs.lemmas.List.{map-append}
 use Rattle.std.specs.List.{AllByRecursion, flat_map}
@@ -11,10 +11,10 @@ use Rattle.dns_server_core.specs.declared.event.Event.TheVariants.{Accepted, Byt
 use Rattle.dns_server_core.specs.declared.event.Receiver.TheVariants.{Conn}
 use Rattle.dns_server_core.specs.Runs.{Completed}
 use Rattle.dns_server_core.specs.Events.{moment, number_in}
-use Rattle.dns_server_core.specs.Connections.{Connection, Piece, Over, Other, Turn, Start, accepted, base, byte_events, completed, completed_at, completed_by, completed_with, datagram_by, done, done_from, ending, heading, in_time, is_ended, is_safe, message_of, moment_at, new_connection, new_kept, starts_in, total, turn_of, whole}
+use Rattle.dns_server_core.specs.Connections.{Connection, Piece, Over, Other, Turn, Start, accepted, base, byte_events, completed, completed_at, completed_by, completed_with, datagram_by, done, done_from, ending, heading, in_time, is_ended, is_safe, message_of, new_connection, new_kept, starts_in, total, turn_of, whole}
 use Rattle.dns_server_core.specs.Steps.{open_next}
 use Rattle.dns_server_core.proofs.AllConnections.{pendings-nil}
-use Rattle.dns_server_core.proofs.Pieces.{byte_events-push, in_time-push, moment_at-last, moment_at-push, total-push, whole-push}
+use Rattle.dns_server_core.proofs.Pieces.{byte_events-push, moment_at-last}
 use Rattle.dns_requests.specs.Arrivals.{ask_at, asks_of, asks_through, opened}
 use Rattle.dns_requests.proofs.MoreArrivals.{asks_next, asks_through-push, one_longer}
 use Rattle.dns_isolation.specs.Receivers.{is_no_others, messages_to, owner_of, without_others}

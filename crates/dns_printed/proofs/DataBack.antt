@@ -17,7 +17,7 @@ use Rattle.dns_zone_map.specs.Zone.{is_meta}
 use Rattle.dns_presentation.specs.Words.{Word}
 use Rattle.dns_presentation.specs.TypedData.{typed_data}
 use Rattle.dns_presentation.specs.DataText.{word_name, only_word, only_name, a_of, aaaa_of, mx_of, srv_of, times_of, soa_of, in_small_letters, sized_bytes, general_of, name_data_of, form_data_of, data_of}
-use Rattle.dns_printed.specs.Kept.{AreBytes, AreOfBytes, IsDataOfBytes}
+use Rattle.dns_wire.specs.Kept.{AreBytes, AreOfBytes, IsDataOfBytes}
 use Rattle.dns_printed.specs.Printed.{name_text, address_text, wide_address_text, data_words}
 use Rattle.dns_printed.proofs.Spans.{Passes-pair, Writes, Writes-plain}
 use Rattle.dns_printed.proofs.NameBack.{Writes-name}

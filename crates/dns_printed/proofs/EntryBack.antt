@@ -16,7 +16,7 @@ use Rattle.dns_presentation.specs.LogicalLines.{LogicalLine, with_tokens, empty_
 use Rattle.dns_presentation.specs.Values.{is_word}
 use Rattle.dns_presentation.specs.DataText.{word_name, type_of, data_of}
 use Rattle.dns_presentation.specs.Entries.{begins_digit, begins_dollar, time_of, stated_ttl, from_type, record_with, typed_record, record_of, words_entry, entry_of}
-use Rattle.dns_printed.specs.Kept.{IsKept}
+use Rattle.dns_wire.specs.Kept.{IsKept}
 use Rattle.dns_printed.specs.Printed.{name_text, data_words, type_text, record_line}
 use Rattle.dns_printed.specs.Reading.{Says}
 use Rattle.dns_printed.proofs.Numbers.{Led-decimal, digit_bounds}

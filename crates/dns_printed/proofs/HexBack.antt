@@ -5,7 +5,7 @@ use Rattle.std.specs.List.{AllByRecursion}
 use Rattle.hex.specs.Hex.{IsBytes, lower_digits, encode_with, encode_lower, decode_of}
 use Rattle.hex.proofs.HexLemmas.{decode_of-encode_lower}
 use Rattle.dns_presentation.specs.Words.{begins_plain}
-use Rattle.dns_printed.specs.Kept.{AreBytes}
+use Rattle.dns_wire.specs.Kept.{AreBytes}
 use Rattle.dns_printed.proofs.Escaping.{IsOrdinary, ordinary_alphanumeric}
 use Rattle.dns_printed.proofs.Spans.{Passes-ordinary, Writes, Writes-plain}
 

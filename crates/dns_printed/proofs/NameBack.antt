@@ -6,7 +6,7 @@ use Rattle.dns_name.specs.Name.{IsLabel, IsName, fold_of, name_len}
 use Rattle.dns_name.specs.NameText.{symbols_of, labels_from, closed, escaped_symbol, short_name, name_of}
 use Rattle.dns_presentation.specs.Words.{is_stop, begins_plain}
 use Rattle.dns_presentation.specs.Values.{ends_in_dot, name_in}
-use Rattle.dns_printed.specs.Kept.{AreBytes, AreOfBytes}
+use Rattle.dns_wire.specs.Kept.{AreBytes, AreOfBytes}
 use Rattle.dns_printed.specs.Printed.{escaped, is_plain, label_character, label_text, name_text}
 use Rattle.dns_printed.proofs.Escaping.{hundreds, tens, units, escape_of-digits, IsOrdinary-digit, IsOrdinary-plain}
 use Rattle.dns_printed.proofs.Spans.{Passes, Passes-append, Passes-byte, Passes-dot, Passes-pair, Passes-all, Writes, Writes-plain}

@@ -2,7 +2,7 @@
 use Rattle.std.proofs.Common.{◌≡◌, ℕ, ◌+◌, ◌/◌, ◌%◌, ◌<◌, ◌≤◌, Bool, true, false, ◌==◌, if◌then◌else◌, List, [], ◌∷◌, ◌++◌, Some, refl, sym, ap, ◌∙◌, arith, append_assoc, append-nil}
 use Rattle.std.specs.List.{AllByRecursion, flat_map}
 use Rattle.dns_presentation.specs.Values.{string_from, string_of}
-use Rattle.dns_printed.specs.Kept.{AreBytes}
+use Rattle.dns_wire.specs.Kept.{AreBytes}
 use Rattle.dns_printed.specs.Printed.{escaped, is_shown, string_character, string_text}
 use Rattle.dns_printed.proofs.Escaping.{escape_of-digits}
 use Rattle.dns_printed.proofs.Spans.{PassesQuoted, PassesQuoted-append, PassesQuoted-byte, PassesQuoted-pair, PassesQuoted-all, Writes, Writes-quoted}

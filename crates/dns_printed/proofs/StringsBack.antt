@@ -6,7 +6,7 @@ use Rattle.dns_wire.specs.declared.rdata.Data.TheVariants.{Txt}
 use Rattle.dns_presentation.specs.Words.{Word}
 use Rattle.dns_presentation.specs.Values.{◌>>=◌}
 use Rattle.dns_presentation.specs.DataText.{is_too_long, strings_from, txt_of}
-use Rattle.dns_printed.specs.Kept.{AreOfBytes}
+use Rattle.dns_wire.specs.Kept.{AreOfBytes}
 use Rattle.dns_printed.specs.Printed.{string_character, string_text}
 use Rattle.dns_printed.proofs.Spans.{Writes}
 use Rattle.dns_printed.proofs.StringBack.{Writes-string, string_of-text}

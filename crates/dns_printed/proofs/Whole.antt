@@ -9,7 +9,7 @@ use Rattle.dns_presentation.specs.Words.{Word}
 use Rattle.dns_presentation.specs.LogicalLines.{LogicalLine, lines_after, logical_from}
 use Rattle.dns_presentation.specs.Entries.{first_context}
 use Rattle.dns_zone.specs.ZoneText.{finished, records_from, zone_of}
-use Rattle.dns_printed.specs.Kept.{IsKept}
+use Rattle.dns_wire.specs.Kept.{IsKept}
 use Rattle.dns_printed.specs.Lone.{is_alias_pair, HasLoneAliases}
 use Rattle.dns_printed.specs.Printed.{record_line, zone_text}
 use Rattle.dns_printed.proofs.Numbers.{All-append}

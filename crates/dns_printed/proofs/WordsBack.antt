@@ -6,7 +6,7 @@ use Rattle.dns_name.specs.Name.{IsName, fold_of}
 use Rattle.dns_presentation.specs.Words.{Word, begins_plain}
 use Rattle.dns_presentation.specs.Values.{number_of, seconds_of, units_from}
 use Rattle.dns_presentation.specs.DataText.{word_number, word_short, word_seconds, word_name, only_word, only_name}
-use Rattle.dns_printed.specs.Kept.{AreOfBytes}
+use Rattle.dns_wire.specs.Kept.{AreOfBytes}
 use Rattle.dns_printed.specs.Printed.{name_text}
 use Rattle.dns_printed.proofs.Numbers.{Led-decimal, AreDigits-decimal, number_of-decimal}
 use Rattle.dns_printed.proofs.Escaping.{IsOrdinary-digit}

@@ -2,6 +2,5 @@ pub mod Printed
 pub mod Appending
 pub mod Lone
 pub mod Refusal
-pub mod Kept
 pub mod Reading
 pub mod Rows

@@ -2,7 +2,7 @@
 //! the law.
 //!
 //! `zone_of` is the definition of reading, and what `read_zone` of dns_zone gives. `IsZone` and `IsKept` ask nothing of a caller that
-//! has a zone: `Zone::records` says the one, and `kept_records` the other.
+//! has a zone: `Zone::records` says the one, and `kept_records` of dns_wire the other.
 
 ghost use Rattle.std.specs.Prelude.{◌≡◌, ◌<◌, ◌+◌, ◌++◌, ℕ, List, length, take, Ok, codes};
 ghost use Rattle.std.specs.List.{AllByRecursion};
@@ -10,7 +10,7 @@ ghost use Rattle.dns_wire.specs.declared.record.Record.{Record};
 ghost use Rattle.dns_zone_map.specs.Zone.{IsEntry, IsZone};
 ghost use Rattle.dns_presentation.specs.declared.entry.Context.{Context};
 ghost use Rattle.dns_zone.specs.ZoneText.{zone_of};
-ghost use Rattle.dns_printed.specs.Kept.{IsKept};
+ghost use Rattle.dns_wire.specs.Kept.{IsKept};
 ghost use Rattle.dns_printed.specs.Lone.{HasLoneAliases};
 ghost use Rattle.dns_printed.specs.Printed.{record_line, zone_text, line_at};
 ghost use Rattle.dns_printed.specs.Reading.{Says};

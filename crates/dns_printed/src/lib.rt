@@ -4,7 +4,6 @@
 mod buffer;
 mod data_text;
 mod fault;
-pub mod kept;
 pub mod laws;
 mod line;
 mod lone_aliases;

@@ -11,12 +11,12 @@ ghost use Rattle.dns_printed.specs.Printed.{line_at, zone_text};
 ghost use Rattle.dns_printed.specs.Refusal.{Tells};
 
 use crate::fault::PrintFault;
-use crate::kept::kept_listed;
 use crate::line::put_line;
 use crate::lone_aliases::has_alias_beside_other;
 use dns_edges::{Sink, write_all};
 use dns_io::{IoFault, Octets, OutOfMemory};
 use dns_wire::Record;
+use dns_wire::kept::kept_listed;
 use dns_zone::Zone;
 use std::alloc::Global;
 use std::marker::Model;

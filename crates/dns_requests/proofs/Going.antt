@@ -270,10 +270,10 @@ module _ {H S W C : Type 0} (serves : H → Ask → Settled → H → Type 0) (s
       }
 
   -- memory ran out among the messages of a read
-  pub ends_answering : (now : Parts H S W C) (turn : ℕ) (session : Connection) (s : S) (c : C) (at : ℕ) (new : Connection) (handler : H)
-      → Heard now turn session s c at new → turn < terms.reads → Halts serves skips now.handler (asks_now at new) handler
+  pub ends_answering : (now : Parts H S W C) (turn : ℕ) (session : Connection) (s : S) (c : C) (at : ℕ) (new : Connection) (handler : H) (had has : List ℕ)
+      → Heard now turn session s c at new → turn < terms.reads → Halts serves skips now.handler (asks_now at new) handler had has
       → Ends serves skips source sink clock terms before (record { handler = handler; source = s; sink = now.sink; clock = c }) (Err OutOfMemory)
-  ends_answering now turn session s c at new handler h l a = record {
+  ends_answering now turn session s c at new handler had has h l a = record {
     source_heard = s;
     hears = h.hears;
     within = omega (arith, h.turns, l);

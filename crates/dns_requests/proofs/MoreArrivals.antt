@@ -6,7 +6,7 @@ use Rattle.std.specs.List.{AllByRecursion}
 use Rattle.dns_io.specs.declared.peer.Peer.{Peer}
 use Rattle.dns_book.specs.declared.ask.Ask.{Ask}
 use Rattle.dns_io.specs.Told.{Takes}
-use Rattle.dns_edges.specs.Listening.{Arrival, IsPiece, Listens, bytes_of, room}
+use Rattle.dns_edges.specs.Listening.{Arrival, IsPiece, bytes_of, room}
 use Rattle.dns_edges.specs.Edges.{SourceOf, ClockOf}
 use Rattle.dns_edges.proofs.Listened.{Listens-more, bytes_of-push}
 use Rattle.dns_io.proofs.ToldContents.{Told-same, Takes-more}

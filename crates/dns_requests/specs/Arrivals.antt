@@ -1,6 +1,6 @@
 -- What a connection brings in, read by read (RFC 1035 4.2.2, RFC 7766 6.2, 8, RFC 9210 4.2).
-use Rattle.std.specs.Prelude.{◌≡◌, ◌⊎◌, ℕ, ◌<◌, ◌≤◌, zero, suc, true, List, [], ◌∷◌, ◌++◌, length, map, Ok, Err}
-use Rattle.std.specs.List.{AllByRecursion, flat_map}
+use Rattle.std.specs.Prelude.{◌≡◌, ◌⊎◌, ℕ, ◌≤◌, zero, suc, true, List, [], ◌++◌, length, map, Ok, Err}
+use Rattle.std.specs.List.{AllByRecursion}
 use Rattle.dns_io.specs.declared.peer.Peer.{Peer}
 use Rattle.dns_io.specs.declared.peer.Protocol.TheVariants.{Tcp}
 use Rattle.dns_io.specs.declared.io_fault.IoFault.TheVariants as io

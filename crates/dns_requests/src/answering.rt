@@ -11,7 +11,7 @@ use dns_server_core::{RequestHandler, Session};
 
 /// Settles the whole messages at the front of what a connection has unread, no more than it may still have, and tells it so. They are
 /// handed over where they stand among the unread bytes, as of this moment (milliseconds, below 2^47). The bytes of their replies, each
-/// behind its length, are added to the others.
+/// behind its length, are added to the others. Where memory runs out, the first of them were settled, and just their replies were added.
 pub fn answer<T: RequestHandler>(
     handler: &mut T,
     access: &AccessControl,
@@ -24,7 +24,7 @@ pub fn answer<T: RequestHandler>(
         (map (ask_at session.old.peer at) (messages_in session.old session.old.rest)) handler.new replies.old.items replies.new.items) }
     ensures fed { OnOk result (session.new ≡ fed_by session.old at session.old.rest) }
     ensures err { OnErr result (Halts (T.serves access.now) T.skips handler.old
-        (map (ask_at session.old.peer at) (messages_in session.old session.old.rest)) handler.new) }
+        (map (ask_at session.old.peer at) (messages_in session.old session.old.rest)) handler.new replies.old.items replies.new.items) }
 {
     let most = session.most();
     let stream = LentAsk {

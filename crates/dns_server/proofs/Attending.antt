@@ -1,9 +1,9 @@
 -- A worker of a listener, from connection to connection.
-use Rattle.std.proofs.Common.{◌≡◌, ◌≤◌, ◌∙◌, ℕ, List, [], ◌∷◌, ◌++◌, map, Bool, true, false, Option, Some, None, Result, Ok, Err, refl, subst, arith}
+use Rattle.std.proofs.Common.{◌≡◌, ◌≤◌, ◌∙◌, ℕ, List, [], ◌∷◌, ◌++◌, map, Bool, true, false, Some, None, Result, Ok, Err, refl, subst, arith}
 use Rattle.std.proofs.lemmas.List.{append-nil, map-append}
 use Rattle.dns_io.specs.declared.io_fault.IoFault.{IoFault}
 use Rattle.dns_io.specs.declared.io_fault.IoFault.TheVariants.{Failed, OutOfMemory}
-use Rattle.dns_io.specs.Told.{Takes, Grows, Keeps, Rose}
+use Rattle.dns_io.specs.Told.{Takes, Grows, Keeps}
 use Rattle.dns_io.proofs.ToldContents.{Keeps-Grows, Grows-Keeps, Grows-more, Grows-nothing, Takes-more, Takes-Keeps}
 use Rattle.dns_edges.specs.Edges.{SourceOf, SinkOf, ClockOf, CountsBy}
 use Rattle.dns_book.specs.declared.ask.Ask.{Ask}

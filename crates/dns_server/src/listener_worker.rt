@@ -89,7 +89,8 @@ fn serve<H: RequestHandler, R: Source, W: Sink, C: Clock>(
 ) -> bool
     requires safe { is_safe connection.old.peer ≡ true }
     requires limit { limit < 2 ^ 47 }
-    ensures { Serves (H.serves access.now) H.skips R.source W.sink C.clock limit handler.old connection.old handler.new connection.new result }
+    ensures { Serves (H.serves access.now) H.skips R.source W.sink C.clock limit handler.old connection.old
+        handler.new connection.new result }
 {
     let ended = serve_connection(
         alloc,

@@ -70,21 +70,23 @@ module _ {H : Type 0} (serves : H → Ask → Settled → H → Type 0) where
   AddsFront-end a b all old new g = subst (λ (l : List Ask). Adds serves a l b old new) (sym (g.parts ∙ append-nil g.first)) g.adds
 
   module _ (skips : H → H → Type 0) where
-    pub Halts-none : (a : H) (all : List Ask) → Halts serves skips a all a
-    Halts-none a all = record { first = []; others = all; parts = refl; last = a; bytes = []; run = (refl, refl); end = inl refl }
+    pub Halts-none : (a : H) (all : List Ask) (old : List ℕ) → Halts serves skips a all a old old
+    Halts-none a all old = record { first = []; others = all; parts = refl; last = a; bytes = []; run = (refl, refl); added = sym (append-nil old); end = inl refl }
 
-    pub Halts-skips : (a b : H) (all : List Ask) → skips a b → Halts serves skips a all b
-    Halts-skips a b all s = record { first = []; others = all; parts = refl; last = a; bytes = []; run = (refl, refl); end = inr s }
+    -- a call that found no memory left the buffer as it was
+    pub Halts-skips : (a b : H) (all : List Ask) (old new : List ℕ) → skips a b → new ≡ old → Halts serves skips a all b old new
+    Halts-skips a b all old new s same = record { first = []; others = all; parts = refl; last = a; bytes = []; run = (refl, refl); added = same ∙ sym (append-nil old); end = inr s }
 
     -- behind those that were settled
-    pub AddsFront-halts : (a b c : H) (all part more : List Ask) (old mid : List ℕ) → AddsFront serves a all b (part ++ more) old mid → Halts serves skips b part c → Halts serves skips a all c
-    AddsFront-halts a b c all part more old mid g h = record {
+    pub AddsFront-halts : (a b c : H) (all part more : List Ask) (old mid new : List ℕ) → AddsFront serves a all b (part ++ more) old mid → Halts serves skips b part c mid new → Halts serves skips a all c old new
+    AddsFront-halts a b c all part more old mid new g h = record {
       first = g.first ++ h.first;
       others = h.others ++ more;
       parts = g.parts ∙ ap (λ (l : List Ask). g.first ++ l) (ap (λ (l : List Ask). l ++ more) h.parts ∙ append_assoc h.first h.others more) ∙ sym (append_assoc g.first h.first (h.others ++ more));
       last = h.last;
       bytes = g.adds.bytes ++ h.bytes;
       run = Run-append a b h.last g.first h.first g.adds.bytes h.bytes g.adds.run h.run;
+      added = h.added ∙ ap (λ (ts : List ℕ). ts ++ h.bytes) g.adds.added ∙ append_assoc old g.adds.bytes h.bytes;
       end = h.end;
     }
 
@@ -119,8 +121,8 @@ map_parts one (m ∷ ms) (x ∷ xs) ys e =
 
 pub Halts-map : {H J : Type 0} (serves : H → Ask → Settled → H → Type 0) (skips : H → H → Type 0) (others : J → Ask → Settled → J → Type 0) (other_skips : J → J → Type 0) (f : H → J) (one other : List ℕ → Ask)
     → ((a b : H) (m : List ℕ) (settled : Settled) → serves a (one m) settled b → others (f a) (other m) settled (f b)) → ((a b : H) → skips a b → other_skips (f a) (f b))
-    → (ms : List (List ℕ)) (a b : H) → Halts serves skips a (map one ms) b → Halts others other_skips (f a) (map other ms) (f b)
-Halts-map serves skips others other_skips f one other step skip ms a b h =
+    → (ms : List (List ℕ)) (a b : H) (old new : List ℕ) → Halts serves skips a (map one ms) b old new → Halts others other_skips (f a) (map other ms) (f b) old new
+Halts-map serves skips others other_skips f one other step skip ms a b old new h =
     let parts = map_parts one ms h.first h.others h.parts in
     record {
       first = map other parts.0;
@@ -129,6 +131,7 @@ Halts-map serves skips others other_skips f one other step skip ms a b h =
       last = f h.last;
       bytes = h.bytes;
       run = Run-map serves others f one other step parts.0 a h.last h.bytes (subst (λ (l : List Ask). Run serves a l h.bytes h.last) (sym parts.3) h.run);
+      added = h.added;
       end = ⊎_elim (λ e. inl (ap f e)) (λ s. inr (skip h.last b s)) h.end;
     }
 

@@ -43,14 +43,15 @@ pub record Adds {H : Type 0} (serves : H → Ask → Settled → H → Type 0) (
   pub run : Run serves before asks bytes after
   pub added : new ≡ old ++ bytes
 
--- the first of them were settled, and behind these came at most one call that found no memory
-pub record Halts {H : Type 0} (serves : H → Ask → Settled → H → Type 0) (skips : H → H → Type 0) (before : H) (asks : List Ask) (after : H) : Type 0 where
+-- the first of them were settled, and the bytes of their replies added to those that there were; behind these came at most one call that found no memory
+pub record Halts {H : Type 0} (serves : H → Ask → Settled → H → Type 0) (skips : H → H → Type 0) (before : H) (asks : List Ask) (after : H) (old new : List ℕ) : Type 0 where
   pub first : List Ask
   pub others : List Ask
   pub parts : asks ≡ first ++ others
   pub last : H
   pub bytes : List ℕ
   pub run : Run serves before first bytes last
+  pub added : new ≡ old ++ bytes
   pub end : (after ≡ last) ⊎ skips last after
 
 -- the first of all messages were settled, and these are left

@@ -9,6 +9,9 @@ use dns_frames::first_frame;
 use dns_io::OutOfMemory;
 use dns_keeper::Keeper;
 
+/// The most bytes that a reply adds to a buffer: itself, and its length before it.
+const MOST_ADDED: usize = 65_537;
+
 /// How many messages were settled, and how many bytes stand behind them.
 #[derive(Clone, Copy)]
 pub struct Answered {
@@ -39,7 +42,9 @@ pub trait RequestHandler {
         ensures err { OnErr result (skips self.old self.new) };
 
     /// Settles one message as `handle_request` does, and adds the reply that it is owed to what a buffer has: as it is, or behind the two
-    /// bytes of its length, as it goes over a connection (RFC 1035 4.2.2). Where memory ran out, part of a reply may have been added.
+    /// bytes of its length, as it goes over a connection (RFC 1035 4.2.2). Where memory ran out the buffer is as it was.
+    ///
+    /// If a handler does not say how, the message is copied and handed to `handle_request`, once there is room for any reply.
     fn handle_into(
         &mut self,
         access: &AccessControl,
@@ -51,12 +56,19 @@ pub trait RequestHandler {
         requires bytes { length ask.now.bytes ≤ 65535 }
         ensures ok { IfOk result (SettlesInto
             (λ settled. serves access.now self.old ask.now settled self.new) is_framed out.old.items out.new.items) }
-        ensures err { OnErr result (skips self.old self.new) };
+        ensures err { OnErr result (skips self.old self.new) }
+        ensures out { OnErr result (out.new.items ≡ out.old.items) }
+    {
+        out.reserve(MOST_ADDED)?;
+        let asked = ask.copied(*out.allocator())?;
+        let settled = self.handle_request(access, &asked)?;
+        Ok(settled.put_into(out, is_framed))
+    }
 
     /// Settles, in order, the whole messages at the front of what came over a connection, at most so many, each behind its length (RFC 1035
     /// 4.2.2), and adds the replies that they are owed to what a buffer has, each behind its length. `stream` has all the bytes that came,
-    /// and each message is handed over as the part of them that it is. Where memory runs out, the first of them were settled, and part of
-    /// the replies may have been added.
+    /// and each message is handed over as the part of them that it is. Where memory runs out, the first of them were settled, and just
+    /// the replies to these were added.
     fn handle_frames(
         &mut self,
         access: &AccessControl,
@@ -71,7 +83,7 @@ pub trait RequestHandler {
         ensures rest { IfOk result (λ a. a.rest ≡ length (behind_first most stream.now.bytes)) }
         ensures shorter { IfOk result (λ a. 2 * a.messages + a.rest ≤ length stream.now.bytes) }
         ensures err { OnErr result (Halts (serves access.now) skips self.old
-            (first_asks stream.now most stream.now.bytes) self.new) }
+            (first_asks stream.now most stream.now.bytes) self.new replies.old.items replies.new.items) }
     {
         let mut left = bytes_of(stream);
         let mut messages = 0;
@@ -86,6 +98,9 @@ pub trait RequestHandler {
             rest: left.len(),
         })
     }
+
+    /// A call that did nothing may be one that found no memory.
+    ghost skips_same: { (a : Self) → skips a a };
 }
 
 /// The first message of a stream, of which so many are to be taken, and the stream behind it; none where none is whole, or none is to be
@@ -131,10 +146,13 @@ pub fn message_in<'a>(stream: &LentAsk<'_>, message: &'a [u8]) -> LentAsk<'a>
 /// nothing has changed but what its keeper does not tell.
 impl<K: Keeper> RequestHandler for Book<K> {
     ghost use Rattle.dns_book.specs.Book.{Settles, IsLeft};
+    ghost use Rattle.dns_book.proofs.Growing.{IsLeft-same};
 
     ghost serves = { Settles K.keeper };
 
     ghost skips = { IsLeft K.keeper };
+
+    ghost skips_same = { IsLeft-same K.keeper };
 
     fn handle_request(
         &mut self,

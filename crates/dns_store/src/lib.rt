@@ -4,7 +4,6 @@
 
 mod covering;
 mod front;
-mod kept_records;
 pub mod laws;
 mod listing;
 mod opening;

@@ -8,9 +8,9 @@ ghost use Rattle.dns_keeper.specs.Rows.{appended};
 ghost use Rattle.dns_zone_map.specs.Zone.{serial_of, IsZone};
 ghost use Rattle.dns_update.specs.Replay.{opening_of, Replays};
 
-use crate::kept_records::{kept_name, kept_records};
 use dns_io::OutOfMemory;
 use dns_update::laws::replays;
+use dns_wire::kept::{kept_name, kept_records};
 use dns_wire::record_type::AXFR;
 use dns_wire::{Data, Record, Records, class};
 use dns_zone::Zone;

@@ -1,7 +1,6 @@
 -- Messages that are settled in one turn.
 use Rattle.std.proofs.Common.{◌≡◌, ◌⊎◌, inl, inr, ⊎_elim, ℕ, zero, suc, ◌+◌, ◌<◌, ◌||◌, Bool, true, false, Option, Some, None, Result, Ok, Err, IfOk, OnOk, OnErr, List, [], ◌∷◌, ◌++◌, map, length, refl, sym, ap, subst, ◌∙◌, arith}
-use Rattle.std.proofs.lemmas.List.{length-append, append-nil}
-use Rattle.dns_io.specs.declared.fault.OutOfMemory.{OutOfMemory}
+use Rattle.std.proofs.lemmas.List.{append-nil}
 use Rattle.dns_io.specs.Told.{Rose, Told as ToldOf}
 use Rattle.dns_keeper.specs.declared.row.Row.{Row}
 use Rattle.dns_keeper.specs.Keeping.{KeeperOf}
@@ -13,8 +12,8 @@ use Rattle.dns_book.specs.declared.ask.SettledInto.{SettledInto}
 use Rattle.dns_book.specs.Into.{SettlesInto}
 use Rattle.dns_book.specs.Book.{SeenOf, Settles, IsLeft}
 use Rattle.dns_book.proofs.IntoBuffer.{into_map}
-use Rattle.dns_server_core.specs.FrameRuns.{Run, Adds, AddsFront, Halts, first_asks, first_messages}
-use Rattle.dns_server_core.proofs.LongerRuns.{Run-append, Adds-one, Adds-append, AddsFront-none, AddsFront-more, AddsFront-halts, Halts-skips}
+use Rattle.dns_server_core.specs.FrameRuns.{AddsFront, Halts, first_asks, first_messages}
+use Rattle.dns_server_core.proofs.LongerRuns.{Adds-one, AddsFront-none, AddsFront-more, AddsFront-halts, Halts-skips}
 use Rattle.dns_ticket_lock.specs.declared.held.Told.{Told}
 use Rattle.dns_ticket_lock.specs.declared.held.Member.{Member}
 use Rattle.dns_ticket_lock.specs.declared.view.Account.{Account}
@@ -24,7 +23,7 @@ use Rattle.dns_ticket_lock.specs.Lists.{StartsWith, with_head}
 use Rattle.dns_ticket_lock.specs.Places.{listed, places_of, places_from}
 use Rattle.dns_ticket_lock.specs.Naming.{NamesRows, IsBatch, Advances}
 use Rattle.dns_ticket_lock.specs.Rule.{Done, FindsOwn, own, settled}
-use Rattle.dns_ticket_lock.specs.Settling.{HasTerms, SettledAs, LeftAs, done_by, receipt_in}
+use Rattle.dns_ticket_lock.specs.Settling.{HasTerms, SettledAs, LeftAs, done_by}
 use Rattle.dns_ticket_lock.proofs.Advancing.{no_batch, keeps_itself}
 use Rattle.dns_ticket_lock.proofs.Turning.{IsTurn, turn_of, settles_one, leaves_one}
 
@@ -213,11 +212,11 @@ module _ {K : Type 0} (keeper : KeeperOf K) where
         subst (λ (x : Account). AddsFront (by_account t) a (first_asks ask most bytes) x (first_asks ask more left) old new) (ran.1.some some_did ∙ sym (still rows a done batch refl refl refl)) ran.2
 
     -- behind them memory ran out
-    pub Quiet-halts : (start book later : SeenOf K) (most more : ℕ) (bytes left old mid : List ℕ) (messages : ℕ) (told : Told) → Quiet start book most more bytes left old mid messages
-        → IsLeft keeper book later → told.receipt ≡ None → (keeper.told book.keeper).faults + told.rise ≡ (keeper.told later.keeper).faults
+    pub Quiet-halts : (start book later : SeenOf K) (most more : ℕ) (bytes left old mid new : List ℕ) (messages : ℕ) (told : Told) → Quiet start book most more bytes left old mid messages
+        → IsLeft keeper book later → new ≡ mid → told.receipt ≡ None → (keeper.told book.keeper).faults + told.rise ≡ (keeper.told later.keeper).faults
         → (t : Terms) (rows : List Row) (a : Account) → HasTerms t start → NamesRows keeper start rows → StartsWith rows a.seen
-        → Halts (by_account t) LeftAs a (first_asks ask most bytes) (settled rows (done_by keeper ask.client rows later told) a)
-    Quiet-halts start book later most more bytes left old mid messages told q err no_receipt rise t rows a terms named begins =
+        → Halts (by_account t) LeftAs a (first_asks ask most bytes) (settled rows (done_by keeper ask.client rows later told) a) old new
+    Quiet-halts start book later most more bytes left old mid new messages told q err same_bytes no_receipt rise t rows a terms named begins =
         let ran = q.ran t rows a terms named begins in
         let now = ran.0 in
         let done = done_by keeper ask.client rows later told in
@@ -226,4 +225,4 @@ module _ {K : Type 0} (keeper : KeeperOf K) where
         (leaves_one keeper ask.client now rows book later told (begins_now messages rows a now ran.1 begins) no_receipt (omega (arith, same, rise))) in
         let all : List Ask = first_asks ask most bytes in
         let front = subst (λ (l : List Ask). AddsFront (by_account t) a all now l old mid) (sym (append-nil (first_asks ask more left))) ran.2 in
-        AddsFront-halts (by_account t) LeftAs a now (settled rows done a) all (first_asks ask more left) [] old mid front (Halts-skips (by_account t) LeftAs now (settled rows done a) (first_asks ask more left) skipped)
+        AddsFront-halts (by_account t) LeftAs a now (settled rows done a) all (first_asks ask more left) [] old mid new front (Halts-skips (by_account t) LeftAs now (settled rows done a) (first_asks ask more left) mid new skipped same_bytes)

@@ -1,6 +1,6 @@
 -- What a run of an account is to its pass.
-use Rattle.std.proofs.Common.{◌≡◌, ℕ, List, Option, map, refl}
-use Rattle.dns_keeper.specs.declared.row.Row.{Row}
+use Rattle.std.proofs.Common.{◌≡◌, ℕ, List, [], map, refl, sym}
+use Rattle.std.proofs.lemmas.List.{append-nil}
 use Rattle.dns_keeper.specs.Keeping.{KeeperOf}
 use Rattle.dns_book.specs.Access.{Access}
 use Rattle.dns_book.specs.declared.ask.Ask.{Ask}
@@ -37,8 +37,8 @@ module _ {K : Type 0} (keeper : KeeperOf K) (access : Access) (p : PassSeen) (as
       Adds-map (SettledAs keeper p.terms access p.number) (SettledBy keeper access) (λ x. record p { account = x }) (λ m. record (asked_by p.number ask) { bytes = m }) (λ m. record ask { bytes = m })
       by_pass ms a b old new r
 
-  pub passes-halts : (ms : List (List ℕ)) (a b : Account) → Halts (SettledAs keeper p.terms access p.number) LeftAs a (map (λ m. record (asked_by p.number ask) { bytes = m }) ms) b
-      → Halts (SettledBy keeper access) LeftBy (record p { account = a }) (map (λ m. record ask { bytes = m }) ms) (record p { account = b })
-  passes-halts ms a b r =
+  pub passes-halts : (ms : List (List ℕ)) (a b : Account) (old new : List ℕ) → Halts (SettledAs keeper p.terms access p.number) LeftAs a (map (λ m. record (asked_by p.number ask) { bytes = m }) ms) b old new
+      → Halts (SettledBy keeper access) LeftBy (record p { account = a }) (map (λ m. record ask { bytes = m }) ms) (record p { account = b }) old new
+  passes-halts ms a b old new r =
       Halts-map (SettledAs keeper p.terms access p.number) LeftAs (SettledBy keeper access) LeftBy (λ x. record p { account = x }) (λ m. record (asked_by p.number ask) { bytes = m }) (λ m. record ask { bytes = m })
-      by_pass left_by_pass ms a b r
+      by_pass left_by_pass ms a b old new r

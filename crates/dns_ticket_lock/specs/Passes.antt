@@ -1,5 +1,6 @@
 -- What contracts see of a shared book and of its passes.
-use Rattle.std.specs.Prelude.{◌≡◌, ◌<◌, ◌+◌, true, drop, length, ℕ, List, Option}
+use Rattle.std.specs.Prelude.{◌≡◌, ◌<◌, ◌+◌, true, drop, length, ℕ, List, []}
+use Rattle.std.proofs.Common.{append-nil, refl, sym}
 use mathlib.Core.Option.{some}
 use lib.ListN.{get_elem?}
 use Rattle.atomic_table.specs.Seated.{TableId}
@@ -53,6 +54,13 @@ pub record SettledBy {K : Type 0} (keeper : KeeperOf K) (access : Access) (befor
 pub record LeftBy (before after : PassSeen) : Type 0 where
   pub same : IsSame before after
   pub account : LeftAs before.account after.account
+
+-- a pass with which nothing was done
+pub LeftBy-same : (p : PassSeen) → LeftBy p p
+LeftBy-same p = record {
+  same = record { book = refl; terms = refl; number = refl };
+  account = record { seen = ([], sym (append-nil p.account.seen)); receipts = refl; faults = refl; mark = λ m. m };
+}
 
 -- the passes of the book, the first with the number 1, and so on
 abbrev pub InOrder : BookId → List PassSeen → Type 0

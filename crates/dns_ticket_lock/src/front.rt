@@ -80,7 +80,7 @@ fn settle_front<'a, K: Keeper>(
     ensures err { OnErr result.0 ((t : Terms) (rows : List Row) (a : Account) → HasTerms t book.old → NamesRows K.keeper book.old rows
         → StartsWith rows a.seen
         → Halts (SettledAs K.keeper t access.now ask.now.client) LeftAs a (first_asks ask.now most bytes.now)
-        (settled rows (done_by K.keeper ask.now.client rows book.new result.1) a)) }
+        (settled rows (done_by K.keeper ask.now.client rows book.new result.1) a) replies.old.items replies.new.items) }
     ensures some { IfOk result.0 (λ f. 0 < f.messages) }
     ensures few { IfOk result.0 (λ f. (f.messages ≤ most) × (f.messages ≤ 64)) }
     ensures count { IfOk result.0 (λ f. f.messages + length (first_messages (most - f.messages) f.left.now)
@@ -129,7 +129,7 @@ fn settle_held_front<'a, K: Keeper>(
     ensures err { OnErr result.0 ((t : Terms) (rows : List Row) (a : Account) → HasTerms t held.old.book
         → NamesRows K.keeper held.old.book rows → StartsWith rows a.seen
         → Halts (SettledAs K.keeper t access.now ask.now.client) LeftAs a (first_asks ask.now most bytes.now)
-        (settled rows (done_by K.keeper ask.now.client rows held.new.book result.1) a)) }
+        (settled rows (done_by K.keeper ask.now.client rows held.new.book result.1) a) replies.old.items replies.new.items) }
     ensures some { IfOk result.0 (λ f. 0 < f.messages) }
     ensures few { IfOk result.0 (λ f. (f.messages ≤ most) × (f.messages ≤ 64)) }
     ensures count { IfOk result.0 (λ f. f.messages + length (first_messages (most - f.messages) f.left.now)
@@ -172,7 +172,7 @@ fn settle_turn<'a, K: Keeper, R: Wait>(
         (own seat.old.me.0.accounts) (first_asks ask.now most bytes.now) (own seat.new.me.0.accounts)
         (first_asks ask.now (most - f.messages) f.left.now) replies.old.items replies.new.items) }
     ensures err { OnErr result.0 (Halts (SettledAs K.keeper seat.old.me.0.terms access.now ask.now.client) LeftAs
-        (own seat.old.me.0.accounts) (first_asks ask.now most bytes.now) (own seat.new.me.0.accounts)) }
+        (own seat.old.me.0.accounts) (first_asks ask.now most bytes.now) (own seat.new.me.0.accounts) replies.old.items replies.new.items) }
     ensures some { IfOk result.0 (λ f. 0 < f.messages) }
     ensures few { IfOk result.0 (λ f. (f.messages ≤ most) × (f.messages ≤ 64)) }
     ensures count { IfOk result.0 (λ f. f.messages + length (first_messages (most - f.messages) f.left.now)
@@ -212,7 +212,8 @@ fn settle_turns<K: Keeper, R: Wait>(
     ensures ok { OnOk result (Adds (SettledAs K.keeper seat.old.me.0.terms access.now ask.now.client) (own seat.old.me.0.accounts)
         (first_asks ask.now most ask.now.bytes) (own seat.new.me.0.accounts) replies.old.items replies.new.items) }
     ensures err { OnErr result (Halts (SettledAs K.keeper seat.old.me.0.terms access.now ask.now.client) LeftAs
-        (own seat.old.me.0.accounts) (first_asks ask.now most ask.now.bytes) (own seat.new.me.0.accounts)) }
+        (own seat.old.me.0.accounts) (first_asks ask.now most ask.now.bytes) (own seat.new.me.0.accounts)
+        replies.old.items replies.new.items) }
     ensures count { IfOk result (λ a. a.messages ≡ length (first_messages most ask.now.bytes)) }
     ensures rest { IfOk result (λ a. a.rest ≡ length (behind_first most ask.now.bytes)) }
     ensures shorter { IfOk result (λ a. 2 * a.messages + a.rest ≤ length ask.now.bytes) }
@@ -236,7 +237,7 @@ fn settle_turns<K: Keeper, R: Wait>(
 impl<K: Keeper> TicketBook<K> {
     /// Settles, in order, the whole messages at the front of what came over a connection, at most so many, each behind its length, as
     /// [`TicketBook::settle_into`] does each, and adds the replies that they are owed, each behind its length. `stream` has
-    /// all the bytes that came.
+    /// all the bytes that came. Where memory runs out, the first of them were settled, and just the replies to these were added.
     ///
     /// One turn serves several of them, 64 at most, up to one that adds rows or counts a fault.
     pub fn settle_frames<R: Wait>(
@@ -257,7 +258,7 @@ impl<K: Keeper> TicketBook<K> {
         ensures rest { IfOk result (λ a. a.rest ≡ length (behind_first most stream.now.bytes)) }
         ensures shorter { IfOk result (λ a. 2 * a.messages + a.rest ≤ length stream.now.bytes) }
         ensures err { OnErr result (Halts (SettledBy K.keeper access.now) LeftBy pass.old
-            (first_asks stream.now most stream.now.bytes) pass.new) }
+            (first_asks stream.now most stream.now.bytes) pass.new replies.old.items replies.new.items) }
     {
         let asked = asked_as(stream, pass.number);
         let badge = mem::replace(&mut pass.badge, Badge::blank());

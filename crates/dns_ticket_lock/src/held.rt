@@ -156,6 +156,7 @@ pub(crate) fn settle_book<K: Keeper>(
     ensures ok { IfOk result.0 (SettlesInto
         (λ settled. Settles K.keeper access.now book.old ask.now settled book.new) is_framed out.old.items out.new.items) }
     ensures err { OnErr result.0 (IsLeft K.keeper book.old book.new) }
+    ensures out { OnErr result.0 (out.new.items ≡ out.old.items) }
     ensures advances { Advances K.keeper ask.now.client book.old result.1.receipt result.1.count book.new }
     ensures receipt { result.1.receipt ≡ receipt_in result.0 }
     ensures rise { (K.keeper.told book.old.keeper).faults + result.1.rise ≡ (K.keeper.told book.new.keeper).faults }
@@ -192,6 +193,7 @@ pub(crate) fn settle_held<K: Keeper>(
     ensures ok { IfOk result.0 (SettlesInto
         (λ settled. Settles K.keeper access.now held.old.book ask.now settled held.new.book) is_framed out.old.items out.new.items) }
     ensures err { OnErr result.0 (IsLeft K.keeper held.old.book held.new.book) }
+    ensures out { OnErr result.0 (out.new.items ≡ out.old.items) }
     ensures advances { Advances K.keeper ask.now.client held.old.book result.1.receipt result.1.count held.new.book }
     ensures receipt { result.1.receipt ≡ receipt_in result.0 }
     ensures rise { (K.keeper.told held.old.book.keeper).faults + result.1.rise ≡ (K.keeper.told held.new.book.keeper).faults }

@@ -54,11 +54,13 @@ impl<'a, K: Keeper, R: Wait> Seated<'a, K, R> {
 /// Each message is settled by [`TicketBook::settle`]. Where it finds no memory, the pass has the receipts and faults that it had
 /// and has seen no less, and a mark stays.
 impl<'a, K: Keeper, R: Wait> RequestHandler for Seated<'a, K, R> {
-    ghost use Rattle.dns_ticket_lock.specs.Passes.{SettledBy, LeftBy};
+    ghost use Rattle.dns_ticket_lock.specs.Passes.{SettledBy, LeftBy, LeftBy-same};
 
     ghost serves = { SettledBy K.keeper };
 
     ghost skips = { LeftBy };
+
+    ghost skips_same = { LeftBy-same };
 
     fn handle_request(
         &mut self,

@@ -80,6 +80,7 @@ fn settle_seat<K: Keeper, R: Wait>(
     ensures ok { IfOk result.0 (SettlesInto (λ settled. SettledAs K.keeper seat.old.me.0.terms access.now (seat.old.me.0.low + 1)
         (own seat.old.me.0.accounts) ask.now settled (own seat.new.me.0.accounts)) is_framed out.old.items out.new.items) }
     ensures err { OnErr result.0 (LeftAs (own seat.old.me.0.accounts) (own seat.new.me.0.accounts)) }
+    ensures out { OnErr result.0 (out.new.items ≡ out.old.items) }
 {
     let low = client_of(ask) as usize - 1;
     let mut held = begin_turn(rt, board, seat);
@@ -135,8 +136,7 @@ impl<K: Keeper> TicketBook<K> {
     }
 
     /// Settles one message as [`TicketBook::settle`] does, and adds its reply, where one is owed, to what a buffer has: as it is, or
-    /// behind the two bytes of its length, as it goes over a connection (RFC 1035 4.2.2). Where memory ran out, part of a reply may have
-    /// been added.
+    /// behind the two bytes of its length, as it goes over a connection (RFC 1035 4.2.2). Where memory ran out the buffer is as it was.
     pub fn settle_into<R: Wait>(
         &self,
         rt: &R,
@@ -152,6 +152,7 @@ impl<K: Keeper> TicketBook<K> {
         ensures ok { IfOk result (SettlesInto
             (λ settled. SettledBy K.keeper access.now pass.old ask.now settled pass.new) is_framed out.old.items out.new.items) }
         ensures err { OnErr result (LeftBy pass.old pass.new) }
+        ensures out { OnErr result (out.new.items ≡ out.old.items) }
     {
         let asked = asked_as(ask, pass.number);
         let badge = mem::replace(&mut pass.badge, Badge::blank());

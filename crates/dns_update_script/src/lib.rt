@@ -3,7 +3,6 @@
 
 mod entry;
 mod fault;
-mod kept;
 mod line;
 mod meant;
 mod script;

@@ -5,9 +5,9 @@ ghost use Rattle.std.specs.List.{AllByRecursion};
 ghost use Rattle.dns_wire.specs.ReadBack.{IsMessage, IsPlain};
 ghost use Rattle.dns_update_script.specs.Meant.{update_header, update_of, meant_by};
 
-use crate::kept::kept_messages;
 use crate::script::{Script, Sending};
 use dns_io::OutOfMemory;
+use dns_wire::kept::kept_messages;
 use dns_wire::{Header, Message, Question, Questions, Records, class, opcode, record_type};
 use std::alloc::Global;
 

@@ -11,3 +11,4 @@ pub mod MessageBytes
 pub mod Written
 pub mod Given
 pub mod ReadBack
+pub mod Kept

@@ -2,6 +2,7 @@
 
 ghost use Rattle.std.specs.Prelude.{◌≡◌, ◌≤◌, ◌<◌, ◌+◌, ◌++◌, ◌==◌, [], length, map, take, nat_lt, false, Bool, IfOk, IfSome, IfNone, OnOk, option_map};
 ghost use Rattle.std.specs.Int.{w16, w32, to_be_bytes};
+ghost use Rattle.std.specs.Io.{StartsWith};
 ghost use Rattle.dns_name.specs.Name.{fold_of, labels_bytes, name_bytes};
 ghost use Rattle.dns_wire.specs.Given.{given, negative, negative_ttl, given_as, in_parts, kinds};
 ghost use Rattle.dns_wire.specs.WireFormat.{record_bytes, records_bytes};
@@ -131,7 +132,8 @@ impl<'a> LentRecords<'a> {
     /// Writes the first `count` of the records.
     #[inline(always)]
     pub(crate) fn put(&self, out: &mut Vec<u8>, count: usize) -> Result<(), OutOfMemory>
-        ensures { OnOk result (out.new.items ≡ out.old.items ++ records_bytes (take count self.now)) }
+        ensures ok { OnOk result (out.new.items ≡ out.old.items ++ records_bytes (take count self.now)) }
+        ensures begins { StartsWith out.new.items out.old.items }
     {
         if count == 0 {
             return Ok(());
@@ -271,8 +273,9 @@ fn put_each(
     owner: &Option<NameView<'_>>,
     is_negative: bool,
 ) -> Result<(), OutOfMemory>
-    ensures { OnOk result (out.new.items ≡ out.old.items
+    ensures ok { OnOk result (out.new.items ≡ out.old.items
         ++ records_bytes (map (given_as (option_map fold_of owner.now) is_negative) records.now)) }
+    ensures begins { StartsWith out.new.items out.old.items }
 {
     for one in records {
         put_given(out, one, owner, is_negative)?;
@@ -287,8 +290,9 @@ fn put_given(
     owner: &Option<NameView<'_>>,
     is_negative: bool,
 ) -> Result<(), OutOfMemory>
-    ensures { OnOk result (out.new.items ≡ out.old.items
+    ensures ok { OnOk result (out.new.items ≡ out.old.items
         ++ record_bytes (given_as (option_map fold_of owner.now) is_negative one.now)) }
+    ensures begins { StartsWith out.new.items out.old.items }
 {
     put_owner(out, one, owner)?;
     let ttl = given_ttl(one, is_negative);
@@ -302,8 +306,9 @@ fn put_owner(
     one: &Record,
     owner: &Option<NameView<'_>>,
 ) -> Result<(), OutOfMemory>
-    ensures { OnOk result (out.new.items ≡ out.old.items
+    ensures ok { OnOk result (out.new.items ≡ out.old.items
         ++ labels_bytes (given (option_map fold_of owner.now) one.now).name) }
+    ensures begins { StartsWith out.new.items out.old.items }
 {
     match owner {
         None => out.extend_from_slice(one.name.as_wire())?,
@@ -315,7 +320,8 @@ fn put_owner(
 /// Writes the labels of a name, with ASCII capitals made small.
 #[inline(never)]
 fn put_folded(out: &mut Vec<u8>, name: &NameView<'_>) -> Result<(), OutOfMemory>
-    ensures { OnOk result (out.new.items ≡ out.old.items ++ labels_bytes (fold_of name.now)) }
+    ensures ok { OnOk result (out.new.items ≡ out.old.items ++ labels_bytes (fold_of name.now)) }
+    ensures begins { StartsWith out.new.items out.old.items }
 {
     let start = out.len();
     out.extend_from_slice(name.as_wire())?;
@@ -357,7 +363,8 @@ pub(crate) fn put_parts(
     parts: &[LentRecords<'_>],
     count: usize,
 ) -> Result<(), OutOfMemory>
-    ensures { OnOk result (out.new.items ≡ out.old.items ++ records_bytes (take count (in_parts parts.now))) }
+    ensures ok { OnOk result (out.new.items ≡ out.old.items ++ records_bytes (take count (in_parts parts.now))) }
+    ensures begins { StartsWith out.new.items out.old.items }
 {
     let mut left = count;
     for part in parts {

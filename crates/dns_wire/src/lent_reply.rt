@@ -1,7 +1,8 @@
 //! Replies whose records are lent: they are written without copies (RFC 1035 4.1, RFC 2181 9).
 
-ghost use Rattle.std.specs.Prelude.{◌≡◌, ◌+◌, ◌-◌, ◌≤◌, ◌<◌, ◌++◌, ◌∷◌, [], ℕ, List, Bool, length, take, min, nat_lt, if◌then◌else◌, IfOk, OnOk};
+ghost use Rattle.std.specs.Prelude.{◌≡◌, ◌+◌, ◌-◌, ◌≤◌, ◌<◌, ◌++◌, ◌∷◌, [], ℕ, List, Bool, length, take, min, nat_lt, if◌then◌else◌, IfOk, OnOk, OnErr};
 ghost use Rattle.std.specs.Int.{w16, to_be_bytes};
+ghost use Rattle.std.specs.Io.{StartsWith};
 ghost use Rattle.dns_wire.specs.WireFormat.{records_bytes, questions_bytes};
 ghost use Rattle.dns_wire.specs.declared.reply.Reply.{Reply};
 ghost use Rattle.dns_wire.specs.Given.{in_parts};
@@ -108,7 +109,7 @@ struct Kept {
 
 impl<'a> LentReply<'a> {
     /// Writes the reply at the end of a buffer, in the form that [`crate::Reply::write`] gives: as it stands, or behind the two bytes of its
-    /// length, as it goes over a connection (RFC 1035 4.2.2). Where memory runs out, part of it may be written.
+    /// length, as it goes over a connection (RFC 1035 4.2.2). Where memory runs out the buffer is as it was.
     pub fn append(
         &self,
         out: &mut Vec<u8>,
@@ -116,7 +117,23 @@ impl<'a> LentReply<'a> {
         is_framed: bool,
     ) -> Result<Appended, OutOfMemory>
         requires { 512 ≤ limit }
-        ensures { IfOk result (Appends self.now limit is_framed out.old.items out.new.items) }
+        ensures ok { IfOk result (Appends self.now limit is_framed out.old.items out.new.items) }
+        ensures err { OnErr result (out.new.items ≡ out.old.items) }
+    {
+        let len = out.len();
+        let appended = self.put(out, limit, is_framed);
+        if appended.is_err() {
+            out.truncate(len);
+        }
+        appended
+    }
+
+    /// Writes it so. Where memory runs out, part of it may stand behind what the buffer had.
+    #[inline(always)]
+    fn put(&self, out: &mut Vec<u8>, limit: u16, is_framed: bool) -> Result<Appended, OutOfMemory>
+        requires { 512 ≤ limit }
+        ensures ok { IfOk result (Appends self.now limit is_framed out.old.items out.new.items) }
+        ensures begins { StartsWith out.new.items out.old.items }
     {
         let limit = usize::from(limit);
         let fixed = 12 + asked_len(&self.question) + opt_len(&self.edns);
@@ -158,7 +175,8 @@ fn asked_count(question: &Option<LentQuestion<'_>>) -> u128
 /// Writes the question, where it is echoed.
 #[inline(always)]
 fn put_asked(out: &mut Vec<u8>, question: &Option<LentQuestion<'_>>) -> Result<(), OutOfMemory>
-    ensures { OnOk result (out.new.items ≡ out.old.items ++ questions_bytes (question_list question.now)) }
+    ensures ok { OnOk result (out.new.items ≡ out.old.items ++ questions_bytes (question_list question.now)) }
+    ensures begins { StartsWith out.new.items out.old.items }
 {
     match question {
         None => Ok(()),
@@ -232,7 +250,8 @@ fn kept_behind(authority: &LentRecords<'_>, additional: &LentRecords<'_>, room: 
 
 /// Writes a length, where the reply goes over a connection.
 fn put_len(out: &mut Vec<u8>, len: usize, is_framed: bool) -> Result<(), OutOfMemory>
-    ensures { OnOk result (out.new.items ≡ out.old.items ++ (if is_framed then to_be_bytes w16 len else [])) }
+    ensures ok { OnOk result (out.new.items ≡ out.old.items ++ (if is_framed then to_be_bytes w16 len else [])) }
+    ensures begins { StartsWith out.new.items out.old.items }
 {
     if is_framed {
         put_count(out, len as u128)?;
@@ -275,7 +294,8 @@ fn put_kept(
     requires authority { kept.now.authority ≡ min (kept.now.count - length reply.now.answers) (length reply.now.authority) }
     requires additional { kept.now.additional ≡ kept.now.count - length reply.now.answers - length reply.now.authority }
     requires within { kept.now.count ≤ length (all_of reply.now) }
-    ensures { OnOk result (out.new.items ≡ out.old.items ++ reply_bytes reply.now kept.now.count) }
+    ensures ok { OnOk result (out.new.items ≡ out.old.items ++ reply_bytes reply.now kept.now.count) }
+    ensures begins { StartsWith out.new.items out.old.items }
 {
     put_head(
         out,

@@ -8,6 +8,7 @@ mod encoding;
 mod folding;
 mod header;
 mod ipv6_address;
+pub mod kept;
 pub mod laws;
 mod lent_records;
 mod lent_reply;

@@ -2,6 +2,7 @@
 
 ghost use Rattle.std.specs.Prelude.{◌≡◌, ◌++◌, ◌∷◌, ◌+◌, ◌*◌, ◌≤◌, ◌<◌, ◌^◌, length, OnOk, IfSome};
 ghost use Rattle.std.specs.Int.{w16, w32, to_be_bytes, from_be_bytes};
+ghost use Rattle.std.specs.Io.{StartsWith};
 ghost use Rattle.dns_name.specs.Name.{IsName, name_bytes};
 ghost use Rattle.dns_wire.specs.Header.{unit, flag_bytes, header_bytes};
 ghost use Rattle.dns_wire.specs.Edns.{opt_record, opt_records};
@@ -30,7 +31,7 @@ pub(crate) fn put_message(
     additional: &[Record],
     edns: &Option<Edns>,
 ) -> Result<(), OutOfMemory>
-    ensures { OnOk result (out.new.items ≡ out.old.items ++ message_bytes (record {
+    ensures ok { OnOk result (out.new.items ≡ out.old.items ++ message_bytes (record {
       header = header.now;
       questions = questions.now;
       answers = answers.now;
@@ -38,6 +39,7 @@ pub(crate) fn put_message(
       additional = additional.now;
       edns = edns.now;
     })) }
+    ensures begins { StartsWith out.new.items out.old.items }
 {
     put_head(
         out,
@@ -63,8 +65,9 @@ pub(crate) fn put_head(
     authority: u128,
     additional: u128,
 ) -> Result<(), OutOfMemory>
-    ensures { OnOk result (out.new.items ≡ out.old.items ++ ((to_be_bytes w16 header.now.id ++ flag_bytes header.now)
+    ensures ok { OnOk result (out.new.items ≡ out.old.items ++ ((to_be_bytes w16 header.now.id ++ flag_bytes header.now)
         ++ (to_be_bytes w16 questions ++ (to_be_bytes w16 answers ++ (to_be_bytes w16 authority ++ to_be_bytes w16 additional))))) }
+    ensures begins { StartsWith out.new.items out.old.items }
 {
     let [first, second] = header.id.to_be_bytes();
     let [high, low] = flag_bytes(header);
@@ -121,7 +124,8 @@ pub(crate) fn opt_count(edns: &Option<Edns>) -> u128
 
 /// Writes questions.
 fn put_questions(out: &mut Vec<u8>, questions: &[Question]) -> Result<(), OutOfMemory>
-    ensures { OnOk result (out.new.items ≡ out.old.items ++ questions_bytes questions.now) }
+    ensures ok { OnOk result (out.new.items ≡ out.old.items ++ questions_bytes questions.now) }
+    ensures begins { StartsWith out.new.items out.old.items }
 {
     for question in questions {
         put_question(out, &question.lent())?;
@@ -135,7 +139,8 @@ pub(crate) fn put_question(
     out: &mut Vec<u8>,
     question: &LentQuestion<'_>,
 ) -> Result<(), OutOfMemory>
-    ensures { OnOk result (out.new.items ≡ out.old.items ++ question_bytes question.now) }
+    ensures ok { OnOk result (out.new.items ≡ out.old.items ++ question_bytes question.now) }
+    ensures begins { StartsWith out.new.items out.old.items }
 {
     out.extend_from_slice(question.name.as_wire())?;
     let [type_high, type_low] = question.qtype.to_be_bytes();
@@ -151,7 +156,8 @@ pub(crate) fn put_extra(
     records: &[Record],
     edns: &Option<Edns>,
 ) -> Result<(), OutOfMemory>
-    ensures { OnOk result (out.new.items ≡ out.old.items ++ records_bytes (records.now ++ opt_records edns.now)) }
+    ensures ok { OnOk result (out.new.items ≡ out.old.items ++ records_bytes (records.now ++ opt_records edns.now)) }
+    ensures begins { StartsWith out.new.items out.old.items }
 {
     put_records(out, records)?;
     match edns {
@@ -162,7 +168,8 @@ pub(crate) fn put_extra(
 
 /// Writes records.
 fn put_records(out: &mut Vec<u8>, records: &[Record]) -> Result<(), OutOfMemory>
-    ensures { OnOk result (out.new.items ≡ out.old.items ++ records_bytes records.now) }
+    ensures ok { OnOk result (out.new.items ≡ out.old.items ++ records_bytes records.now) }
+    ensures begins { StartsWith out.new.items out.old.items }
 {
     for one in records {
         put_record(out, one)?;
@@ -172,7 +179,8 @@ fn put_records(out: &mut Vec<u8>, records: &[Record]) -> Result<(), OutOfMemory>
 
 /// Writes a record.
 pub(crate) fn put_record(out: &mut Vec<u8>, one: &Record) -> Result<(), OutOfMemory>
-    ensures { OnOk result (out.new.items ≡ out.old.items ++ record_bytes one.now) }
+    ensures ok { OnOk result (out.new.items ≡ out.old.items ++ record_bytes one.now) }
+    ensures begins { StartsWith out.new.items out.old.items }
 {
     out.extend_from_slice(one.name.as_wire())?;
     put_rest(out, one.rtype, one.class, one.ttl, &one.rdata)
@@ -188,8 +196,9 @@ pub(crate) fn put_rest(
     ttl: u32,
     rdata: &Data,
 ) -> Result<(), OutOfMemory>
-    ensures { OnOk result (out.new.items ≡ out.old.items ++ (0 ∷ (to_be_bytes w16 rtype ++ to_be_bytes w16 class ++ to_be_bytes w32 ttl
+    ensures ok { OnOk result (out.new.items ≡ out.old.items ++ (0 ∷ (to_be_bytes w16 rtype ++ to_be_bytes w16 class ++ to_be_bytes w32 ttl
         ++ to_be_bytes w16 (length (data_bytes rdata.now)) ++ data_bytes rdata.now))) }
+    ensures begins { StartsWith out.new.items out.old.items }
 {
     match rdata {
         Data::A(address) => put_rest_of_a(out, rtype, class, ttl, *address),
@@ -213,8 +222,9 @@ fn put_middle(
     ttl: u32,
     len: usize,
 ) -> Result<(), OutOfMemory>
-    ensures { OnOk result (out.new.items ≡ out.old.items
+    ensures ok { OnOk result (out.new.items ≡ out.old.items
         ++ (0 ∷ (to_be_bytes w16 rtype ++ to_be_bytes w16 class ++ to_be_bytes w32 ttl ++ to_be_bytes w16 len))) }
+    ensures begins { StartsWith out.new.items out.old.items }
 {
     let [type_high, type_low] = rtype.to_be_bytes();
     let [class_high, class_low] = class.to_be_bytes();
@@ -235,8 +245,9 @@ fn put_rest_of_a(
     ttl: u32,
     address: u32,
 ) -> Result<(), OutOfMemory>
-    ensures { OnOk result (out.new.items ≡ out.old.items ++ (0 ∷ (to_be_bytes w16 rtype ++ to_be_bytes w16 class ++ to_be_bytes w32 ttl
+    ensures ok { OnOk result (out.new.items ≡ out.old.items ++ (0 ∷ (to_be_bytes w16 rtype ++ to_be_bytes w16 class ++ to_be_bytes w32 ttl
         ++ to_be_bytes w16 4 ++ to_be_bytes w32 address))) }
+    ensures begins { StartsWith out.new.items out.old.items }
 {
     let [type_high, type_low] = rtype.to_be_bytes();
     let [class_high, class_low] = class.to_be_bytes();
@@ -251,7 +262,8 @@ fn put_rest_of_a(
 /// Writes a name, as [`Name::write`] does, but in place, and where room was made for all that is written.
 #[inline(always)]
 pub(crate) fn put_name(out: &mut Vec<u8>, name: &Name) -> Result<(), OutOfMemory>
-    ensures { OnOk result (out.new.items ≡ out.old.items ++ name_bytes name.now) }
+    ensures ok { OnOk result (out.new.items ≡ out.old.items ++ name_bytes name.now) }
+    ensures begins { StartsWith out.new.items out.old.items }
 {
     out.extend_from_slice(name.as_wire())?;
     out.push(0)?;
@@ -261,7 +273,8 @@ pub(crate) fn put_name(out: &mut Vec<u8>, name: &Name) -> Result<(), OutOfMemory
 /// Writes an OPT record (RFC 6891 6.1.2).
 #[inline(always)]
 fn put_opt(out: &mut Vec<u8>, edns: &Edns) -> Result<(), OutOfMemory>
-    ensures { OnOk result (out.new.items ≡ out.old.items ++ record_bytes (opt_record edns.now)) }
+    ensures ok { OnOk result (out.new.items ≡ out.old.items ++ record_bytes (opt_record edns.now)) }
+    ensures begins { StartsWith out.new.items out.old.items }
 {
     let [type_high, type_low] = record_type::OPT.to_be_bytes();
     let [high, low] = edns.payload.to_be_bytes();
@@ -329,7 +342,8 @@ pub(crate) fn name_len(name: &Name) -> usize
 
 /// Writes a number in two bytes.
 pub(crate) fn put_u16(out: &mut Vec<u8>, number: u16) -> Result<(), OutOfMemory>
-    ensures { OnOk result (out.new.items ≡ out.old.items ++ to_be_bytes w16 number) }
+    ensures ok { OnOk result (out.new.items ≡ out.old.items ++ to_be_bytes w16 number) }
+    ensures begins { StartsWith out.new.items out.old.items }
 {
     out.extend_from_slice(&number.to_be_bytes())?;
     Ok(())
@@ -337,7 +351,8 @@ pub(crate) fn put_u16(out: &mut Vec<u8>, number: u16) -> Result<(), OutOfMemory>
 
 /// Writes the lowest sixteen bits of a count.
 pub(crate) fn put_count(out: &mut Vec<u8>, count: u128) -> Result<(), OutOfMemory>
-    ensures { OnOk result (out.new.items ≡ out.old.items ++ to_be_bytes w16 count) }
+    ensures ok { OnOk result (out.new.items ≡ out.old.items ++ to_be_bytes w16 count) }
+    ensures begins { StartsWith out.new.items out.old.items }
 {
     out.extend_from_slice(&count_bytes(count))?;
     Ok(())
@@ -345,7 +360,8 @@ pub(crate) fn put_count(out: &mut Vec<u8>, count: u128) -> Result<(), OutOfMemor
 
 /// Writes a number in four bytes.
 pub(crate) fn put_u32(out: &mut Vec<u8>, number: u32) -> Result<(), OutOfMemory>
-    ensures { OnOk result (out.new.items ≡ out.old.items ++ to_be_bytes w32 number) }
+    ensures ok { OnOk result (out.new.items ≡ out.old.items ++ to_be_bytes w32 number) }
+    ensures begins { StartsWith out.new.items out.old.items }
 {
     out.extend_from_slice(&number.to_be_bytes())?;
     Ok(())

@@ -1,12 +1,12 @@
 -- Whether a name owns another type than one shows in its sets.
-use Rattle.std.proofs.Common.{◌≡◌, ℕ, List, [], ◌∷◌, refl, sym, ap, ◌∙◌, Bool, true, false, not, if◌then◌else◌, filter}
-use Rattle.std.specs.Prelude.{None, Some, Option, is_some, ◌==◌, ◌||◌, ◌&&◌}
+use Rattle.std.proofs.Common.{◌≡◌, ℕ, List, [], ◌∷◌, refl, sym, ◌∙◌, Bool, true, false, not, if◌then◌else◌}
+use Rattle.std.specs.Prelude.{Some, Option, is_some, ◌==◌, ◌||◌, ◌&&◌}
 use Rattle.std.specs.List.{list_any}
 use Rattle.std.proofs.lemmas.Bool.Decides.{Decides-eqb}
 use Rattle.dns_name.specs.Name.{is_same_name}
 use Rattle.dns_wire.specs.declared.record.Record.{Record}
 use Rattle.dns_zone_map.specs.declared.sets.RecordSet.{RecordSet}
-use Rattle.dns_zone_map.specs.Zone.{is_type, is_in_set}
+use Rattle.dns_zone_map.specs.Zone.{is_in_set}
 use Rattle.dns_zone_map.specs.Sets.{AreSetsOf, set_in}
 use Rattle.dns_zone.specs.Owner.{is_of_another_type, owns_another_type, has_another_set}
 use Rattle.dns_zone_map.proofs.Owned.{owned_is}

@@ -1,10 +1,9 @@
 -- Rows that were taken behind others of which something is known, and where they end.
-use Rattle.std.proofs.Common.{◌≡◌, ℕ, ◌+◌, ◌<◌, List, [], ◌∷◌, ◌++◌, length, take, drop, get_or, Result, Ok, sym, ap, ◌∙◌, subst}
+use Rattle.std.proofs.Common.{◌≡◌, ℕ, ◌+◌, ◌<◌, List, ◌∷◌, ◌++◌, length, take, drop, get_or, Ok, ap, ◌∙◌, subst}
 use Rattle.std.proofs.lemmas.List.{append_assoc}
-use Rattle.dns_wire.specs.declared.record.Record.{Record}
 use Rattle.dns_keeper.specs.declared.row.Row.{Row}
 use Rattle.dns_zone_map.specs.Zone.{Contents}
-use Rattle.dns_update.specs.Replay.{Refusal, Replays}
+use Rattle.dns_update.specs.Replay.{Replays}
 use Rattle.dns_zone.specs.declared.replaying.ReplayFault.{ReplayFault}
 use Rattle.dns_zone.specs.Replayed.{Replayed}
 use Rattle.dns_zone.specs.Replaying.{HasTaken, TellsEnd}

@@ -58,6 +58,8 @@ impl RequestHandler for Echo {
 
     ghost skips = { λ before after. Unit {0} };
 
+    ghost skips_same = { λ a. tt };
+
     fn handle_request(&mut self, _access: &AccessControl, ask: &Ask) -> Result<Settled, OutOfMemory>
         requires bytes { length ask.now.bytes ≤ 65535 }
     {

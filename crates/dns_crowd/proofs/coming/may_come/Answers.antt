@@ -1,5 +1,5 @@
 -- One more may come.
-use Rattle.std.proofs.Common.{◌≡◌, ◌∙◌, List, [], ◌∷◌, ◌++◌, None, Option, ℕ, append-nil, ap, map, rules, subst, take}
+use Rattle.std.proofs.Common.{◌∙◌, List, [], ◌∷◌, None, Option, ℕ, append-nil, map, rules, subst, take}
 use Rattle.std.proofs.lemmas.List.{take_all}
 use Rattle.dns_server_core.specs.Events.{moment}
 use Rattle.dns_crowd.specs.declared.coming.Coming.{Coming}

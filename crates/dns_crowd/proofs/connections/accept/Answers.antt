@@ -1,5 +1,5 @@
 -- One that is accepted stands in the order at a moment at which it is within its time.
-use Rattle.std.proofs.Common.{◌≡◌, ◌≤◌, ◌∙◌, ℕ, List, true, ap, subst, sym, arith}
+use Rattle.std.proofs.Common.{◌≡◌, ◌≤◌, ℕ, List, true, ap, subst, sym, arith}
 use Rattle.std.specs.List.{Contains}
 use Rattle.dns_server_core.specs.declared.event.Event.TheVariants.{Accepted}
 use Rattle.dns_server_core.specs.Connections.{Connection, is_within}

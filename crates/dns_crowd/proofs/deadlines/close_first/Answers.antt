@@ -1,5 +1,5 @@
 -- The first in the order goes from it, or is put off.
-use Rattle.std.proofs.Common.{◌≡◌, ◌∙◌, ℕ, List, ◌∷◌, get_or, true, false, ap, subst, sym}
+use Rattle.std.proofs.Common.{◌≡◌, ◌∙◌, ℕ, List, ◌∷◌, true, false, ap, subst, sym}
 use Rattle.std.specs.List.{AllByRecursion, remove}
 use Rattle.std.specs.List.Sorted.{IsPermutation}
 use Rattle.dns_server_core.specs.Connections.{Connection, is_within}

@@ -1,8 +1,8 @@
 -- Nothing was handed over, or all that was whole and may still come.
-use Rattle.std.proofs.Common.{◌≡◌, ℕ, ap, not, subst}
+use Rattle.std.proofs.Common.{◌≡◌, ℕ, ap, subst}
 use Rattle.dns_server_core.specs.Connections.{Connection}
 use Rattle.dns_server_core.specs.Steps.{heard_messages, piece_at, unread_messages}
-use Rattle.dns_server_core.proofs.OnePiece.{on_err, heard_in_time, heard_late, moved_in_time, moved_late}
+use Rattle.dns_server_core.proofs.OnePiece.{on_err, heard_in_time, heard_late, moved_late}
 use Rattle.dns_crowd.specs.Replies.{RepliesTo}
 use Rattle.dns_crowd.proofs.FramedReplies.{falters_none, falters_same, falters_settled, replies_none, replies_same, replies_settled}
 use Rattle.dns_crowd.proofs.serving.serve_piece.Goals as goal
@@ -26,7 +26,7 @@ returns-in_err-answer-in-InTime-clause-halted g c =
     on_err c.from_residual-in_err-answer-in-InTime.result
     (falters_same (g.H.RequestHandler.serves c.args.access.now) g.H.RequestHandler.skips c.args.handler.now c.answer.new.handler _ _
     (heard_in_time c.args.session.now c.hear.new.self c.args.at c.args.piece.now (rw c.in-InTime.is at c.in_ok-heard.ensures.ok))
-    (falters_settled (g.H.RequestHandler.serves c.args.access.now) g.H.RequestHandler.skips c.hear.new.self c.args.at c.args.handler.now _ c.in_err-answer-in-InTime.ensures.err))
+    (falters_settled (g.H.RequestHandler.serves c.args.access.now) g.H.RequestHandler.skips c.hear.new.self c.args.at c.args.handler.now _ _ _ c.in_err-answer-in-InTime.ensures.err))
 
 pub returns-in_ok-answer-in-InTime-clause-ran : goal.returns-in_ok-answer-in-InTime-clause-ran
 returns-in_ok-answer-in-InTime-clause-ran g c =

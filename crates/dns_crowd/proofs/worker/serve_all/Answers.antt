@@ -1,5 +1,5 @@
 -- From event to event.
-use Rattle.std.proofs.Common.{◌≡◌, ◌≤◌, ◌∙◌, ℕ, length, Option, subst, sym, arith}
+use Rattle.std.proofs.Common.{◌≡◌, ◌≤◌, ◌∙◌, length, Option, subst, sym, arith}
 use Rattle.std.specs.Prelude.{IfSome}
 use Rattle.dns_ports.specs.Ports.{GivesNext}
 use Rattle.dns_readiness.specs.declared.came.Came.{Came}

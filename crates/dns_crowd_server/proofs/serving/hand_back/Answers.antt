@@ -1,9 +1,9 @@
 -- All passes and all ports are handed in.
-use Rattle.std.proofs.Common.{◌≡◌, ◌∙◌, ◌++◌, List, ap, length, arith, subst, subst₂}
-use Rattle.dns_ticket_lock.specs.Passes.{AreAll, ClosedFor, PassSeen}
-use Rattle.dns_server.specs.Servers.{their_passes, their_ports}
+use Rattle.std.proofs.Common.{◌≡◌, ◌++◌, List, subst, subst₂}
+use Rattle.dns_ticket_lock.specs.Passes.{ClosedFor, PassSeen}
+use Rattle.dns_server.specs.Servers.{their_passes}
 use Rattle.dns_crowd_server.specs.Hubs.{ClosesPlaces, their_faults}
-use Rattle.dns_crowd_server.proofs.AllPasses.{all_back, pass_count}
+use Rattle.dns_crowd_server.proofs.AllPasses.{all_back}
 use Rattle.dns_crowd_server.proofs.serving.hand_back.Goals as goal
 
 pub close-requires-2 : goal.close-requires-2

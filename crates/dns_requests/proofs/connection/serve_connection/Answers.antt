@@ -1,5 +1,5 @@
 -- From read to read, and how it ends.
-use Rattle.std.proofs.Common.{◌≡◌, ◌≢◌, ◌∙◌, ℕ, List, length, map, take, refl, sym, ap, subst, arith}
+use Rattle.std.proofs.Common.{◌≡◌, ◌≢◌, ◌∙◌, ℕ, List, [], length, map, take, refl, sym, ap, subst, arith}
 use Rattle.std.proofs.lemmas.List.{length-take-le}
 use Rattle.std.proofs.lemmas.Result.{err_from_is_err_and}
 use Rattle.dns_io.proofs.ToldContents.{Keeps-same, Keeps-more}
@@ -61,7 +61,7 @@ returns-in_err-heard-clause-ends g c =
     c.loop-turn.invariant.going c.in_ok-count.ensures.ok some c.now-at.ensures.next (c.in_err-heard.ensures.timely, refl) in
     rw (p.1, p.2)
     (ends_answering serves g.T.RequestHandler.skips g.R.Source.source g.W.Sink.sink g.C.Clock.clock terms before now c.loop-turn._turn c.loop-turn.session
-    c.receive.new.source c.now-at.new.self at new c.loop-turn.handler heard c.loop-turn-test.true (Halts-none serves g.T.RequestHandler.skips c.loop-turn.handler _))
+    c.receive.new.source c.now-at.new.self at new c.loop-turn.handler [] [] heard c.loop-turn-test.true (Halts-none serves g.T.RequestHandler.skips c.loop-turn.handler _ []))
 
 pub returns-in-Late-clause-ends : goal.returns-in-Late-clause-ends
 returns-in-Late-clause-ends g c =
@@ -92,10 +92,10 @@ returns-in_err-answer-clause-ends g c =
     let heard = Heard-more serves g.T.RequestHandler.skips g.R.Source.source g.W.Sink.sink g.C.Clock.clock terms before now c.loop-turn._turn c.loop-turn.session c.receive.new.source c.now-at.new.self at piece c.hear.new.self
     c.loop-turn.invariant.going c.in_ok-count.ensures.ok some c.now-at.ensures.next in_time in
     let same_peer : new.peer ≡ c.args.peer = ap (λ (k : Connection). k.peer) in_time.1 ∙ c.loop-turn.invariant.peer in
-    let halts = subst (λ (q : Peer). Halts serves g.T.RequestHandler.skips c.loop-turn.handler (map (ask_at q at) (messages_in new new.rest)) c.answer.new.handler) same_peer c.in_err-answer.ensures.err in
+    let halts = subst (λ (q : Peer). Halts serves g.T.RequestHandler.skips c.loop-turn.handler (map (ask_at q at) (messages_in new new.rest)) c.answer.new.handler c.loop-turn.replies.items c.answer.new.replies.items) same_peer c.in_err-answer.ensures.err in
     rw (p.1, p.2)
     (ends_answering serves g.T.RequestHandler.skips g.R.Source.source g.W.Sink.sink g.C.Clock.clock terms before now c.loop-turn._turn c.loop-turn.session
-    c.receive.new.source c.now-at.new.self at new c.answer.new.handler heard c.loop-turn-test.true halts)
+    c.receive.new.source c.now-at.new.self at new c.answer.new.handler _ _ heard c.loop-turn-test.true halts)
 
 pub returns-in_err-send-clause-ends : goal.returns-in_err-send-clause-ends
 returns-in_err-send-clause-ends g c =

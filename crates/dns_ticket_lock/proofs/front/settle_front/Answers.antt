@@ -29,7 +29,8 @@ returns-in_default-answer-clause-err g c =
     let s = c.settle_book-answer in
     let receipt = s.ensures.receipt ∙ ap receipt_in c.in_default-answer.is in
     Quiet-halts g.K.Keeper.keeper c.args.access.now c.args.ask.now c.args.book.now c.loop-message.book s.new.book c.args.most (c.args.most - c.loop-message.messages) c.args.bytes.now c.loop-message.left.now c.args.replies.now.items
-    c.loop-message.replies.items c.loop-message.messages s.result.1 c.loop-message.invariant.quiet (on_err s.result.0 c.in_default-answer.field-0 _ c.in_default-answer.is s.ensures.err) receipt s.ensures.rise
+    c.loop-message.replies.items s.new.out.items c.loop-message.messages s.result.1 c.loop-message.invariant.quiet (on_err s.result.0 c.in_default-answer.field-0 _ c.in_default-answer.is s.ensures.err)
+    (on_err s.result.0 c.in_default-answer.field-0 _ c.in_default-answer.is s.ensures.out) receipt s.ensures.rise
 
 pub returns-then-not-goes_on-clause-ok : goal.returns-then-not-goes_on-clause-ok
 returns-then-not-goes_on-clause-ok g c =

@@ -140,5 +140,5 @@ returns-clause-err g c =
     ap own accounts ∙ (own_head v.accounts (settled took.1 done) (omega arith) ∙ ap (λ (k : ℕ). settled took.1 (done_by g.K.Keeper.keeper k took.1 then.book now.1) (own v.accounts)) (sym c.requires.number)) in
     let begins = own_begins v.accounts v.low took.1 took.2 (omega arith) took.4.1 in
     let by_account = SettledAs g.K.Keeper.keeper v.terms c.args.access.now c.args.ask.now.client in
-    on_err_map now.0 _ _ (λ x. subst (λ (y : Account). Halts by_account LeftAs (own v.accounts) (first_asks c.args.ask.now c.args.most c.args.bytes.now) y) (sym is_own) (x v.terms took.1 (own v.accounts) n.same_terms n.has_rows begins))
+    on_err_map now.0 _ _ (λ x. subst (λ (y : Account). Halts by_account LeftAs (own v.accounts) (first_asks c.args.ask.now c.args.most c.args.bytes.now) y c.args.replies.now.items c.settle_held_front.new.replies.items) (sym is_own) (x v.terms took.1 (own v.accounts) n.same_terms n.has_rows begins))
     c.settle_held_front.ensures.err

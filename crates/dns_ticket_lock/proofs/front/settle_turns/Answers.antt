@@ -24,9 +24,9 @@ returns-in_err-front-clause-err g c =
     let all : List Ask = first_asks c.args.ask.now c.args.most c.args.ask.now.bytes in
     let to_come : List Ask = first_asks c.args.ask.now more left in
     let err = on_err s.result.0 c.in_err-front.field-0.0 _ c.in_err-front.was s.ensures.err in
-    let halts = subst (λ (t : Terms). Halts (by t c.args.ask.now.client) LeftAs before to_come after) i.low.1 err in
+    let halts = subst (λ (t : Terms). Halts (by t c.args.ask.now.client) LeftAs before to_come after c.loop-message.replies.items s.new.replies.items) i.low.1 err in
     let front = subst (λ (l : List Ask). AddsFront (by c.args.seat.now.me.0.terms c.args.ask.now.client) start all before l c.args.replies.now.items c.loop-message.replies.items) (sym (append-nil to_come)) i.front in
-    if_err c.from_residual.result (AddsFront-halts (by c.args.seat.now.me.0.terms c.args.ask.now.client) LeftAs start before after all to_come [] _ _ front halts)
+    if_err c.from_residual.result (AddsFront-halts (by c.args.seat.now.me.0.terms c.args.ask.now.client) LeftAs start before after all to_come [] _ _ _ front halts)
 
 pub loop-message-preserved : goal.loop-message-preserved
 loop-message-preserved g c =

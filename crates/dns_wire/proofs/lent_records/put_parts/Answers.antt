@@ -1,5 +1,6 @@
 use Rattle.std.proofs.Common.{◌≡◌, ◌++◌, ◌-◌, ◌+◌, ◌<◌, suc, length, get_or, List, ℕ, take, drop, sym, ap, ◌∙◌, arith}
 use Rattle.std.proofs.lemmas.List.{append_assoc}
+use Rattle.std.proofs.Transfers.{starts_with_trans}
 use Rattle.dns_wire.specs.declared.record.Record.{Record}
 use Rattle.dns_wire.specs.Given.{in_parts}
 use Rattle.dns_wire.specs.WireFormat.{records_bytes}
@@ -16,6 +17,8 @@ next parts i left part h is =
     ∙ ap (λ (k : ℕ). records_bytes (take left part) ++ records_bytes (take (left - length part) (in_parts (drop k parts)))) (let e : suc i ≡ i + 1 = omega arith in e)
 
 pub loop-part-preserved : goal.loop-part-preserved
-loop-part-preserved c =
-    rw (c.saturating_sub-left.ensures, c.len.ensures)
-    (step c.loop-part.out.items _ _ _ _ _ c.in_ok-put.ensures (next c.args.parts.now c.loop-part.part-index c.loop-part.left c.part-item.result c.loop-part-test.true c.part-item.is) c.loop-part.invariant)
+loop-part-preserved c = record {
+  begins = starts_with_trans _ _ _ c.in_ok-put.ensures.begins c.loop-part.invariant.begins;
+  written = rw (c.saturating_sub-left.ensures, c.len.ensures)
+      (step c.loop-part.out.items _ _ _ _ _ c.in_ok-put.ensures.ok (next c.args.parts.now c.loop-part.part-index c.loop-part.left c.part-item.result c.loop-part-test.true c.part-item.is) c.loop-part.invariant.written);
+}

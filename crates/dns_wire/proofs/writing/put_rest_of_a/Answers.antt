@@ -1,5 +1,5 @@
 use Rattle.std.proofs.Common.{refl, ◌∙◌}
 use Rattle.dns_wire.proofs.writing.put_rest_of_a.Goals as goal
 
-pub returns : goal.returns
-returns c = c.in_ok-extend_from_slice.ensures.items ∙ rw (c.to_be_bytes.ensures, c.to_be_bytes-2.ensures, c.to_be_bytes-3.ensures, c.to_be_bytes-4.ensures) refl
+pub returns-clause-ok : goal.returns-clause-ok
+returns-clause-ok c = c.in_ok-extend_from_slice.ensures.items ∙ rw (c.to_be_bytes.ensures, c.to_be_bytes-2.ensures, c.to_be_bytes-3.ensures, c.to_be_bytes-4.ensures) refl

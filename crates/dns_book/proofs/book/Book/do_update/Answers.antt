@@ -7,7 +7,7 @@ use Rattle.dns_book.proofs.book.Book.do_update.Goals as goal
 pub returns-in_err-appended : goal.returns-in_err-appended
 returns-in_err-appended g c =
     carries_none g.K.Keeper.keeper c.args.self.now c.args.ask.now c.args.decision.now c.args.is_framed c.args.out.now.items c.append.new.out.items c.from_residual.result c.args.self.now
-    c.from_residual.ensures.0 c.requires.kept refl
+    c.from_residual.ensures.0 c.requires.kept refl c.in_err-appended.ensures.err
 
 pub returns-in-Ok : goal.returns-in-Ok
 returns-in-Ok g c =

@@ -1,4 +1,4 @@
-use Rattle.std.proofs.Common.{ℕ, List, Some, false, refl, sym, ap, ◌∙◌, subst}
+use Rattle.std.proofs.Common.{ℕ, List, Some, false, sym, ap, ◌∙◌, subst}
 use Rattle.dns_zone_map.specs.Zone.{Contents}
 use Rattle.dns_zone.specs.Lookup.{lookup_of}
 use Rattle.dns_book.specs.declared.decision.Case.{Case}
@@ -13,7 +13,7 @@ pub returns-in_err-put_looked : goal.returns-in_err-put_looked
 returns-in_err-put_looked g c =
     carries_none g.K.Keeper.keeper c.args.self.now c.args.ask.now c.args.decision.now c.args.is_framed c.args.out.now.items c.put_looked.new.out.items c.from_residual.result _
     c.from_residual.ensures.0 (subst (IsKept g.K.Keeper.keeper) c.self.view_is c.self.invariant)
-    (ap (λ (counts : List (List ℕ)). seen c.self.inside.store c.self.inside.allow_update counts) c.in_err-put_looked.ensures.err ∙ c.self.view_is)
+    (ap (λ (counts : List (List ℕ)). seen c.self.inside.store c.self.inside.allow_update counts) c.in_err-put_looked.ensures.err ∙ c.self.view_is) c.in_err-put_looked.ensures.out
 
 pub returns : goal.returns
 returns g c =

@@ -8,7 +8,7 @@ pub returns-in_err-put : goal.returns-in_err-put
 returns-in_err-put g c =
     carries_none g.K.Keeper.keeper c.args.self.now c.args.ask.now c.args.decision.now c.args.is_framed c.args.out.now.items c.put.new.out.items c.from_residual.result _
     c.from_residual.ensures.0 (subst (IsKept g.K.Keeper.keeper) c.self.view_is c.self.invariant)
-    (ap (λ (counts : List (List ℕ)). seen c.self.inside.store c.self.inside.allow_update counts) c.in_err-put.ensures.err ∙ c.self.view_is)
+    (ap (λ (counts : List (List ℕ)). seen c.self.inside.store c.self.inside.allow_update counts) c.in_err-put.ensures.err ∙ c.self.view_is) c.in_err-put.ensures.out
 
 pub returns : goal.returns
 returns g c =

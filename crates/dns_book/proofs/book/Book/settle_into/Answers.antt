@@ -1,6 +1,5 @@
-use Rattle.std.proofs.Common.{Bool, Some, None, refl, sym, ap, ◌∙◌, subst}
+use Rattle.std.proofs.Common.{refl, sym, ap, ◌∙◌, subst}
 use Rattle.dns_wire.specs.Header.{header_of}
-use Rattle.dns_zone_map.specs.Zone.{Contents}
 use Rattle.dns_book.specs.declared.ask.Ask.{Ask}
 use Rattle.dns_book.specs.declared.ask.Settled.{Settled}
 use Rattle.dns_book.specs.Book.{SeenOf, IsKept, Settles}

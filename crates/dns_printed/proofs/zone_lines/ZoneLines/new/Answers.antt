@@ -1,7 +1,7 @@
 use Rattle.std.proofs.Common.{◌∙◌, map, ap, sym, subst, Bor}
 use Rattle.std.specs.List.{AllByRecursion}
 use Rattle.dns_wire.specs.declared.record.Record.{Record}
-use Rattle.dns_printed.specs.Kept.{IsKept}
+use Rattle.dns_wire.specs.Kept.{IsKept}
 use Rattle.dns_printed.proofs.Alone.{lone_from}
 use Rattle.dns_printed.proofs.Whole.{zone_back}
 use Rattle.dns_printed.proofs.zone_lines.ZoneLines.new.Goals as goal

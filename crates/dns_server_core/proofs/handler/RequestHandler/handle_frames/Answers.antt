@@ -15,8 +15,8 @@ returns-in_err-_settled-clause-err g c =
     let later = first_messages (c.args.most - c.loop-message.messages - 1) c.in-Some.after.now in
     let goes = subst (λ (ms : List (List ℕ)). AddsFront serves c.args.self.now all c.loop-message.self (map with_message ms) c.args.replies.now.items c.loop-message.replies.items) c.in-Some.ensures.messages c.loop-message.invariant.goes in
     on_err c.from_residual.result
-    (AddsFront-halts serves skips c.args.self.now c.loop-message.self c.handle_into.new.self all (with_message c.in-Some.message.now ∷ []) (map with_message later) _ _ goes
-    (Halts-skips serves skips c.loop-message.self c.handle_into.new.self _ c.in_err-_settled.ensures.err))
+    (AddsFront-halts serves skips c.args.self.now c.loop-message.self c.handle_into.new.self all (with_message c.in-Some.message.now ∷ []) (map with_message later) _ _ _ goes
+    (Halts-skips serves skips c.loop-message.self c.handle_into.new.self _ c.loop-message.replies.items c.handle_into.new.out.items c.in_err-_settled.ensures.err c.in_err-_settled.ensures.out))
 
 pub loop-message-preserved : goal.loop-message-preserved
 loop-message-preserved g c =

@@ -79,12 +79,14 @@ returns-clause-err g c =
     let by : Terms → ℕ → _ = λ t n. SettledAs g.K.Keeper.keeper t c.args.access.now n in
     let by_pass = SettledBy g.K.Keeper.keeper c.args.access.now in
     let asks : List Ask = first_asks c.args.stream.now c.args.most c.args.stream.now.bytes in
+    let had = c.args.replies.now.items in
+    let now = c.settle_turns-answer.new.replies.items in
     on_err_map c.settle_turns-answer.result _ _
     (λ x.
-    let numbered = subst (λ (k : Ask). Halts (by old.terms k.client) LeftAs (own old.accounts) (first_asks k c.args.most k.bytes) (own new.accounts)) asked x in
-    let mine = subst (λ (t : Terms). Halts (by t p.number) LeftAs (own old.accounts) (first_asks (asked_by p.number c.args.stream.now) c.args.most c.args.stream.now.bytes) (own new.accounts)) (sym terms) numbered in
-    subst₂ (λ (one other : PassSeen). Halts by_pass LeftBy one asks other) before (sym after)
-    (passes-halts g.K.Keeper.keeper c.args.access.now p c.args.stream.now (first_messages c.args.most c.args.stream.now.bytes) (own old.accounts) (own new.accounts) mine)) e.err
+    let numbered = subst (λ (k : Ask). Halts (by old.terms k.client) LeftAs (own old.accounts) (first_asks k c.args.most k.bytes) (own new.accounts) had now) asked x in
+    let mine = subst (λ (t : Terms). Halts (by t p.number) LeftAs (own old.accounts) (first_asks (asked_by p.number c.args.stream.now) c.args.most c.args.stream.now.bytes) (own new.accounts) had now) (sym terms) numbered in
+    subst₂ (λ (one other : PassSeen). Halts by_pass LeftBy one asks other had now) before (sym after)
+    (passes-halts g.K.Keeper.keeper c.args.access.now p c.args.stream.now (first_messages c.args.most c.args.stream.now.bytes) (own old.accounts) (own new.accounts) had now mine)) e.err
 
 pub returns-clause-count : goal.returns-clause-count
 returns-clause-count g c =

@@ -1,6 +1,6 @@
 use Rattle.std.proofs.Common.{ℕ, suc, ◌<◌, List, [], ◌∷◌, get_or, arith}
-use Rattle.dns_printed.specs.Kept.{AreBytes}
-use Rattle.dns_printed.proofs.kept.kept_bytes.Goals as goal
+use Rattle.dns_wire.specs.Kept.{AreBytes}
+use Rattle.dns_wire.proofs.kept.kept_bytes.Goals as goal
 
 -- numbers, each of which is a byte
 each_byte : (bytes : List ℕ) → ((k : ℕ) → get_or bytes k 0 < 256) → AreBytes bytes

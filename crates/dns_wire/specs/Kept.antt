@@ -28,7 +28,7 @@ IsDataOfBytes (Txt texts) = AreOfBytes texts
 IsDataOfBytes (Opaque bytes) = AreBytes bytes
 IsDataOfBytes Empty = Unit {0}
 
--- a record as the types keep it; each value of type `Record` is one, as `kept_record` shows
+-- a record as the types keep it; each value of type `Record` is one, as `kept_records` says
 pub record IsKept (r : Record) : Type 0 where
   pub ranges : IsRecord r
   pub owner : AreOfBytes r.name

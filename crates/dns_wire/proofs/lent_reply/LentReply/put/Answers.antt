@@ -7,7 +7,7 @@ use Rattle.dns_wire.specs.Header.{flag_bytes}
 use Rattle.dns_wire.specs.WireFormat.{questions_bytes, records_bytes}
 use Rattle.dns_wire.specs.Written.{question_list, reply_bytes, Written, sent_as}
 use Rattle.dns_wire.proofs.Fitting.{written_made, length-reply_bytes, answers_written}
-use Rattle.dns_wire.proofs.lent_reply.LentReply.append.Goals as goal
+use Rattle.dns_wire.proofs.lent_reply.LentReply.put.Goals as goal
 
 sent : (before reserved headed after bytes : List ℕ) (framed : Bool) (len : ℕ) → reserved ≡ before → headed ≡ reserved ++ (if framed then to_be_bytes w16 len else []) → after ≡ headed ++ bytes → len ≡ length bytes
     → after ≡ before ++ sent_as framed bytes
@@ -16,8 +16,8 @@ sent before reserved headed after bytes framed len same head body size =
     body ∙ ap (λ (b : List ℕ). b ++ bytes) (head ∙ ap (λ (b : List ℕ). b ++ (if framed then to_be_bytes w16 len else [])) same ∙ ap (λ (b : List ℕ). before ++ b) length_is)
     ∙ append_assoc before (if framed then to_be_bytes w16 (length bytes) else []) bytes
 
-pub returns : goal.returns
-returns c =
+pub returns-clause-ok : goal.returns-clause-ok
+returns-clause-ok c =
     let r : Reply = c.args.self.now in
     let n : ℕ = c.kept_in-kept.result.count in
     let bytes : List ℕ = reply_bytes r n in
@@ -47,7 +47,7 @@ returns c =
     record {
       bytes = bytes;
       written = written;
-      is = sent _ _ _ _ bytes c.args.is_framed _ c.in_ok-reserve.ensures.items c.in_ok-put_len.ensures c.in_ok-put_kept.ensures size;
+      is = sent _ _ _ _ bytes c.args.is_framed _ c.in_ok-reserve.ensures.items c.in_ok-put_len.ensures.ok c.in_ok-put_kept.ensures.ok size;
       length = size;
       flags = c.flag_word.ensures ∙ ap (λ (h : Header). from_be_bytes w16 (flag_bytes h)) (c.header_of-header.ensures n c.kept_in-kept.ensures.cut);
       answers = c.kept_in-kept.ensures.answers ∙ answers_written r _ (omega (arith, c.kept_in-kept.ensures.few, c.from-limit.ensures));

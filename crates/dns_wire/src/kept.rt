@@ -1,15 +1,21 @@
 //! What the types of messages keep of them, as facts that proofs can cite. The calls do nothing.
 
-ghost use Rattle.std.specs.Prelude.{◌<◌, ◌^◌};
+ghost use Rattle.std.specs.Prelude.{◌<◌, ◌^◌, map};
 ghost use Rattle.std.specs.List.{AllByRecursion};
 ghost use Rattle.dns_name.specs.Name.{IsName};
+ghost use Rattle.dns_wire.specs.Texts.{AreTexts};
 ghost use Rattle.dns_wire.specs.ReadBack.{IsData, IsRecord, IsQuestion, IsMessage};
+ghost use Rattle.dns_wire.specs.Kept.{AreBytes, AreOfBytes, IsDataOfBytes, IsKept};
 
+use crate::message::Message;
+use crate::question::Question;
+use crate::rdata::Data;
+use crate::record::Record;
+use crate::texts::Texts;
 use dns_name::Name;
-use dns_wire::{Data, Message, Question, Record};
 
 /// What is kept of each message without an OPT.
-pub(crate) fn kept_messages(messages: &[Message])
+pub fn kept_messages(messages: &[Message])
     ensures { AllByRecursion IsMessage messages.now }
 {
     for one in messages {
@@ -42,16 +48,28 @@ fn kept_questions(questions: &[Question])
     }
 }
 
-fn kept_records(records: &[Record])
-    ensures { AllByRecursion IsRecord records.now }
+/// What is kept of each record.
+pub fn kept_records(records: &[Record])
+    ensures ranges { AllByRecursion IsRecord records.now }
+    ensures bytes { AllByRecursion IsKept records.now }
 {
     for one in records {
         kept_record(one);
     }
 }
 
+/// The same of records where they are held.
+pub fn kept_listed(records: &[&Record])
+    ensures { AllByRecursion IsKept (map (λ r. r.now) records.now) }
+{
+    for one in records {
+        kept_record(one);
+    }
+}
+
+/// What is kept of a record.
 fn kept_record(one: &Record)
-    ensures { IsRecord one.now }
+    ensures { IsKept one.now }
 {
     kept_name(&one.name);
     kept_u16(one.rtype);
@@ -61,7 +79,8 @@ fn kept_record(one: &Record)
 }
 
 fn kept_data(value: &Data)
-    ensures { IsData value.now }
+    ensures kept { IsData value.now }
+    ensures bytes { IsDataOfBytes value.now }
 {
     match value {
         Data::A(address) => kept_u32(*address),
@@ -104,18 +123,37 @@ fn kept_data(value: &Data)
             kept_u32(*expire);
             kept_u32(*minimum);
         }
-        Data::Txt(texts) => {
-            let _texts = texts.iter();
-        }
-        Data::Opaque(_) => {}
+        Data::Txt(texts) => kept_texts(texts),
+        Data::Opaque(bytes) => kept_bytes(bytes.as_slice()),
         Data::Empty => {}
     }
 }
 
-fn kept_name(name: &Name)
-    ensures { IsName name.now }
+/// What is kept of a name.
+pub fn kept_name(name: &Name)
+    ensures name { IsName name.now }
+    ensures bytes { AreOfBytes name.now }
 {
-    let _labels = name.labels();
+    let mut labels = name.labels();
+    while let Some(label) = labels.next() {
+        kept_bytes(label);
+    }
+}
+
+fn kept_texts(texts: &Texts)
+    ensures texts { AreTexts texts.now }
+    ensures bytes { AreOfBytes texts.now }
+{
+    let mut left = texts.iter();
+    while let Some(text) = left.next() {
+        kept_bytes(text);
+    }
+}
+
+fn kept_bytes(bytes: &[u8])
+    ensures { AreBytes bytes.now }
+{
+    let _bytes = bytes;
 }
 
 fn kept_u8(number: u8)

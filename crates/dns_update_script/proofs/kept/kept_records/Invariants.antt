@@ -1,7 +1,0 @@
-use Rattle.std.proofs.Common.{take}
-use Rattle.std.specs.List.{AllByRecursion}
-use Rattle.dns_wire.specs.ReadBack.{IsRecord}
-use Rattle.dns_update_script.proofs.kept.kept_records.Given as goal
-
-abbrev pub invariant-loop-one : goal.invariant-loop-one
-invariant-loop-one l = AllByRecursion IsRecord (take l.one-index l.records)
