@@ -1,17 +1,13 @@
 -- The keys that begin with a key stand in its tree.
-use Rattle.std.proofs.Common.{◌≡◌, ℕ, ◌+◌, ◌<◌, Bool, true, false, List, [], ◌∷◌, ◌++◌, length, take, reverse, refl, sym, ap, ◌∙◌, subst, arith, length-append, eqb, if◌then◌else◌}
+use Rattle.std.proofs.Common.{◌≡◌, ℕ, ◌+◌, ◌<◌, Bool, true, false, List, [], ◌∷◌, ◌++◌, length, take, reverse, refl, sym, ap, ◌∙◌, subst, arith, length-append, eqb}
 use Rattle.std.specs.Prelude.{◌||◌, ◌&&◌, ◌-◌, ◌%◌, slice_get, Some}
 use Rattle.std.specs.List.{AllByRecursion, list_any, starts_with}
 use Rattle.std.proofs.lemmas.List.{take-append-le}
 use Rattle.std.proofs.lemmas.Option.{same_Some}
 use Rattle.dns_name.specs.Name.{labels_bytes, fold_of}
-use Rattle.std.specs.Map.{lookup}
 use Rattle.dns_zone_map.specs.Keys.{key_of, BeginsWith}
-use Rattle.dns_zone_map.specs.Presence.{is_begun, IsPresenceAt}
-use Rattle.dns_zone_map.specs.declared.presence.Presence.{Presence}
-use Rattle.dns_zone_map.specs.declared.presence.Presence.TheVariants.{Empty, Absent}
-use Rattle.dns_zone_map.specs.Removal.{is_key}
-use Rattle.dns_zone_map.specs.Sets.{are_some, sets_or_none}
+use Rattle.dns_zone_map.specs.Presence.{is_begun}
+use Rattle.dns_zone_map.specs.Sets.{are_some}
 use Rattle.dns_zone_map.specs.Table.{first_label, HasWholeLabel, hash_from, place_of, all_in}
 use Rattle.dns_zone_map.proofs.Firsts.{starts-Decides}
 use Rattle.dns_zone_map.proofs.Lent.{all_to}

@@ -3,6 +3,7 @@ pub mod Sorting
 pub mod Keyed
 pub mod Lent
 pub mod Firsts
+pub mod KeyOrder
 pub mod Exists
 pub mod Outside
 pub mod Putting

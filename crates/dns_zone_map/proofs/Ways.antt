@@ -1,19 +1,16 @@
 -- The way down to a name: the keys of the names on it are fronts of the name's key, and stand in one tree.
-use Rattle.std.proofs.Common.{◌≡◌, ℕ, zero, suc, ◌+◌, ◌-◌, ◌<◌, ◌≤◌, Bool, true, false, List, [], ◌∷◌, ◌++◌, length, map, take, drop, refl, sym, ap, ◌∙◌, subst, arith, append_assoc, length-append, length-drop, Result, Ok, Err, IfOk, Vec, Global}
+use Rattle.std.proofs.Common.{◌≡◌, ℕ, zero, suc, ◌+◌, ◌-◌, ◌<◌, ◌≤◌, true, List, [], ◌∷◌, ◌++◌, length, map, take, drop, refl, sym, ap, ◌∙◌, arith, append_assoc, length-append, length-drop, Result, Ok, Err, IfOk}
 use Rattle.std.specs.Prelude.{◌%◌}
 use Rattle.std.proofs.Math.ListN.{get_or}
 use Rattle.std.specs.Char.{to_ascii_lowercase}
-use Rattle.std.specs.Map.{lookup}
 use Rattle.std.proofs.Math.Seq.{drop-cons, get_or-append_seam}
 use Rattle.std.proofs.lemmas.List.{take_at}
-use Rattle.dns_name.specs.Name.{is_at_or_below, label_bytes, labels_bytes}
+use Rattle.dns_name.specs.Name.{is_at_or_below}
 use Rattle.dns_wire.specs.declared.record.Record.{Record}
-use Rattle.dns_zone_map.specs.declared.sets.RecordSet.{RecordSet}
 use Rattle.dns_zone_map.specs.declared.presence.Presence.{Presence}
 use Rattle.dns_zone_map.specs.declared.presence.Presence.TheVariants.{Owner, Empty, Absent}
 use Rattle.dns_zone_map.specs.Keys.{key_of, star_above}
 use Rattle.dns_zone_map.specs.Presence.{IsPresence, IsPresenceAt, is_begun}
-use Rattle.dns_zone_map.specs.Removal.{is_key}
 use Rattle.dns_zone_map.specs.Sets.{sets_or_none}
 use Rattle.dns_zone_map.specs.Table.{first_label, HasWholeLabel, hash_from, place_of, all_in, IsTable}
 use Rattle.dns_zone_map.specs.Walk.{HasAllBehind, Tells, IsWay}

@@ -2,6 +2,7 @@ pub mod SameData
 pub mod Zone
 pub mod Existence
 pub mod Keys
+pub mod KeyOrder
 pub mod KeyRoom
 pub mod Order
 pub mod Held

@@ -6,7 +6,7 @@ ghost use Rattle.std.specs.Map.{lookup, set_value};
 ghost use Rattle.dns_zone_map.specs.Sets.{sets_or_none};
 ghost use Rattle.dns_zone_map.specs.Removal.{is_key};
 ghost use Rattle.dns_zone_map.specs.declared.former.FormerSets.{FormerSets};
-ghost use Rattle.dns_zone_map.specs.Tree.{OwnsSame};
+ghost use Rattle.dns_zone_map.specs.Tree.{KeysApart, OwnsSame};
 ghost use Rattle.dns_zone_map.specs.Former.{restored, covers, KeptLast, IsKept, IsKeptIn, IsSameUndoing, HasName};
 
 use crate::names::Names;
@@ -41,11 +41,17 @@ pub(crate) fn keep_former(
     ensures ok { OnOk result (IsKept key.now names.old undoing.old names.new undoing.new) }
     ensures err_names { OnErr result (names.new ≡ names.old) }
     ensures err_undoing { OnErr result (IsSameUndoing undoing.old undoing.new) }
+    // No key stands twice among the names.
+    ensures apart { KeysApart names.old }
+    ensures still_apart { KeysApart names.new }
 {
-    match undoing {
+    let _apart = names.tree_count();
+    let kept = match undoing {
         None => Ok(()),
         Some(undoing) => keep_in(alloc, names, &mut undoing.formers, key),
-    }
+    };
+    let _still_apart = names.tree_count();
+    kept
 }
 
 /// Keeps what the name with this key owns, unless something was kept of it before.

@@ -90,6 +90,7 @@ impl Names {
     pub(crate) fn sets_at(&self, key: &[u8]) -> Option<&OwnerSets>
         ensures sets { sets_or_none (option_copied result) ≡ sets_or_none (lookup (is_key key.now) self.now) }
         ensures some { IfSome result (λ sets. 0 < length sets.now) }
+        ensures apart { KeysApart self.now }
     {
         let place = place_of(self.trees.len(), key);
         tree::sets_at(&self.trees[place], key)

@@ -13,6 +13,7 @@ ghost use Rattle.dns_zone_map.specs.Beside.{IsPutAt};
 ghost use Rattle.dns_zone_map.specs.Serial.{IsSerialSetAt};
 ghost use Rattle.dns_zone_map.specs.Former.{blanked, HasName};
 ghost use Rattle.dns_zone_map.specs.Presence.{IsPresenceAt, is_begun};
+ghost use Rattle.dns_zone_map.specs.KeyOrder.{standing};
 
 use crate::beside::{Beside, put_among};
 use crate::presence::{Presence, without_sets};
@@ -20,6 +21,7 @@ use crate::sets::{OwnerSets, RecordSet};
 use dns_io::OutOfMemory;
 use dns_wire::Record;
 use std::alloc::Global;
+use std::cmp::Ordering;
 use std::collections::BTreeMap;
 use std::collections::btree_map::Entry;
 use std::mem::{replace, swap};
@@ -102,16 +104,37 @@ fn is_only_begun(names: &Tree, key: &[u8]) -> bool
     }
 }
 
-/// The same, of one name after another.
+/// The same, of one name after another: their keys ascend, so behind one that is behind all which would begin so there is none.
 fn is_begun_among(names: &Tree, key: &[u8]) -> bool
     ensures { result ≡ is_begun names.now.entries key.now }
 {
     for (next, sets) in names {
-        if begins(next, key) && sets.is_some() {
-            return true;
+        match standing(next, key) {
+            Ordering::Less => {}
+            Ordering::Equal => {
+                if sets.is_some() {
+                    return true;
+                }
+            }
+            Ordering::Greater => return false,
         }
     }
     false
+}
+
+/// How a key stands to those that begin with another: before them, among them, or behind them.
+fn standing(key: &[u8], front: &[u8]) -> Ordering
+    ensures { result ≡ standing key.now front.now }
+{
+    for place in 0..front.len() {
+        if place >= key.len() || key[place] < front[place] {
+            return Ordering::Less;
+        }
+        if key[place] > front[place] {
+            return Ordering::Greater;
+        }
+    }
+    Ordering::Equal
 }
 
 /// The same, of the names from the key on. The keys that begin with it follow it at once; only names whose last sets were taken by a

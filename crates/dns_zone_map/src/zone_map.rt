@@ -179,9 +179,7 @@ impl ZoneMap {
         ensures before { self.new.before ≡ self.old.before }
         ensures err { OnErr result (self.new ≡ self.old) }
     {
-        let _apart = self.names.tree_count();
         keep_former(alloc, &mut self.names, &mut self.undoing, b"")?;
-        let _still_apart = self.names.tree_count();
         self.names.set_serial_at(alloc, b"", serial);
         Ok(())
     }
@@ -272,9 +270,7 @@ impl ZoneMap {
         let mut room = [0u8; 255];
         let start = write_key(&self.origin, &one.name, &mut room);
         let key = behind(&room, start);
-        let _apart = self.names.tree_count();
         keep_former(alloc, &mut self.names, &mut self.undoing, key)?;
-        let _still_apart = self.names.tree_count();
         match self.names.put_under(alloc, key, self.next, one)? {
             Some(old) => Ok(Some(old)),
             None => {
@@ -301,9 +297,7 @@ impl ZoneMap {
         let mut room = [0u8; 255];
         let start = write_key(&self.origin, &one.name, &mut room);
         let key = behind(&room, start);
-        let _apart = self.names.tree_count();
         keep_former(alloc, &mut self.names, &mut self.undoing, key)?;
-        let _still_apart = self.names.tree_count();
         match self.names.put_beside(alloc, key, self.next, one)? {
             Beside::New => {
                 self.next += 1;
@@ -328,9 +322,7 @@ impl ZoneMap {
         let mut room = [0u8; 255];
         let start = write_key(&self.origin, name, &mut room);
         let key = behind(&room, start);
-        let _apart = self.names.tree_count();
         keep_former(alloc, &mut self.names, &mut self.undoing, key)?;
-        let _still_apart = self.names.tree_count();
         match self.names.take_from(key, rtype) {
             None => (),
             Some(set) => {
@@ -354,9 +346,7 @@ impl ZoneMap {
         let mut room = [0u8; 255];
         let start = write_key(&self.origin, name, &mut room);
         let key = behind(&room, start);
-        let _apart = self.names.tree_count();
         keep_former(alloc, &mut self.names, &mut self.undoing, key)?;
-        let _still_apart = self.names.tree_count();
         match self.names.clear_from(alloc, key) {
             None => (),
             Some(sets) => {
@@ -388,9 +378,7 @@ impl ZoneMap {
         let mut room = [0u8; 255];
         let start = write_key(&self.origin, &one.name, &mut room);
         let key = behind(&room, start);
-        let _apart = self.names.tree_count();
         keep_former(alloc, &mut self.names, &mut self.undoing, key)?;
-        let _still_apart = self.names.tree_count();
         match self.names.one_from(alloc, key, one) {
             None => Ok(None),
             Some(taken) => {
@@ -454,9 +442,7 @@ impl ZoneMap {
         ensures before { self.new.before ≡ self.old.before }
         ensures err { OnErr result (self.new ≡ self.old) }
     {
-        let _apart = self.names.tree_count();
         keep_former(alloc, &mut self.names, &mut self.undoing, b"")?;
-        let _still_apart = self.names.tree_count();
         match self.names.free_from(b"") {
             None => Ok(0),
             Some(gone) => {
@@ -490,7 +476,6 @@ impl ZoneMap {
         ensures sets { AreSetsOf self.now.records (drop labels_dropped key.now.name) (sets_or_none (option_copied result)) }
         ensures some { IfSome result (λ sets. 0 < length sets.now) }
     {
-        let _apart = self.names.tree_count();
         self.names.sets_at(key.above(labels_dropped))
     }
 
@@ -498,7 +483,6 @@ impl ZoneMap {
     pub fn top_sets(&self) -> Option<&OwnerSets>
         ensures { AreSetsOf self.now.records self.now.origin (sets_or_none (option_copied result)) }
     {
-        let _apart = self.names.tree_count();
         self.names.sets_at(b"")
     }
 

@@ -1,4 +1,4 @@
-use Rattle.std.proofs.Common.{◌<◌, ap, arith, rules}
+use Rattle.std.proofs.Common.{◌<◌, ap, arith}
 use Rattle.dns_zone_map.specs.Walk.{Way}
 use Rattle.dns_zone_map.proofs.Ways.{size_there, next_within, next_way, met}
 use Rattle.dns_zone_map.proofs.walk.Walk.down.Goals as goal
