@@ -192,6 +192,6 @@ completes keeper w s (with_answers text answers written) x = inl refl
 completes keeper w s (with_refusal some refuses written) x = inr (of_refusal w x s refuses.cause)
 completes keeper w s (with_rejection rejects written) x = absurd (none_rejected w x keeper rejects)
 completes keeper w s (with_write_fault rose cut) x = absurd (x.faultless.output rose)
-completes keeper w s (cut_for_memory still cut) x = inr refl
+completes keeper w s (cut_for_memory still cut wanted) x = inr refl
 completes keeper w s (refused_for_memory refuses unwritten) x = inr refl
 completes keeper w s (broken_for_memory breaks unwritten) x = inr refl

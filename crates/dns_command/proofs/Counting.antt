@@ -18,10 +18,10 @@ use Rattle.dns_command.specs.declared.command_line.Options.{Options}
 use Rattle.dns_command.specs.declared.command_line.Drawn.{Drawn}
 use Rattle.dns_words.specs.Writing.{IsUntouched}
 use Rattle.dns_command.specs.World.{World, IsStill, IsStillJournal}
-use Rattle.dns_command.specs.Steps.{Finds, FindsExample, FindsBy, FindsNot, unseen, no_zone, FindsNotBy, SeesNoRow, journal_unread, journal_without_memory, OpensNot, rows_refused, batches_refused, journal_failed, opening_without_memory, HearsBy, HearsNotBy, LoadsEvents, LoadsNoEvents, events_unread, events_too_long, event_faulty, events_without_memory}
+use Rattle.dns_command.specs.Steps.{Finds, FindsExample, FindsBy, FindsNot, unseen, no_zone, SeesNoRow, journal_unread, journal_without_memory, OpensNot, rows_refused, batches_refused, journal_failed, opening_without_memory, HearsBy, LoadsEvents, LoadsNoEvents, events_unread, events_too_long, event_faulty, events_without_memory}
 use Rattle.dns_command.specs.Steps.{ReadsNoZone, zone_unread, zone_too_long, zone_faulty, zone_without_memory, IsRefused, at_words, without_memory, at_finding, at_events, at_opening}
-use Rattle.dns_command.specs.Ends.{TookFront, Serves, Rejects, all, Refuses, IsCut, in_refusal, in_rejection, in_answers, Ends, with_answers, with_refusal, with_rejection, with_write_fault, cut_for_memory, refused_for_memory, broken_for_memory}
-use Rattle.dns_command.specs.Counts.{ComesOf, with_line, cut_by_fault, cut_for_memory as cut_for_want, CountsReading, CountsWriting, CountsJournal, FailsSome, Counts}
+use Rattle.dns_command.specs.Ends.{TookFront, Serves, Rejects, all, IsCut, IsWanted, IsCutWanted, in_refusal, in_rejection, in_answers, Ends, with_answers, with_refusal, with_rejection, with_write_fault, cut_for_memory, refused_for_memory, broken_for_memory}
+use Rattle.dns_command.specs.Counts.{ComesOf, with_line, cut_by_fault, cut_for_memory as cut_for_want, CountsReading, CountsJournal, FailsSome, Counts}
 use Rattle.dns_command.specs.CommandLine.{access_of}
 use Rattle.dns_command.specs.Status.{refusal_line}
 use Rattle.dns_command.specs.ServeEnds.{ListTells}
@@ -145,26 +145,27 @@ pub written_journal : (w : World) (Failed : Type 0) (s : Status) → Kept w.jour
 written_journal w Failed s (inl still) = inl still
 written_journal w Failed s (inr (rose, is)) = inr (inl (rose, subst (λ (x : Status). ComesOf w status.KeeperFault x) (sym is) with_line))
 
-pub journal_fault : (w : World) (Failed : Type 0) (s : Status) → TookFront w (refusal_line s) → Kept w.journal s → CountsJournal w Failed status.WriteFault
-journal_fault w Failed s took (inl still) = inl still
-journal_fault w Failed s took (inr (rose, is)) = inr (inl (rose, cut_by_fault (subst (λ (x : Status). TookFront w (refusal_line x)) is took)))
+pub journal_fault : (w : World) (Failed : Type 0) (s : Status) → TookFront w (refusal_line s) → Unit {0} → Kept w.journal s → CountsJournal w Failed status.WriteFault
+journal_fault w Failed s took any (inl still) = inl still
+journal_fault w Failed s took any (inr (rose, is)) = inr (inl (rose, cut_by_fault (subst (λ (x : Status). TookFront w (refusal_line x)) is took)))
 
-pub journal_want : (w : World) (Failed : Type 0) (s : Status) → TookFront w (refusal_line s) → Kept w.journal s → CountsJournal w Failed status.OutOfMemory
-journal_want w Failed s took (inl still) = inl still
-journal_want w Failed s took (inr (rose, is)) = inr (inl (rose, cut_for_want (subst (λ (x : Status). TookFront w (refusal_line x)) is took)))
+pub journal_want : (w : World) (Failed : Type 0) (s : Status) → TookFront w (refusal_line s) → IsWanted w s → Kept w.journal s → CountsJournal w Failed status.OutOfMemory
+journal_want w Failed s took wanted (inl still) = inl still
+journal_want w Failed s took wanted (inr (rose, is)) =
+    inr (inl (rose, cut_for_want (subst (λ (x : Status). TookFront w (refusal_line x)) is took) (subst (λ (x : Status). IsWanted w x) is wanted refl)))
 
 -- what a refusal counts, by how its line was written
 pub written : (w : World) (source : Around SourceTold) (s : Status) → Read source s → CountsReading w source s
 written w source s (inl still) = inl still
 written w source s (inr (rose, is)) = inr (rose, subst (λ (x : Status). ComesOf w status.ReadFault x) (sym is) with_line)
 
-pub cut_fault : (w : World) (source : Around SourceTold) (s : Status) → TookFront w (refusal_line s) → Read source s → CountsReading w source status.WriteFault
-cut_fault w source s took (inl still) = inl still
-cut_fault w source s took (inr (rose, is)) = inr (rose, cut_by_fault (subst (λ (x : Status). TookFront w (refusal_line x)) is took))
+pub cut_fault : (w : World) (source : Around SourceTold) (s : Status) → TookFront w (refusal_line s) → Unit {0} → Read source s → CountsReading w source status.WriteFault
+cut_fault w source s took any (inl still) = inl still
+cut_fault w source s took any (inr (rose, is)) = inr (rose, cut_by_fault (subst (λ (x : Status). TookFront w (refusal_line x)) is took))
 
-pub cut_want : (w : World) (source : Around SourceTold) (s : Status) → TookFront w (refusal_line s) → Read source s → CountsReading w source status.OutOfMemory
-cut_want w source s took (inl still) = inl still
-cut_want w source s took (inr (rose, is)) = inr (rose, cut_for_want (subst (λ (x : Status). TookFront w (refusal_line x)) is took))
+pub cut_want : (w : World) (source : Around SourceTold) (s : Status) → TookFront w (refusal_line s) → IsWanted w s → Read source s → CountsReading w source status.OutOfMemory
+cut_want w source s took wanted (inl still) = inl still
+cut_want w source s took wanted (inr (rose, is)) = inr (rose, cut_for_want (subst (λ (x : Status). TookFront w (refusal_line x)) is took) (subst (λ (x : Status). IsWanted w x) is wanted refl))
 
 module _ {K : Type 0} (keeper : KeeperOf K) (w : World) where
   begun_still : (options : Options) (opening : Opening) (events : List Event) (s : Status) → FindsBy w.journal w.zone options opening → HearsBy w.events options events → BothRead w.zone w.events s
@@ -187,24 +188,31 @@ module _ {K : Type 0} (keeper : KeeperOf K) (w : World) where
         | inr some ↦ inr (inr (record { picked = picked; events = events; outs = outs; last = last; served = served; some = some }))
       ]
 
-  cut_journal : (t : Status) → ((s : Status) → TookFront w (refusal_line s) → Kept w.journal s → CountsJournal w (FailsSome keeper w) t) → IsCut keeper w → CountsJournal w (FailsSome keeper w) t
-  cut_journal t by (in_refusal s some refuses took) = by s took (refused_journal w.words w.zone w.events w.journal w.moment s refuses.cause)
-  cut_journal t by (in_rejection rejects took) = inl (rejected_still rejects)
-  cut_journal t by (in_answers text answers took) = served_journal all answers.events answers.outs answers.last t answers.served
+  cut_journal : (t : Status) (Wanted : Status → Type 0) → ((s : Status) → TookFront w (refusal_line s) → Wanted s → Kept w.journal s → CountsJournal w (FailsSome keeper w) t)
+      → (cut : IsCut keeper w) → IsCutWanted keeper w Wanted cut → CountsJournal w (FailsSome keeper w) t
+  cut_journal t Wanted by (in_refusal s some refuses took) wanted = by s took wanted (refused_journal w.words w.zone w.events w.journal w.moment s refuses.cause)
+  cut_journal t Wanted by (in_rejection rejects took) wanted = inl (rejected_still rejects)
+  cut_journal t Wanted by (in_answers text answers took) wanted = served_journal all answers.events answers.outs answers.last t answers.served
 
-  cut_counts : (t : Status) → ((source : Around SourceTold) (s : Status) → TookFront w (refusal_line s) → Read source s → CountsReading w source t)
-      → IsCut keeper w → CountsReading w w.zone t × CountsReading w w.events t
-  cut_counts t by (in_refusal s some refuses took) =
+  cut_counts : (t : Status) (Wanted : Status → Type 0) → ((source : Around SourceTold) (s : Status) → TookFront w (refusal_line s) → Wanted s → Read source s → CountsReading w source t)
+      → (cut : IsCut keeper w) → IsCutWanted keeper w Wanted cut → CountsReading w w.zone t × CountsReading w w.events t
+  cut_counts t Wanted by (in_refusal s some refuses took) wanted =
       let reads = refused_reads w.words w.zone w.events w.journal w.moment s refuses.cause in
-      (by w.zone s took reads.zone, by w.events s took reads.events)
-  cut_counts t by (in_rejection rejects took) =
+      (by w.zone s took wanted reads.zone, by w.events s took wanted reads.events)
+  cut_counts t Wanted by (in_rejection rejects took) wanted =
       let reads = begun_still rejects.options rejects.begun.opening rejects.events status.NotValid rejects.begun.found rejects.begun.heard in
-      (by w.zone status.NotValid took reads.zone, by w.events status.NotValid took reads.events)
-  cut_counts t by (in_answers text answers took) =
+      (by w.zone status.NotValid took wanted reads.zone, by w.events status.NotValid took wanted reads.events)
+  cut_counts t Wanted by (in_answers text answers took) wanted =
       let begun = answers.served.begun in (
         inl (found_words w.journal w.zone answers.served.options begun.opening begun.found),
         inl (heard_words w.events answers.served.options answers.events begun.heard),
       )
+
+  -- a fault of the output may cut any line
+  any_wanted : (cut : IsCut keeper w) → IsCutWanted keeper w (λ (s : Status). Unit {0}) cut
+  any_wanted (in_refusal s some refuses took) = tt
+  any_wanted (in_rejection rejects took) = tt
+  any_wanted (in_answers text answers took) = tt
 
   pub counts_of : (s : Status) → Ends keeper w s → Counts keeper w s
   counts_of s (with_answers text answers took) =
@@ -232,11 +240,11 @@ module _ {K : Type 0} (keeper : KeeperOf K) (w : World) where
         journal = inl (rejected_still rejects);
       }
   counts_of s (with_write_fault rose cut) =
-      let counts = cut_counts status.WriteFault (cut_fault w) cut in
-      record { zone = counts.0; events = counts.1; output = inr (rose, refl); journal = cut_journal status.WriteFault (journal_fault w (FailsSome keeper w)) cut }
-  counts_of s (cut_for_memory still cut) =
-      let counts = cut_counts status.OutOfMemory (cut_want w) cut in
-      record { zone = counts.0; events = counts.1; output = inl still; journal = cut_journal status.OutOfMemory (journal_want w (FailsSome keeper w)) cut }
+      let counts = cut_counts status.WriteFault (λ (t : Status). Unit {0}) (cut_fault w) cut (any_wanted cut) in
+      record { zone = counts.0; events = counts.1; output = inr (rose, refl); journal = cut_journal status.WriteFault (λ (t : Status). Unit {0}) (journal_fault w (FailsSome keeper w)) cut (any_wanted cut) }
+  counts_of s (cut_for_memory still cut wanted) =
+      let counts = cut_counts status.OutOfMemory (IsWanted w) (cut_want w) cut wanted in
+      record { zone = counts.0; events = counts.1; output = inl still; journal = cut_journal status.OutOfMemory (IsWanted w) (journal_want w (FailsSome keeper w)) cut wanted }
   counts_of s (refused_for_memory refuses same) =
       let reads = refused_reads w.words w.zone w.events w.journal w.moment status.OutOfMemory refuses.cause in
       record {

@@ -1,5 +1,5 @@
 -- Workers that are taken on, and ports that are opened and handed back.
-use Rattle.std.proofs.Common.{◌≡◌, ◌⊎◌, ℕ, suc, ◌+◌, ◌≤◌, ◌<◌, List, [], ◌∷◌, ◌++◌, inl, inr, length, Option, Some, None, Result, Ok, Err, OnOk, refl, sym, ap, subst, ◌∙◌, append-nil, append_assoc, length-append, arith}
+use Rattle.std.proofs.Common.{◌≡◌, ◌⊎◌, ℕ, suc, ◌+◌, ◌≤◌, List, [], ◌∷◌, ◌++◌, inl, inr, length, Option, Some, None, Result, Ok, Err, OnOk, refl, sym, ap, subst, ◌∙◌, append-nil, append_assoc, length-append, arith}
 use Rattle.std.specs.List.{AllByRecursion}
 use Rattle.dns_io.specs.Told.{Rose, Keeps, Grows}
 use Rattle.dns_io.proofs.ToldContents.{Keeps-same, Keeps-more, Grows-more}
@@ -7,7 +7,6 @@ use Rattle.dns_edges.specs.Edges.{Around}
 use Rattle.dns_ports.specs.declared.hub.Opening.{Opening}
 use Rattle.dns_ports.specs.Ports.{UdpTold, TcpTold, HubTold, IsFreshSocket, IsFreshListener, ClosesSocket, ClosesListener}
 use Rattle.dns_ticket_lock.specs.declared.view.Terms.{Terms}
-use Rattle.dns_ticket_lock.specs.Rule.{fresh}
 use Rattle.dns_ticket_lock.specs.Passes.{BookSeen, PassSeen, AreNew}
 use Rattle.dns_server.specs.declared.worker.Worker.{Worker}
 use Rattle.dns_server.specs.Servers.{ServerSeen, TakesOn, Matches, MatchesOnce, RoseAt, their_ports}

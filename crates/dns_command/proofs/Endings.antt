@@ -39,7 +39,7 @@ use Rattle.dns_command.specs.Status.{refusal_line}
 use Rattle.dns_words.specs.Writing.{IsUntouched, IsWritten}
 use Rattle.dns_command.specs.World.{World}
 use Rattle.dns_command.specs.Steps.{Finds, FindsExample, FindsBy, LoadsEvents, SeesNoRow, journal_unread, journal_without_memory, OpensNot, rows_refused, batches_refused, journal_failed, opening_without_memory, at_opening}
-use Rattle.dns_command.specs.Ends.{IsOpened, CountsFailures, Begins, Serves, Rejects, Answers, Breaks, all, TookFront, Refuses, IsCut, in_refusal, in_rejection, in_answers}
+use Rattle.dns_command.specs.Ends.{IsOpened, CountsFailures, Begins, Serves, Rejects, Answers, Breaks, all, TookFront, Refuses, IsCut, IsWanted, IsCutWanted, in_refusal, in_rejection, in_answers}
 use Rattle.dns_command.specs.Ends.{Ends, with_answers, with_refusal, with_rejection, with_write_fault, cut_for_memory, refused_for_memory, broken_for_memory}
 use Rattle.dns_words.specs.Writing.{WritesWhole}
 use Rattle.dns_command.specs.Writing.{after_writing, EndsWriting, EndsRefusing, silent, by_line}
@@ -51,29 +51,34 @@ use Rattle.dns_command.proofs.Settled.{Run-told}
 
 -- a text was written, or was not written to its end
 whole : {K : Type 0} (keeper : KeeperOf K) (w : World) (text : List ℕ) (meant : Status) (result : Result (Unit {0}) IoFault)
-    → (IsWritten w.output text → Ends keeper w meant) → (TookFront w text → IsCut keeper w) → WritesWhole w.output text result → Ends keeper w (after_writing meant result)
-whole keeper w text meant (Ok done) good cut v = good (record { taken = v.written.ok; flushed = v.flushed; faults = v.written.cause.counts })
-whole keeper w text meant (Err Failed) good cut v = with_write_fault v.written.cause.counts (cut v.written.err)
-whole keeper w text meant (Err OutOfMemory) good cut v = cut_for_memory v.written.cause.counts (cut v.written.err)
+    → (IsWritten w.output text → Ends keeper w meant) → (cut : TookFront w text → IsCut keeper w)
+    → ((took : TookFront w text) → after_writing meant result ≡ status.OutOfMemory → IsCutWanted keeper w (IsWanted w) (cut took)) → WritesWhole w.output text result → Ends keeper w (after_writing meant result)
+whole keeper w text meant (Ok done) good cut wanted v = good (record { taken = v.written.ok; flushed = v.flushed; faults = v.written.cause.counts })
+whole keeper w text meant (Err Failed) good cut wanted v = with_write_fault v.written.cause.counts (cut v.written.err)
+whole keeper w text meant (Err OutOfMemory) good cut wanted v = cut_for_memory v.written.cause.counts (cut v.written.err) (wanted v.written.err refl)
 
 -- a refusal
-pub refused : {K : Type 0} (keeper : KeeperOf K) (w : World) (s t : Status) → Refuses w s → EndsRefusing w.output s t → Ends keeper w t
+pub refused : {K : Type 0} (keeper : KeeperOf K) (w : World) (s t : Status) → Refuses w s → EndsRefusing w.output w.wants s t → Ends keeper w t
 refused keeper w s t r (silent m is u) = subst (λ (x : Status). Ends keeper w x) (sym is) (refused_for_memory (subst (λ (x : Status). Refuses w x) m r) u)
-refused keeper w s t r (by_line ne e) = subst (λ (x : Status). Ends keeper w x) (sym e.status) (whole keeper w (refusal_line s) s e.result (with_refusal ne r) (in_refusal s ne r) e.written)
+refused keeper w s t r (by_line ne e wanted) =
+    subst (λ (x : Status). Ends keeper w x) (sym e.status)
+    (whole keeper w (refusal_line s) s e.result (with_refusal ne r) (in_refusal s ne r) (λ took out fault. wanted fault (e.status ∙ out)) e.written)
 
 -- want of memory among the messages
-pub broken : {K : Type 0} (keeper : KeeperOf K) (w : World) (t : Status) → Breaks keeper w → EndsRefusing w.output status.OutOfMemory t → Ends keeper w t
+pub broken : {K : Type 0} (keeper : KeeperOf K) (w : World) (t : Status) → Breaks keeper w → EndsRefusing w.output w.wants status.OutOfMemory t → Ends keeper w t
 broken keeper w t b (silent m is u) = subst (λ (x : Status). Ends keeper w x) (sym is) (broken_for_memory b u)
-broken keeper w t b (by_line ne e) = absurd (ne refl)
+broken keeper w t b (by_line ne e wanted) = absurd (ne refl)
 
 -- a list that is not valid
-pub rejected : {K : Type 0} (keeper : KeeperOf K) (w : World) (t : Status) → Rejects keeper w → EndsRefusing w.output status.NotValid t → Ends keeper w t
+pub rejected : {K : Type 0} (keeper : KeeperOf K) (w : World) (t : Status) → Rejects keeper w → EndsRefusing w.output w.wants status.NotValid t → Ends keeper w t
 rejected keeper w t a (silent m is u) = absurd cc
-rejected keeper w t a (by_line ne e) = subst (λ (x : Status). Ends keeper w x) (sym e.status) (whole keeper w (refusal_line status.NotValid) status.NotValid e.result (with_rejection a) (in_rejection a) e.written)
+rejected keeper w t a (by_line ne e wanted) =
+    subst (λ (x : Status). Ends keeper w x) (sym e.status)
+    (whole keeper w (refusal_line status.NotValid) status.NotValid e.result (with_rejection a) (in_rejection a) (λ took out fault. wanted fault (e.status ∙ out)) e.written)
 
 -- all replies
 pub answered : {K : Type 0} (keeper : KeeperOf K) (w : World) (text : List ℕ) (t : Status) → Answers keeper w text → EndsWriting w.output text status.Ok t → Ends keeper w t
-answered keeper w text t a e = subst (λ (x : Status). Ends keeper w x) (sym e.status) (whole keeper w text status.Ok e.result (with_answers text a) (in_answers text a) e.written)
+answered keeper w text t a e = subst (λ (x : Status). Ends keeper w x) (sym e.status) (whole keeper w text status.Ok e.result (with_answers text a) (in_answers text a) (λ took out. tt) e.written)
 
 -- ---- the journal
 
@@ -162,9 +167,9 @@ IsOpened-still keeper m options moment Recover first o = o.store.uncounted
 
 -- ---- what was prepared, and then served
 
-module _ {K : Type 0} (keeper : KeeperOf K) (words : List (List ℕ)) (z e : Around SourceTold) (out : Around SinkTold) (b : KeeperTold) (moment : ℕ) (inputs : Inputs) (held left : K) (p : Prepares words z e (journal_of b (keeper.told held)) inputs) (k : Keeps b.rows (keeper.told held).rows) (kb : KeepsBatches b (keeper.told held)) (same : (keeper.told held).faults ≡ b.faults) where
+module _ {K : Type 0} (keeper : KeeperOf K) (words : List (List ℕ)) (z e : Around SourceTold) (out : Around SinkTold) (wants : List ℕ → Type 0) (b : KeeperTold) (moment : ℕ) (inputs : Inputs) (held left : K) (p : Prepares words z e (journal_of b (keeper.told held)) inputs) (k : Keeps b.rows (keeper.told held).rows) (kb : KeepsBatches b (keeper.told held)) (same : (keeper.told held).faults ≡ b.faults) where
   abbrev world : World
-  world = record { words = words; zone = z; events = e; journal = journal_of b (keeper.told left); output = out; moment = Some moment }
+  world = record { words = words; zone = z; events = e; journal = journal_of b (keeper.told left); output = out; wants = wants; moment = Some moment }
 
   -- a journal was opened
   begins : (first : SeenOf K) → OpensBook keeper held inputs.options inputs.opening moment first → NeverBegins (keeper.told first.keeper).rows (keeper.told left).rows → Begins keeper world inputs.options inputs.events.items first
@@ -210,7 +215,7 @@ module _ {K : Type 0} (keeper : KeeperOf K) (words : List (List ℕ)) (z e : Aro
   }
 
   -- not every message was settled on it
-  partly : (first : SeenOf K) (s t : Status) → OpensBook keeper held inputs.options inputs.opening moment first → SettlesPart keeper (access_of inputs.options) first inputs.events.items s left → EndsRefusing out s t → Ends keeper world t
+  partly : (first : SeenOf K) (s t : Status) → OpensBook keeper held inputs.options inputs.opening moment first → SettlesPart keeper (access_of inputs.options) first inputs.events.items s left → EndsRefusing out wants s t → Ends keeper world t
   partly first s t o (of_invalid invalid is) r =
       rejected keeper world t (record {
         options = inputs.options;
@@ -233,7 +238,7 @@ module _ {K : Type 0} (keeper : KeeperOf K) (words : List (List ℕ)) (z e : Aro
       }) r
 
   -- the journal was not opened
-  unopened_refused : (s t : Status) → OpensNot (journal_of (keeper.told held) (keeper.told left)) inputs.options.origin inputs.opening s → Keeps (keeper.told held).rows (keeper.told left).rows → EndsRefusing out s t → Ends keeper world t
+  unopened_refused : (s t : Status) → OpensNot (journal_of (keeper.told held) (keeper.told left)) inputs.options.origin inputs.opening s → Keeps (keeper.told held).rows (keeper.told left).rows → EndsRefusing out wants s t → Ends keeper world t
   unopened_refused s t n keeps r = refused keeper world s t (record {
     cause = at_opening inputs.options inputs.opening inputs.events.items p.legal
         (FindsBy-on b (keeper.told held) (keeper.told left) z inputs.options inputs.opening p.found (NeverBegins-told _ (keeper.told held).rows (keeper.told left).rows keeps)) p.heard
@@ -242,6 +247,6 @@ module _ {K : Type 0} (keeper : KeeperOf K) (words : List (List ℕ)) (z e : Aro
   }) r
 
   -- the journal was not opened, or not every message was settled
-  pub unsettled : (s t : Status) → SettlesNot keeper held inputs moment s left → EndsRefusing out s t → Ends keeper world t
+  pub unsettled : (s t : Status) → SettlesNot keeper held inputs moment s left → EndsRefusing out wants s t → Ends keeper world t
   unsettled s t (not_opened n keeps) r = unopened_refused s t n keeps r
   unsettled s t (not_settled first begun part) r = partly first s t begun part r

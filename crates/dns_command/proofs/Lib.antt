@@ -13,3 +13,4 @@ mod Crews
 mod Served
 pub mod ServeEndings
 pub mod RunEndings
+pub mod RefusalLines

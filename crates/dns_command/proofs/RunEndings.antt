@@ -1,5 +1,5 @@
 -- How the top call ends: by `serve`, or by a list of events.
-use Rattle.std.proofs.Common.{◌≡◌, ℕ, List, Option, Some, None, IfSome, ◌⊎◌, inl, inr, refl, sym, ap}
+use Rattle.std.proofs.Common.{◌≡◌, Option, Some, None, IfSome, ◌⊎◌, inl, inr, refl, ap}
 use Rattle.dns_edges.specs.Edges.{Around}
 use Rattle.dns_ports.specs.Ports.{HubTold}
 use Rattle.dns_command.specs.declared.status.Status.{Status}
@@ -10,7 +10,7 @@ use Rattle.dns_command.specs.Hubs.{Meanings}
 use Rattle.dns_words.specs.Writing.{IsUntouched}
 use Rattle.dns_command.specs.World.{World}
 use Rattle.dns_command.specs.Serving.{without_memory, unserved}
-use Rattle.dns_command.specs.ServeEnds.{ServeEnds, refused_for_memory, RunEnds, by_serving, by_list, RunCompletes, RunTells, ListTells}
+use Rattle.dns_command.specs.ServeEnds.{ServeEnds, refused_for_memory, by_serving, by_list, RunTells, ListTells}
 use Rattle.dns_command.specs.Counts.{CountsJournal, FailsSome, FailsServing}
 use Rattle.dns_command.proofs.ServeEndings.{completes_serving, counts_serving}
 

@@ -1,5 +1,5 @@
 -- How `serve` ends, by what its parts did.
-use Rattle.std.proofs.Common.{◌≡◌, ◌⊎◌, ℕ, suc, ◌+◌, List, [], ◌∷◌, ◌++◌, Option, Some, None, Result, Ok, Err, inl, inr, refl, sym, ap, subst, ◌∙◌, arith}
+use Rattle.std.proofs.Common.{◌≡◌, ◌⊎◌, ℕ, suc, ◌+◌, List, [], ◌∷◌, ◌++◌, true, Some, Result, Ok, Err, inl, inr, refl, sym, ap, subst, ◌∙◌, arith}
 use Rattle.std.proofs.lemmas.Option.{same_Some}
 use Rattle.dns_edges.specs.Edges.{Around, SourceTold, SinkTold}
 use Rattle.dns_ports.specs.Ports.{HubTold, IsFreshSocket, IsFreshListener}
@@ -17,9 +17,9 @@ use Rattle.dns_command.specs.declared.opening.Opening.{Opening}
 use Rattle.dns_command.specs.declared.listening_words.Service.{Service}
 use Rattle.dns_command.specs.ListeningWords.{service_of}
 use Rattle.dns_command.specs.CommandLine.{access_of}
-use Rattle.dns_command.specs.Status.{refusal_line}
+use Rattle.dns_command.specs.Status.{refusal_line, is_fault}
 use Rattle.dns_command.specs.Lines.{serve_lines}
-use Rattle.dns_command.specs.Hubs.{Meanings, TakesFaulty}
+use Rattle.dns_command.specs.Hubs.{Meanings}
 use Rattle.dns_words.specs.Writing.{IsUntouched, IsWritten}
 use Rattle.dns_command.specs.World.{World, IsStill, IsStillJournal}
 use Rattle.dns_command.specs.Steps.{Finds, OpensNot}
@@ -41,7 +41,7 @@ use Rattle.dns_command.specs.declared.listening_words.Listening.{Listening}
 use Rattle.dns_command.specs.Serving.{Crew, passes_of, IsNewWorker, IsNewSocket, IsNewListener, IsNewCrew, Works, WorksToItsEnd, SharesPasses, ClosedForAll}
 use Rattle.dns_command.specs.Serving.{failed_updates, failed_so_far, IsPortCause, MayBeRead, opening_journal, BeginsServing, Serves, StopsServing, IsUnserved, without_memory, at_finding, at_opening, at_sharing, RefusesServing, unserved, stopped}
 use Rattle.dns_command.specs.ServingParts.{ServesBook, ServesNot, unshared, closed, ServesNone, not_opened, not_served}
-use Rattle.dns_command.specs.ServeEnds.{IsCutOf, IsCutServing, in_refusal, in_closing, ServeEnds, ServingEnds, with_closing, with_refusal, with_write_fault, cut_for_memory, refused_for_memory, IsSoundServing}
+use Rattle.dns_command.specs.ServeEnds.{IsCutOf, IsCutOfWanted, IsCutServing, in_refusal, in_closing, ServeEnds, ServingEnds, with_closing, with_refusal, with_write_fault, cut_for_memory, refused_for_memory, IsSoundServing}
 use Rattle.dns_command.specs.Counts.{ComesOf, with_line, cut_by_fault, cut_for_memory as cut_for_want, CountsWriting, HasServed, TakesSomeFaulty, FailsServing, in_serving, in_stopping, RunCounts}
 use Rattle.dns_command.proofs.Completing.{of_finding, of_opening}
 use Rattle.dns_command.proofs.Counting.{Kept, untouched, unwritten, of_found, of_unfound, of_unfound_journal, of_unopened}
@@ -55,19 +55,34 @@ module _ (w : World) (IsServed : List ℕ → Type 0) (IsRefused : Status → Ty
 
   -- a text was written, or was not written to its end
   whole : (text : List ℕ) (meant : Status) (result : Result (Unit {0}) IoFault)
-      → (IsWritten w.output text → Told meant) → (TookFront w text → IsCutOf w IsServed IsRefused) → WritesWhole w.output text result → Told (after_writing meant result)
-  whole text meant (Ok done) good cut v = good (record { taken = v.written.ok; flushed = v.flushed; faults = v.written.cause.counts })
-  whole text meant (Err Failed) good cut v = with_write_fault v.written.cause.counts (cut v.written.err)
-  whole text meant (Err OutOfMemory) good cut v = cut_for_memory v.written.cause.counts (cut v.written.err)
+      → (IsWritten w.output text → Told meant) → (cut : TookFront w text → IsCutOf w IsServed IsRefused)
+      → ((took : TookFront w text) → after_writing meant result ≡ status.OutOfMemory → IsCutOfWanted w IsServed IsRefused (cut took)) → WritesWhole w.output text result → Told (after_writing meant result)
+  whole text meant (Ok done) good cut wanted v = good (record { taken = v.written.ok; flushed = v.flushed; faults = v.written.cause.counts })
+  whole text meant (Err Failed) good cut wanted v = with_write_fault v.written.cause.counts (cut v.written.err)
+  whole text meant (Err OutOfMemory) good cut wanted v = cut_for_memory v.written.cause.counts (cut v.written.err) (wanted v.written.err refl)
 
   -- a refusal
-  pub refused : (s t : Status) → IsRefused s → EndsRefusing w.output s t → Told t
+  pub refused : (s t : Status) → IsRefused s → EndsRefusing w.output w.wants s t → Told t
   refused s t r (silent m is u) = subst (λ (x : Status). Told x) (sym is) (refused_for_memory (subst (λ (x : Status). IsRefused x) m r) u)
-  refused s t r (by_line ne e) = subst (λ (x : Status). Told x) (sym e.status) (whole (refusal_line s) s e.result (with_refusal ne r) (in_refusal s ne r) e.written)
+  refused s t r (by_line ne e wanted) =
+      subst (λ (x : Status). Told x) (sym e.status) (whole (refusal_line s) s e.result (with_refusal ne r) (in_refusal s ne r) (λ took out fault. wanted fault (e.status ∙ out)) e.written)
+
+  -- by what a fault gives way to a status where a line was cut
+  abbrev pub GivesWay : Status → IsCutOf w IsServed IsRefused → Type 0
+  GivesWay t (in_refusal s some refuses took) = is_fault s ≡ true → ComesOf w s t
+  GivesWay t (in_closing text serves took) = Unit {0}
+
+  pub gives_way_by_fault : (cut : IsCutOf w IsServed IsRefused) → GivesWay status.WriteFault cut
+  gives_way_by_fault (in_refusal s some refuses took) = λ fault. cut_by_fault took
+  gives_way_by_fault (in_closing text serves took) = tt
+
+  pub gives_way_by_want : (cut : IsCutOf w IsServed IsRefused) → IsCutOfWanted w IsServed IsRefused cut → GivesWay status.OutOfMemory cut
+  gives_way_by_want (in_refusal s some refuses took) wanted = λ fault. cut_for_want took (wanted fault)
+  gives_way_by_want (in_closing text serves took) wanted = tt
 
   -- the closing lines
   pub closing : (text : List ℕ) (t : Status) → IsServed text → EndsWriting w.output text status.Ok t → Told t
-  closing text t a e = subst (λ (x : Status). Told x) (sym e.status) (whole text status.Ok e.result (with_closing text a) (in_closing text a) e.written)
+  closing text t a e = subst (λ (x : Status). Told x) (sym e.status) (whole text status.Ok e.result (with_closing text a) (in_closing text a) (λ took out. tt) e.written)
 
 module _ {K U T R W C : Type 0} (m : Meanings K U T R W C) (w : World) (hub : Around (HubTold U T)) where
   abbrev Ending : Status → Type 0
@@ -109,7 +124,7 @@ module _ {K U T R W C : Type 0} (m : Meanings K U T R W C) (w : World) (hub : Ar
   completes_serving s (with_closing text serves written) x = inl refl
   completes_serving s (with_refusal some refuses written) x = inr (of_refusal x s refuses)
   completes_serving s (with_write_fault rose cut) x = absurd (x.faultless.output rose)
-  completes_serving s (cut_for_memory still cut) x = inr refl
+  completes_serving s (cut_for_memory still cut wanted) x = inr refl
   completes_serving s (refused_for_memory refuses unwritten) x = inr refl
 
   -- ---- which counts of faults rose
@@ -177,7 +192,7 @@ module _ {K U T R W C : Type 0} (m : Meanings K U T R W C) (w : World) (hub : Ar
     where
       of_read : (service : Service) → service_of w.words ≡ Some service → MayBeRead w.events hub service.listening → IsStill w.events ⊎ HasServed w hub
       of_read service legal (inl same) = inl (untouched w.events same)
-      of_read service legal (inr opened) = inr (record { service = service; legal = legal; opened = opened })
+      of_read service legal (inr read) = inr (record { service = service; legal = legal; opened = read.0 })
 
   refusing_so_far : (s : Status) → Refusing s → SoFar s
   refusing_so_far s (unserved u same still) = record {
@@ -202,24 +217,24 @@ module _ {K U T R W C : Type 0} (m : Meanings K U T R W C) (w : World) (hub : Ar
   }
 
   -- the same of a status that was told, or behind a line that was cut
-  counts_so_far : (s t : Status) → (ComesOf w s s → ComesOf w s t) → SoFar s → CountsWriting w t → RunCounts m w hub t
+  counts_so_far : (s t : Status) → (is_fault s ≡ true → ComesOf w s t) → SoFar s → CountsWriting w t → RunCounts m w hub t
   counts_so_far s t comes so output = record {
-    zone = elim so.zone [ inl still ↦ inl still | inr p ↦ inr (p.0, subst (λ (x : Status). ComesOf w x t) p.1 (comes with_line)) ];
+    zone = elim so.zone [ inl still ↦ inl still | inr p ↦ inr (p.0, subst (λ (x : Status). ComesOf w x t) p.1 (comes (ap is_fault p.1))) ];
     events = elim so.events [ inl still ↦ inl (inl still) | inr served ↦ inr served ];
     output = output;
     ports = elim so.ports [
       | inl calm ↦ inl calm
-      | inr more ↦ inr (elim more [ inl p ↦ inl (p.0, subst (λ (x : Status). ComesOf w x t) p.1 (comes with_line)) | inr taken ↦ inr taken ])
+      | inr more ↦ inr (elim more [ inl p ↦ inl (p.0, subst (λ (x : Status). ComesOf w x t) p.1 (comes (ap is_fault p.1))) | inr taken ↦ inr taken ])
     ];
     journal = elim so.journal [
       | inl still ↦ inl still
-      | inr more ↦ inr (elim more [ inl p ↦ inl (p.0, subst (λ (x : Status). ComesOf w x t) p.1 (comes with_line)) | inr fails ↦ inr (inr fails) ])
+      | inr more ↦ inr (elim more [ inl p ↦ inl (p.0, subst (λ (x : Status). ComesOf w x t) p.1 (comes (ap is_fault p.1))) | inr fails ↦ inr (inr fails) ])
     ];
   }
 
-  cut_counts : (t : Status) → ((s : Status) → TookFront w (refusal_line s) → ComesOf w s t) → CountsWriting w t → IsCutServing m w hub → RunCounts m w hub t
-  cut_counts t by output (in_refusal s some refuses took) = counts_so_far s t (λ c. by s took) (refusing_so_far s refuses) output
-  cut_counts t by output (in_closing text a took) = counts_closed t (served_so_far text a) output
+  cut_counts : (t : Status) → CountsWriting w t → (cut : IsCutServing m w hub) → GivesWay w (Serves m w hub) (RefusesServing m w hub) t cut → RunCounts m w hub t
+  cut_counts t output (in_refusal s some refuses took) by = counts_so_far s t by (refusing_so_far s refuses) output
+  cut_counts t output (in_closing text a took) by = counts_closed t (served_so_far text a) output
     where
       counts_closed : (t : Status) → SoFar status.Ok → CountsWriting w t → RunCounts m w hub t
       counts_closed t so output = record {
@@ -231,11 +246,11 @@ module _ {K U T R W C : Type 0} (m : Meanings K U T R W C) (w : World) (hub : Ar
       }
 
   pub counts_serving : (s : Status) → Ending s → RunCounts m w hub s
-  counts_serving s (with_closing text a took) = counts_so_far status.Ok status.Ok (λ c. c) (served_so_far text a) (inl took.faults)
-  counts_serving s (with_refusal some refuses took) = counts_so_far s s (λ c. c) (refusing_so_far s refuses) (inl took.faults)
-  counts_serving s (with_write_fault rose cut) = cut_counts status.WriteFault (λ t took. cut_by_fault took) (inr (rose, refl)) cut
-  counts_serving s (cut_for_memory still cut) = cut_counts status.OutOfMemory (λ t took. cut_for_want took) (inl still) cut
-  counts_serving s (refused_for_memory refuses same) = counts_so_far status.OutOfMemory status.OutOfMemory (λ c. c) (refusing_so_far status.OutOfMemory refuses) (inl (unwritten w same))
+  counts_serving s (with_closing text a took) = counts_so_far status.Ok status.Ok (λ fault. with_line) (served_so_far text a) (inl took.faults)
+  counts_serving s (with_refusal some refuses took) = counts_so_far s s (λ fault. with_line) (refusing_so_far s refuses) (inl took.faults)
+  counts_serving s (with_write_fault rose cut) = cut_counts status.WriteFault (inr (rose, refl)) cut (gives_way_by_fault w (Serves m w hub) (RefusesServing m w hub) cut)
+  counts_serving s (cut_for_memory still cut wanted) = cut_counts status.OutOfMemory (inl still) cut (gives_way_by_want w (Serves m w hub) (RefusesServing m w hub) cut wanted)
+  counts_serving s (refused_for_memory refuses same) = counts_so_far status.OutOfMemory status.OutOfMemory (λ fault. with_line) (refusing_so_far status.OutOfMemory refuses) (inl (unwritten w same))
 
 -- ---- what was opened, and then served
 
@@ -284,11 +299,11 @@ module _ {K U T R W C : Type 0} (m : Meanings K U T R W C) (t : Terms) (access :
       still_failed_updates m.keeper access m.socket m.listener before.sockets after.sockets worked.sockets before.listeners after.listeners worked.listeners t last [] at_end.closed
       refl (new_total t 0 (λ port. IsFreshSocket (m.socket port)) before.sockets new.new_sockets) (new_total t listening.limit (λ port. IsFreshListener (m.listener.told port)) before.listeners new.new_listeners) none
 
-module _ {K U T R W C : Type 0} (m : Meanings K U T R W C) (words : List (List ℕ)) (z e : Around SourceTold) (out : Around SinkTold) (hub : Around (HubTold U T))
+module _ {K U T R W C : Type 0} (m : Meanings K U T R W C) (words : List (List ℕ)) (z e : Around SourceTold) (out : Around SinkTold) (wants : List ℕ → Type 0) (hub : Around (HubTold U T))
     (b : KeeperTold) (moment : ℕ) (service : Service) (legal : service_of words ≡ Some service) (held left : K) (k : Keeps b.rows (m.keeper.told held).rows) (kb : KeepsBatches b (m.keeper.told held)) (same : (m.keeper.told held).faults ≡ b.faults)
     (opening : Opening) (found : Finds (journal_of b (m.keeper.told held)) z service.options.origin opening) where
   abbrev world : World
-  world = record { words = words; zone = z; events = e; journal = journal_of b (m.keeper.told left); output = out; moment = Some moment }
+  world = record { words = words; zone = z; events = e; journal = journal_of b (m.keeper.told left); output = out; wants = wants; moment = Some moment }
 
   -- a journal was opened
   begins : (first : SeenOf K) → OpensBook m.keeper held service.options opening moment first → BeginsServing m.keeper world service first

@@ -1,13 +1,10 @@
 -- What serving comes to, by what its parts did.
-use Rattle.std.proofs.Common.{◌≡◌, ◌⊎◌, ℕ, suc, ◌+◌, ◌≤◌, ◌<◌, List, [], ◌∷◌, ◌++◌, inl, inr, length, Option, Some, None, refl, sym, ap, subst, ◌∙◌, append-nil, append_assoc, arith}
+use Rattle.std.proofs.Common.{◌≡◌, ◌⊎◌, ℕ, ◌+◌, List, [], ◌∷◌, ◌++◌, inl, inr, length, refl, sym, ap, subst, ◌∙◌, append-nil, append_assoc, arith}
 use Rattle.std.specs.List.{AllByRecursion}
-use Rattle.dns_io.specs.Told.{Rose, Grows}
-use Rattle.dns_io.proofs.ToldContents.{Keeps-more, Grows-more, Grows-Keeps, Keeps-Grows}
+use Rattle.dns_io.proofs.ToldContents.{Grows-Keeps, Keeps-Grows}
 use Rattle.dns_edges.specs.Edges.{Around, SourceTold}
-use Rattle.dns_keeper.specs.declared.row.Row.{Row}
 use Rattle.dns_book.specs.Access.{Access}
 use Rattle.dns_book.specs.Book.{SeenOf}
-use Rattle.dns_ports.specs.declared.hub.Opening.{Opening}
 use Rattle.dns_ports.specs.Ports.{UdpTold, TcpTold, HubTold, IsFreshSocket, IsFreshListener}
 use Rattle.dns_ticket_lock.specs.declared.view.Terms.{Terms}
 use Rattle.dns_ticket_lock.specs.Naming.{terms_at}
@@ -20,9 +17,8 @@ use Rattle.dns_command.specs.declared.listening_words.Listening.{Listening}
 use Rattle.dns_command.specs.declared.listening_words.Service.{Service}
 use Rattle.dns_command.specs.CommandLine.{access_of}
 use Rattle.dns_command.specs.ListeningWords.{sockets_of, listeners_of, seats_of}
-use Rattle.dns_words.specs.Writing.{IsUntouched}
 use Rattle.dns_command.specs.Hubs.{Meanings, HasAllBack, TakesFaulty}
-use Rattle.dns_command.specs.Serving.{IsPortCause, IsNewWorker, IsNewCrew, Crew, passes_of, openings_of, ServesSocket, ServesListener, Works, WorksToItsEnd, ServesPorts, SharesPasses, ClosedForAll, MayBeRead}
+use Rattle.dns_command.specs.Serving.{IsPortCause, IsNewWorker, Crew, passes_of, openings_of, ServesSocket, ServesListener, Works, ServesPorts, SharesPasses, ClosedForAll, MayBeRead}
 use Rattle.dns_command.specs.ServingParts.{IsManned, IsSameServer, Registers, OpensAll, HasFaultyPort, HasCrew, IsOpenCause, IsCauseSoFar, TakesBack, crew_of, emptied, ServesWell, ServesBook, LeavesBook}
 use Rattle.dns_command.proofs.Crews.{matches_length, fault_found, over, EndsWith-kept, EndsWith-then}
 
@@ -234,7 +230,7 @@ module _ {K U T R W C : Type 0} (m : Meanings K U T R W C) (a b c : HubTold U T)
   -- the ports of the words are opened still
   may_be_read : MayBeRead until (over a b) service.listening → MayBeRead until (over a c) service.listening
   may_be_read (inl same) = inl same
-  may_be_read (inr opened) = inr (Grows-Keeps a.openings b.openings c.openings (openings_of service.listening) opened back.opened)
+  may_be_read (inr read) = inr (Grows-Keeps a.openings b.openings c.openings (openings_of service.listening) read.0 back.opened, read.1, read.2)
 
   pub leaves_book : (s : Status) → HasCrew m service.listening.limit s0 s2 → MayBeRead until (over a b) service.listening
       → IsCauseSoFar a.faults b.faults (HasFaultyPort m.socket m.listener.told s2) s → LeavesBook m (over a c) until service first s last

@@ -1,5 +1,5 @@
 -- What came of reading a text to its end.
-use Rattle.std.proofs.Common.{◌≡◌, ◌⊎◌, ℕ, List, Result, Ok, Err, inl, inr, refl}
+use Rattle.std.proofs.Common.{◌≡◌, ◌⊎◌, ℕ, List, Ok, Err, inl, inr, refl}
 use Rattle.std.specs.Result.{IsErrOf}
 use Rattle.dns_edges.specs.Edges.{Around, SourceTold}
 use Rattle.dns_io.specs.Told.{Rose, WasLonger}

@@ -3,7 +3,6 @@ use Rattle.std.proofs.Common.{◌≡◌, ◌≢◌, ℕ, ℤ, ◌≤◌, List, [
 use Rattle.dns_io.specs.Told.{Told, NeverBegins, Rose, Keeps}
 use Rattle.dns_io.proofs.ToldContents.{Told-same, Told-more}
 use Rattle.dns_name.specs.Name.{fold_of}
-use Rattle.dns_wire.specs.declared.record.Record.{Record}
 use Rattle.dns_keeper.specs.declared.row.Row.{Row}
 use Rattle.dns_keeper.specs.Rows.{first_of}
 use Rattle.dns_keeper.specs.Keeping.{IsFirstRow}

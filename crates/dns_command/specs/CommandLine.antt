@@ -1,7 +1,7 @@
 -- The words of the command line.
-use Rattle.std.specs.Prelude.{ℕ, ◌^◌, ◌==◌, List, [], ◌∷◌, Option, Some, None, is_some, Bool, true, false, nat_lt, nat_le, length, drop, count_by, ◌&&◌, ◌||◌, if◌then◌else◌, Result, Ok, Err, codes}
+use Rattle.std.specs.Prelude.{ℕ, ◌^◌, ◌==◌, List, [], ◌∷◌, Option, Some, None, is_some, Bool, true, nat_le, drop, count_by, ◌&&◌, ◌||◌, if◌then◌else◌, Result, Ok, Err, codes}
 use Rattle.std.specs.List.{list_all, list_any, filter_map}
-use Rattle.std.specs.Option.{option_map, option_map_or, option_and_then}
+use Rattle.std.specs.Option.{option_map, option_and_then}
 use Rattle.std.specs.Str.{bytes_eq}
 use Rattle.dns_name.specs.declared.fault.ProtoError.{ProtoError}
 use Rattle.dns_name.specs.Name.{fold_of}

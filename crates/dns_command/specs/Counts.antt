@@ -22,11 +22,11 @@ use Rattle.dns_command.specs.Ends.{TookFront, Serves}
 use Rattle.dns_command.specs.Serving.{openings_of, failed_updates, failed_so_far, StopsServing}
 use Rattle.dns_command.specs.Serving as serving
 
--- it ended with the status of a refusal; or the line of that refusal was cut, for a fault of the output or for want of memory
+-- it ended with the status of a refusal; or the line of that refusal was cut, for a fault of the output, or since the output wanted memory for it
 pub data ComesOf (w : World) (cause : Status) : Status → Type 0 where
   with_line : ComesOf w cause cause
   cut_by_fault : TookFront w (refusal_line cause) → ComesOf w cause status.WriteFault
-  cut_for_memory : TookFront w (refusal_line cause) → ComesOf w cause status.OutOfMemory
+  cut_for_memory : TookFront w (refusal_line cause) → w.wants (refusal_line cause) → ComesOf w cause status.OutOfMemory
 
 -- the count of a source stood still, or it is told that it could not be read
 abbrev pub CountsReading : World → Around SourceTold → Status → Type 0

@@ -1,5 +1,5 @@
 -- What the program does: the replies owed, and no other bytes.
-use Rattle.std.specs.Prelude.{◌≡◌, ◌≢◌, ℕ, List, length, take, Some, None}
+use Rattle.std.specs.Prelude.{◌≡◌, ◌≢◌, ℕ, List, length, take, true, Some, None}
 use Rattle.dns_keeper.specs.Keeping.{KeeperTold, KeeperOf}
 use Rattle.dns_io.specs.Told.{Keeps, Rose, GrowsByPrefix}
 use Rattle.dns_zone_map.specs.Zone.{serial_of}
@@ -18,7 +18,7 @@ use Rattle.dns_command.specs.declared.opening.Opening.TheVariants.{Begin, Recove
 use Rattle.dns_command.specs.declared.command_line.Options.{Options}
 use Rattle.dns_command.specs.CommandLine.{options_of, access_of}
 use Rattle.dns_command.specs.Lines.{lines_by}
-use Rattle.dns_command.specs.Status.{refusal_line}
+use Rattle.dns_command.specs.Status.{refusal_line, is_fault}
 use Rattle.dns_words.specs.Writing.{IsUntouched, IsWritten}
 use Rattle.dns_command.specs.World.{World}
 use Rattle.dns_command.specs.Steps.{FindsBy, HearsBy, IsRefused}
@@ -113,13 +113,24 @@ pub data IsCut {K : Type 0} (keeper : KeeperOf K) (w : World) : Type 0 where
   in_rejection : Rejects keeper w → TookFront w (refusal_line status.NotValid) → IsCut keeper w
   in_answers : (text : List ℕ) → Answers keeper w text → TookFront w text → IsCut keeper w
 
+-- where the refusal tells of a fault, the output wanted memory for its line
+abbrev pub IsWanted : World → Status → Type 0
+IsWanted w s = is_fault s ≡ true → w.wants (refusal_line s)
+
+-- so it is where a line was cut
+abbrev pub IsCutWanted : {K : Type 0} (keeper : KeeperOf K) (w : World) → (Status → Type 0) → IsCut keeper w → Type 0
+IsCutWanted keeper w Wanted (in_refusal s some refuses took) = Wanted s
+IsCutWanted keeper w Wanted (in_rejection rejects took) = Wanted status.NotValid
+IsCutWanted keeper w Wanted (in_answers text answers took) = Unit {0}
+
 -- What each status means. Status 0 and each status with a line say that the output took all the bytes, and handed on all
--- that it took. Status 7 says that the output's count of faults rose, and no other does.
+-- that it took. Status 7 says that the output's count of faults rose, and no other does. Where a fault gives way to status 10, the output wanted
+-- memory for the line of that fault.
 pub data Ends {K : Type 0} (keeper : KeeperOf K) (w : World) : Status → Type 0 where
   with_answers : (text : List ℕ) → Answers keeper w text → IsWritten w.output text → Ends keeper w status.Ok
   with_refusal : {s : Status} → s ≢ status.OutOfMemory → Refuses w s → IsWritten w.output (refusal_line s) → Ends keeper w s
   with_rejection : Rejects keeper w → IsWritten w.output (refusal_line status.NotValid) → Ends keeper w status.NotValid
   with_write_fault : Rose w.output.before.faults w.output.after.faults → IsCut keeper w → Ends keeper w status.WriteFault
-  cut_for_memory : w.output.after.faults ≡ w.output.before.faults → IsCut keeper w → Ends keeper w status.OutOfMemory
+  cut_for_memory : w.output.after.faults ≡ w.output.before.faults → (cut : IsCut keeper w) → IsCutWanted keeper w (IsWanted w) cut → Ends keeper w status.OutOfMemory
   refused_for_memory : Refuses w status.OutOfMemory → IsUntouched w.output → Ends keeper w status.OutOfMemory
   broken_for_memory : Breaks keeper w → IsUntouched w.output → Ends keeper w status.OutOfMemory

@@ -12,7 +12,7 @@ use Rattle.dns_command.specs.Status.{refusal_line}
 use Rattle.dns_command.specs.Hubs.{Meanings}
 use Rattle.dns_words.specs.Writing.{IsUntouched, IsWritten}
 use Rattle.dns_command.specs.World.{World}
-use Rattle.dns_command.specs.Ends.{Ends, TookFront}
+use Rattle.dns_command.specs.Ends.{Ends, TookFront, IsWanted}
 use Rattle.dns_store.specs.Covered.{IsCovered}
 use Rattle.dns_command.specs.Completeness.{HasZone, Completes}
 use Rattle.dns_command.specs.Serving.{Serves, RefusesServing}
@@ -24,13 +24,18 @@ module _ (w : World) (Serves : List ℕ → Type 0) (Refuses : Status → Type 0
     in_refusal : (s : Status) → s ≢ status.OutOfMemory → Refuses s → TookFront w (refusal_line s) → IsCutOf
     in_closing : (text : List ℕ) → Serves text → TookFront w text → IsCutOf
 
+  -- where the line of a fault was cut, the output wanted memory for it
+  abbrev pub IsCutOfWanted : IsCutOf → Type 0
+  IsCutOfWanted (in_refusal s some refuses took) = IsWanted w s
+  IsCutOfWanted (in_closing text serves took) = Unit {0}
+
   -- what each status means of what serves, with this output, or is refused. Status 0 and each status with a line say that the output took
   -- all the bytes, and handed on all that it took. Status 7 says that the output's count of faults rose, and no other does
   pub data ServingEnds : Status → Type 0 where
     with_closing : (text : List ℕ) → Serves text → IsWritten w.output text → ServingEnds status.Ok
     with_refusal : {s : Status} → s ≢ status.OutOfMemory → Refuses s → IsWritten w.output (refusal_line s) → ServingEnds s
     with_write_fault : Rose w.output.before.faults w.output.after.faults → IsCutOf → ServingEnds status.WriteFault
-    cut_for_memory : w.output.after.faults ≡ w.output.before.faults → IsCutOf → ServingEnds status.OutOfMemory
+    cut_for_memory : w.output.after.faults ≡ w.output.before.faults → (cut : IsCutOf) → IsCutOfWanted cut → ServingEnds status.OutOfMemory
     refused_for_memory : Refuses status.OutOfMemory → IsUntouched w.output → ServingEnds status.OutOfMemory
 
 module _ {K U T R W C : Type 0} (m : Meanings K U T R W C) (w : World) (hub : Around (HubTold U T)) where

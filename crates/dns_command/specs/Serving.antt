@@ -1,8 +1,9 @@
 -- What the command `serve` does: the book is opened, workers settle what comes to the ports, and the book is closed.
-use Rattle.std.specs.Prelude.{◌≡◌, ◌≢◌, ◌⊎◌, ℕ, ◌+◌, List, [], ◌∷◌, ◌++◌, length, Option, Some, None, IsSome}
+use Rattle.std.specs.Prelude.{◌≡◌, ◌⊎◌, ℕ, ◌+◌, List, [], ◌∷◌, ◌++◌, length, Option, Some, None, IsSome, Result}
 use mathlib.Core.Logic.{inl, inr}
 use Rattle.std.specs.List.{AllByRecursion}
 use Rattle.dns_io.specs.Told.{Keeps, Grows, Rose}
+use Rattle.dns_io.specs.declared.io_fault.IoFault.{IoFault}
 use Rattle.dns_io.specs.declared.peer.Peer.{Peer}
 use Rattle.dns_edges.specs.Edges.{Around, SourceTold}
 use Rattle.dns_keeper.specs.Keeping.{KeeperTold, KeeperOf}
@@ -17,12 +18,11 @@ use Rattle.dns_ticket_lock.specs.Naming.{terms_at}
 use Rattle.dns_ticket_lock.specs.Rule.{fresh}
 use Rattle.dns_ticket_lock.specs.Passes.{BookId, PassSeen, AreNew, AreAll, ClosedFor}
 use Rattle.dns_server.specs.declared.worker.Worker.{Worker}
-use Rattle.dns_server.specs.Servers.{ServedSocket, ServedListener, Matches, IsDone, IsReadOut, their_ports, their_passes}
+use Rattle.dns_server.specs.Servers.{ServedSocket, ServedListener, EndsReading, Matches, IsDone, IsReadOut, their_ports, their_passes}
 use Rattle.dns_server.specs.FailedUpdates.{failed_by_socket, failed_by_listener, added_up}
 use Rattle.dns_command.specs.declared.status.Status.{Status}
 use Rattle.dns_command.specs.declared.status.Status.TheVariants as status
 use Rattle.dns_command.specs.declared.opening.Opening.{Opening}
-use Rattle.dns_command.specs.declared.command_line.Options.{Options}
 use Rattle.dns_command.specs.declared.listening_words.Listening.{Listening}
 use Rattle.dns_command.specs.declared.listening_words.Service.{Service}
 use Rattle.dns_command.specs.CommandLine.{access_of}
@@ -30,7 +30,7 @@ use Rattle.dns_command.specs.ListeningWords.{service_of, sockets_of, listeners_o
 use Rattle.dns_command.specs.Lines.{serve_lines}
 use Rattle.dns_command.specs.Hubs.{Meanings, TakesFaulty}
 use Rattle.dns_words.specs.Writing.{IsUntouched}
-use Rattle.dns_command.specs.World.{World, IsStill}
+use Rattle.dns_command.specs.World.{World}
 use Rattle.dns_command.specs.Steps.{Finds, FindsNot, OpensNot}
 use Rattle.dns_command.specs.Ends.{IsOpened, CountsFailures}
 
@@ -82,9 +82,11 @@ pub record Crew (U T : Type 0) : Type 0 where
 abbrev pub passes_of : {U T : Type 0} → Crew U T → List PassSeen
 passes_of crew = their_passes crew.sockets ++ their_passes crew.listeners
 
--- the source that is read until it ends was not used; or the ports of the words were all opened first
+-- the source that is read until it ends was not used; or the ports of the words were all opened first, and then it was read: to its end, to a
+-- fault, which was counted, or till no memory was found to read on, and then none was counted
 abbrev pub MayBeRead : {U T : Type 0} → Around SourceTold → Around (HubTold U T) → Listening → Type 0
-MayBeRead until hub listening = IsUntouched until ⊎ Grows hub.before.openings hub.after.openings (openings_of listening)
+MayBeRead until hub listening =
+    IsUntouched until ⊎ (Grows hub.before.openings hub.after.openings (openings_of listening) × (reading : Result (Unit {0}) IoFault) × EndsReading until reading)
 
 module _ {K U T R W C : Type 0} (m : Meanings K U T R W C) where
   -- why the serving went no further: a port could not be opened, or failed; or memory ran out, and then the hub's count of faults is

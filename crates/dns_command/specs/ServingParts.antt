@@ -1,5 +1,5 @@
 -- What the parts of serving do.
-use Rattle.std.specs.Prelude.{◌≡◌, ◌≤◌, ◌⊎◌, ℕ, ◌+◌, List, [], ◌++◌, length, Option, Result, Ok, Err}
+use Rattle.std.specs.Prelude.{◌≡◌, ◌≤◌, ◌⊎◌, ℕ, ◌+◌, List, [], ◌++◌, length}
 use Rattle.std.specs.List.{AllByRecursion}
 use Rattle.dns_io.specs.Told.{Keeps, Grows, Rose}
 use Rattle.dns_io.specs.declared.io_fault.IoFault.{IoFault}
@@ -8,10 +8,8 @@ use Rattle.dns_edges.specs.Edges.{Around, SourceTold, around}
 use Rattle.dns_book.specs.Book.{SeenOf}
 use Rattle.dns_ports.specs.declared.hub.Opening.{Opening as Opened}
 use Rattle.dns_ports.specs.Ports.{UdpTold, TcpTold, HubTold}
-use Rattle.dns_ticket_lock.specs.declared.view.Terms.{Terms}
 use Rattle.dns_ticket_lock.specs.Naming.{terms_at}
 use Rattle.dns_ticket_lock.specs.Passes.{PassSeen, AreNew}
-use Rattle.dns_server.specs.declared.worker.Worker.{Worker}
 use Rattle.dns_server.specs.Servers.{ServerSeen, IsReadOut, their_ports, their_passes}
 use Rattle.dns_command.specs.declared.status.Status.{Status}
 use Rattle.dns_command.specs.declared.status.Status.TheVariants as status

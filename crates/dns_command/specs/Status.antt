@@ -1,5 +1,5 @@
 -- How a run of the program ends, and the line that a refusal writes.
-use Rattle.std.specs.Prelude.{ℕ, ◌++◌, List, [], codes}
+use Rattle.std.specs.Prelude.{ℕ, ◌++◌, List, [], codes, Bool, true, false}
 use Rattle.std.specs.Fmt.{decimal}
 use Rattle.dns_zone.specs.declared.zone_text.ZoneTextKind.{ZoneTextKind}
 use Rattle.dns_zone.specs.declared.zone_text.ZoneTextKind.TheVariants as zone
@@ -51,6 +51,36 @@ refusal_line status.KeeperFault = codes "keeper fault\n"
 refusal_line status.TooLong = codes "too long\n"
 refusal_line status.OutOfMemory = []
 refusal_line status.PortFault = codes "port fault\n"
+
+-- an object failed
+abbrev pub is_fault : Status → Bool
+is_fault status.Ok = false
+is_fault status.Usage = false
+is_fault (status.ZoneText line kind) = false
+is_fault (status.EventLine line) = false
+is_fault status.NotValid = false
+is_fault (status.Recovery row kind) = false
+is_fault status.ReadFault = true
+is_fault status.WriteFault = false
+is_fault status.KeeperFault = true
+is_fault status.TooLong = false
+is_fault status.OutOfMemory = false
+is_fault status.PortFault = true
+
+-- memory was wanted
+abbrev pub is_want : Status → Bool
+is_want status.Ok = false
+is_want status.Usage = false
+is_want (status.ZoneText line kind) = false
+is_want (status.EventLine line) = false
+is_want status.NotValid = false
+is_want (status.Recovery row kind) = false
+is_want status.ReadFault = false
+is_want status.WriteFault = false
+is_want status.KeeperFault = false
+is_want status.TooLong = false
+is_want status.OutOfMemory = true
+is_want status.PortFault = false
 
 -- the status of a source that was not read to its end
 abbrev pub read_status : ReadFault → Status

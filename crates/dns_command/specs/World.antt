@@ -4,13 +4,15 @@ use Rattle.dns_keeper.specs.Keeping.{KeeperTold}
 use Rattle.dns_edges.specs.Edges.{Around, SourceTold, SinkTold}
 pub use Rattle.dns_words.specs.Writing.{IsAsked}
 
--- the words of the command line, the zone text, the event text, the journal, the output, and the clock's reading, where it was asked
-pub record World : Type 0 where
+-- the words of the command line, the zone text, the event text, the journal, the output, what says of a text that the output wanted memory for it,
+-- and the clock's reading, where it was asked
+pub record World : Type 1 where
   pub words : List (List ℕ)
   pub zone : Around SourceTold
   pub events : Around SourceTold
   pub journal : Around KeeperTold
   pub output : Around SinkTold
+  pub wants : List ℕ → Type 0
   pub moment : Option ℕ
 
 -- the count of faults of a source stood still

@@ -1,11 +1,11 @@
 //! Writing the output: each line is handed over whole, and at the end all is handed on.
 
-ghost use Rattle.std.specs.Prelude.{◌≡◌, ◌≤◌, string_bytes};
+ghost use Rattle.std.specs.Prelude.{◌≡◌, ◌≤◌, true, false, string_bytes};
 ghost use Rattle.std.specs.List.{flat_map};
 ghost use Rattle.dns_edges.specs.Edges.{around};
 ghost use Rattle.dns_command.specs.Lines.{out_line, number_line, closing_lines, output_lines, serve_lines, counted_lines, summary_lines, lines_by};
-ghost use Rattle.dns_command.specs.Status.{refusal_line};
-ghost use Rattle.dns_words.specs.Writing.{Writes, WritesWhole};
+ghost use Rattle.dns_command.specs.Status.{is_fault, is_want, refusal_line};
+ghost use Rattle.dns_words.specs.Writing.{WantedMemory, Writes, WritesWhole};
 ghost use Rattle.dns_command.specs.Writing.{EndsRefusing, after_writing};
 
 use crate::command_line::Drawn;
@@ -15,18 +15,63 @@ use dns_edges::Sink;
 use dns_generator::Summary;
 use dns_io::IoFault;
 use dns_server_core::Out;
-use dns_words::{put_line, put_text};
+use dns_words::{put_line, put_text, put_whole};
 use std::alloc::Global;
 
-/// Writes the one line of a refusal, and tells how the program ends.
+/// The line of a run whose texts could not be read. No memory is taken for it, nor for the lines of the other faults, so that want of memory
+/// does not hide what they tell.
+const READ_FAULT: &str = "read fault\n";
+
+/// The line of a run over a journal that failed.
+const KEEPER_FAULT: &str = "keeper fault\n";
+
+/// The line of a run whose ports failed.
+const PORT_FAULT: &str = "port fault\n";
+
+/// Writes the one line of a refusal, and tells how the program ends. A fault gives way to want of memory only where the output wants memory
+/// for the line.
 pub fn refuse<W: Sink>(alloc: Global, status: Status, out: &mut W) -> Status
-    ensures ends { EndsRefusing (around W.sink.told out.old out.new) status result }
+    ensures ends { EndsRefusing (around W.sink.told out.old out.new) (λ text. WantedMemory W.sink out.old text out.new) status result }
     ensures later { (W.sink.told out.old).faults ≤ (W.sink.told out.new).faults }
 {
     match status {
         Status::OutOfMemory => Status::OutOfMemory,
-        status => after_writing(status, put_refusal(alloc, &status, out)),
+        Status::ReadFault => refuse_fault(Status::ReadFault, READ_FAULT, out),
+        Status::KeeperFault => refuse_fault(Status::KeeperFault, KEEPER_FAULT, out),
+        Status::PortFault => refuse_fault(Status::PortFault, PORT_FAULT, out),
+        Status::Ok => refuse_by_line(alloc, Status::Ok, out),
+        Status::Usage => refuse_by_line(alloc, Status::Usage, out),
+        Status::ZoneText { line, kind } => {
+            refuse_by_line(alloc, Status::ZoneText { line, kind }, out)
+        }
+        Status::EventLine { line } => refuse_by_line(alloc, Status::EventLine { line }, out),
+        Status::NotValid => refuse_by_line(alloc, Status::NotValid, out),
+        Status::Recovery { row, kind } => {
+            refuse_by_line(alloc, Status::Recovery { row, kind }, out)
+        }
+        Status::WriteFault => refuse_by_line(alloc, Status::WriteFault, out),
+        Status::TooLong => refuse_by_line(alloc, Status::TooLong, out),
     }
+}
+
+/// Writes the line of a refusal that is no fault.
+fn refuse_by_line<W: Sink>(alloc: Global, meant: Status, out: &mut W) -> Status
+    requires calm { is_fault meant ≡ false }
+    requires told { is_want meant ≡ false }
+    ensures ends { EndsRefusing (around W.sink.told out.old out.new) (λ text. WantedMemory W.sink out.old text out.new) meant result }
+    ensures later { (W.sink.told out.old).faults ≤ (W.sink.told out.new).faults }
+{
+    after_writing(meant, put_refusal(alloc, &meant, out))
+}
+
+/// Writes the line of a fault. Where memory is wanted, the output wanted it.
+fn refuse_fault<W: Sink>(meant: Status, line: &str, out: &mut W) -> Status
+    requires line { line.now ≡ refusal_line meant }
+    requires fault { is_fault meant ≡ true }
+    ensures ends { EndsRefusing (around W.sink.told out.old out.new) (λ text. WantedMemory W.sink out.old text out.new) meant result }
+    ensures later { (W.sink.told out.old).faults ≤ (W.sink.told out.new).faults }
+{
+    after_writing(meant, put_whole(line, out))
 }
 
 /// Writes the line of a refusal, and hands it on.

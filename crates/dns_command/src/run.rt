@@ -4,6 +4,7 @@ ghost use Rattle.std.specs.Prelude.{◌≡◌, ◌<◌, ◌≤◌, ◌^◌, ℕ,
 ghost use Rattle.dns_edges.specs.Edges.{around};
 ghost use Rattle.dns_name.specs.Name.{fold_of};
 ghost use Rattle.dns_zone_map.specs.Zone.{serial_of};
+ghost use Rattle.dns_words.specs.Writing.{WantedMemory};
 ghost use Rattle.dns_command.specs.declared.status.Status.TheVariants as status;
 ghost use Rattle.dns_ports.specs.Ports.{listener_of};
 ghost use Rattle.dns_command.specs.Hubs.{HasAllBack, meanings};
@@ -69,6 +70,7 @@ where
           events = around E.source.told events.old events.new;
           journal = around K.keeper.told keeper left;
           output = around W.sink.told out.old out.new;
+          wants = λ text. WantedMemory W.sink out.old text out.new;
           moment = moment;
         }) (around H.told hub.old hub.new) result.status) }
     ensures back { HasAllBack (around H.told hub.old hub.new) }
@@ -125,6 +127,7 @@ where
           events = around E.source.told until.old until.new;
           journal = around K.keeper.told keeper left;
           output = around W.sink.told out.old out.new;
+          wants = λ text. WantedMemory W.sink out.old text out.new;
           moment = moment;
         }) (around H.told hub.old hub.new) result.status)) }
     ensures back { HasAllBack (around H.told hub.old hub.new) }

@@ -5,6 +5,7 @@ ghost use Rattle.dns_edges.specs.Edges.{around};
 ghost use Rattle.dns_io.specs.Told.{Keeps};
 ghost use Rattle.dns_keeper.specs.Keeping.{KeepsBatches};
 ghost use Rattle.dns_zone_map.specs.Zone.{serial_of};
+ghost use Rattle.dns_words.specs.Writing.{WantedMemory};
 ghost use Rattle.dns_command.specs.declared.status.Status.TheVariants as status;
 ghost use Rattle.dns_command.specs.Lines.{lines_by};
 ghost use Rattle.dns_command.specs.Steps.{LoadsEvents, LoadsNoEvents, HearsBy, HearsNotBy, IsRefused};
@@ -66,6 +67,7 @@ pub fn run_list<Z: Source, E: Source, W: Sink, K: Keeper, C: Clock>(
           events = around E.source.told events.old events.new;
           journal = around K.keeper.told keeper left;
           output = around W.sink.told out.old out.new;
+          wants = λ text. WantedMemory W.sink out.old text out.new;
           moment = moment;
         }) result.status) }
     ensures later_zone { (Z.source.told zone.old).faults ≤ (Z.source.told zone.new).faults }

@@ -1,5 +1,5 @@
 -- How the top call ends, by what its parts did.
-use Rattle.std.proofs.Common.{◌≡◌, ◌⊎◌, ◌<◌, ℕ, List, [], ◌∷◌, Option, Some, None, Result, Ok, Err, inl, inr, refl, sym, ap, subst, ◌∙◌}
+use Rattle.std.proofs.Common.{◌≡◌, ◌⊎◌, ℕ, List, [], ◌∷◌, true, Some, None, Result, Ok, Err, inl, inr, refl, sym, ap, subst, ◌∙◌}
 use Rattle.std.proofs.lemmas.Option.{same_Some}
 use Rattle.dns_io.specs.declared.io_fault.IoFault.{IoFault}
 use Rattle.dns_io.specs.declared.io_fault.IoFault.TheVariants as io
@@ -10,7 +10,6 @@ use Rattle.dns_keeper.specs.Keeping.{KeeperTold, KeepsBatches}
 use Rattle.dns_zone_map.specs.Zone.{serial_of}
 use Rattle.dns_book.specs.Book.{SeenOf}
 use Rattle.dns_ports.specs.Ports.{CountsPort}
-use Rattle.dns_ticket_lock.specs.Naming.{terms_at}
 use Rattle.dns_server.specs.declared.worker.Worker.{Worker}
 use Rattle.dns_server.specs.Servers.{EndsReading, IsDone, IsReadOut, first_fault, or_later, their_ports}
 use Rattle.std.specs.List.{AllByRecursion}
@@ -19,14 +18,13 @@ use Rattle.dns_command.specs.declared.status.Status.TheVariants as status
 use Rattle.dns_command.specs.declared.opening.Opening.{Opening}
 use Rattle.dns_command.specs.CommandLine.{access_of}
 use Rattle.dns_command.specs.Completeness.{HasZone}
-use Rattle.dns_command.specs.Counts.{ComesOf, with_line, cut_by_fault, cut_for_memory as cut_for_want, CountsJournal, CountsWriting, FailsSome}
-use Rattle.dns_command.specs.Ends.{IsOpened, TookFront}
+use Rattle.dns_command.specs.Counts.{ComesOf, with_line, CountsJournal, CountsWriting, FailsSome}
 use Rattle.dns_command.specs.Lines.{serve_lines}
 use Rattle.dns_command.specs.Parts.{OpensBook}
 use Rattle.dns_command.specs.Serving.{opening_journal}
 use Rattle.dns_command.specs.ServingParts.{port_status}
-use Rattle.dns_command.specs.ServeEnds.{IsCutOf, in_refusal, in_closing, ServingEnds, with_closing, with_refusal, with_write_fault, cut_for_memory, refused_for_memory, ListTells}
-use Rattle.dns_command.specs.Status.{refusal_line}
+use Rattle.dns_command.specs.ServeEnds.{IsCutOf, in_refusal, in_closing, with_closing, with_refusal, with_write_fault, cut_for_memory, refused_for_memory, ListTells}
+use Rattle.dns_command.specs.Status.{is_fault}
 use Rattle.dns_command.specs.Steps.{Finds, OpensNot}
 use Rattle.dns_command.specs.World.{World, IsStill, IsStillJournal}
 use Rattle.dns_words.specs.Writing.{IsUntouched}
@@ -34,14 +32,15 @@ use Rattle.dns_command.proofs.Completing.{of_finding, of_opening}
 use Rattle.dns_command.proofs.Counting.{Kept, untouched, unwritten, of_found, of_unfound, of_unfound_journal, of_unopened}
 use Rattle.dns_command.proofs.Endings.{journal_of, Finds-on, OpensNot-earlier, IsOpened-earlier, IsOpened-told, IsOpened-still}
 use Rattle.dns_command.proofs.Loops.{zero_or_more}
+use Rattle.dns_command.proofs.ServeEndings.{GivesWay, gives_way_by_fault, gives_way_by_want}
 use Rattle.dns_command.proofs.Told.{NeverBegins-told}
-use Rattle.dns_crowd_server.specs.Hubs.{CrowdHubTold, seats_of, their_faults}
-use Rattle.dns_crowd_server.specs.Serving.{Crew, EndsServing, unshared, unopened, served, ServesPorts, crew_answer, failed_in, failed_updates}
+use Rattle.dns_crowd_server.specs.Hubs.{CrowdHubTold, their_faults}
+use Rattle.dns_crowd_server.specs.Serving.{EndsServing, unshared, unopened, served, crew_answer, failed_in, failed_updates}
 use Rattle.dns_serve.specs.declared.words.Service.{Service}
 use Rattle.dns_serve.specs.Words.{serving_of}
 use Rattle.dns_serve.specs.Serving.{Meanings, Begins, Serves, Stops, IsUnserved, without_memory, at_finding, at_opening, Refuses, unserved, stopped}
 use Rattle.dns_serve.specs.Counts.{HasServed, TakesSomeFaulty, FailsServing, in_serving, in_stopping, RunCounts}
-use Rattle.dns_serve.specs.Ends.{ServeEnds, RunEnds, by_serving, by_list, IsSound, RunCompletes, RunTells}
+use Rattle.dns_serve.specs.Ends.{ServeEnds, by_serving, by_list, IsSound, RunTells}
 
 -- ---- answers
 
@@ -88,7 +87,7 @@ module _ {K U C : Type 0} (m : Meanings K U C) (w : World) (hub : Around (CrowdH
   completes_serving s (with_closing text serves written) x = inl refl
   completes_serving s (with_refusal some refuses written) x = inr (of_refusal x s refuses)
   completes_serving s (with_write_fault rose cut) x = absurd (x.faultless.output rose)
-  completes_serving s (cut_for_memory still cut) x = inr refl
+  completes_serving s (cut_for_memory still cut wanted) x = inr refl
   completes_serving s (refused_for_memory refuses unwritten) x = inr refl
 
   -- ---- which counts of faults rose
@@ -200,18 +199,18 @@ module _ {K U C : Type 0} (m : Meanings K U C) (w : World) (hub : Around (CrowdH
   }
 
   -- the same of a status that was told, or behind a line that was cut
-  counts_so_far : (s t : Status) → (ComesOf w s s → ComesOf w s t) → SoFar s → CountsWriting w t → RunCounts m w hub t
+  counts_so_far : (s t : Status) → (is_fault s ≡ true → ComesOf w s t) → SoFar s → CountsWriting w t → RunCounts m w hub t
   counts_so_far s t comes so output = record {
-    zone = elim so.zone [ inl still ↦ inl still | inr p ↦ inr (p.0, subst (λ (x : Status). ComesOf w x t) p.1 (comes with_line)) ];
+    zone = elim so.zone [ inl still ↦ inl still | inr p ↦ inr (p.0, subst (λ (x : Status). ComesOf w x t) p.1 (comes (ap is_fault p.1))) ];
     events = elim so.events [ inl still ↦ inl (inl still) | inr some ↦ inr some ];
     output = output;
     ports = elim so.ports [
       | inl calm ↦ inl calm
-      | inr more ↦ inr (elim more [ inl p ↦ inl (p.0, subst (λ (x : Status). ComesOf w x t) p.1 (comes with_line)) | inr taken ↦ inr taken ])
+      | inr more ↦ inr (elim more [ inl p ↦ inl (p.0, subst (λ (x : Status). ComesOf w x t) p.1 (comes (ap is_fault p.1))) | inr taken ↦ inr taken ])
     ];
     journal = elim so.journal [
       | inl still ↦ inl still
-      | inr more ↦ inr (elim more [ inl p ↦ inl (p.0, subst (λ (x : Status). ComesOf w x t) p.1 (comes with_line)) | inr fails ↦ inr (inr fails) ])
+      | inr more ↦ inr (elim more [ inl p ↦ inl (p.0, subst (λ (x : Status). ComesOf w x t) p.1 (comes (ap is_fault p.1))) | inr fails ↦ inr (inr fails) ])
     ];
   }
 
@@ -224,16 +223,16 @@ module _ {K U C : Type 0} (m : Meanings K U C) (w : World) (hub : Around (CrowdH
     journal = elim so.journal [ inl still ↦ inl still | inr more ↦ elim more [ inl p ↦ absurd (let x = p.1 in cc) | inr fails ↦ inr (inr (inr fails)) ] ];
   }
 
-  cut_counts : (t : Status) → ((s : Status) → TookFront w (refusal_line s) → ComesOf w s t) → CountsWriting w t → IsCutOf w (Serves m w hub) (Refuses m w hub) → RunCounts m w hub t
-  cut_counts t by output (in_refusal s some refuses took) = counts_so_far s t (λ c. by s took) (refusing_so_far s refuses) output
-  cut_counts t by output (in_closing text a took) = counts_closed t (served_so_far text a) output
+  cut_counts : (t : Status) → CountsWriting w t → (cut : IsCutOf w (Serves m w hub) (Refuses m w hub)) → GivesWay w (Serves m w hub) (Refuses m w hub) t cut → RunCounts m w hub t
+  cut_counts t output (in_refusal s some refuses took) by = counts_so_far s t by (refusing_so_far s refuses) output
+  cut_counts t output (in_closing text a took) by = counts_closed t (served_so_far text a) output
 
   counts_serving : (s : Status) → Ending s → RunCounts m w hub s
-  counts_serving s (with_closing text a took) = counts_so_far status.Ok status.Ok (λ c. c) (served_so_far text a) (inl took.faults)
-  counts_serving s (with_refusal some refuses took) = counts_so_far s s (λ c. c) (refusing_so_far s refuses) (inl took.faults)
-  counts_serving s (with_write_fault rose cut) = cut_counts status.WriteFault (λ t took. cut_by_fault took) (inr (rose, refl)) cut
-  counts_serving s (cut_for_memory still cut) = cut_counts status.OutOfMemory (λ t took. cut_for_want took) (inl still) cut
-  counts_serving s (refused_for_memory refuses same) = counts_so_far status.OutOfMemory status.OutOfMemory (λ c. c) (refusing_so_far status.OutOfMemory refuses) (inl (unwritten w same))
+  counts_serving s (with_closing text a took) = counts_so_far status.Ok status.Ok (λ fault. with_line) (served_so_far text a) (inl took.faults)
+  counts_serving s (with_refusal some refuses took) = counts_so_far s s (λ fault. with_line) (refusing_so_far s refuses) (inl took.faults)
+  counts_serving s (with_write_fault rose cut) = cut_counts status.WriteFault (inr (rose, refl)) cut (gives_way_by_fault w (Serves m w hub) (Refuses m w hub) cut)
+  counts_serving s (cut_for_memory still cut wanted) = cut_counts status.OutOfMemory (inl still) cut (gives_way_by_want w (Serves m w hub) (Refuses m w hub) cut wanted)
+  counts_serving s (refused_for_memory refuses same) = counts_so_far status.OutOfMemory status.OutOfMemory (λ fault. with_line) (refusing_so_far status.OutOfMemory refuses) (inl (unwritten w same))
 
   -- ---- the top call
 
@@ -274,11 +273,11 @@ module _ {K U C : Type 0} (m : Meanings K U C) (w : World) (hub : Around (CrowdH
 
 -- ---- what was opened, and then served
 
-module _ {K U C : Type 0} (m : Meanings K U C) (words : List (List ℕ)) (z e : Around SourceTold) (out : Around SinkTold) (hub : Around (CrowdHubTold U C))
+module _ {K U C : Type 0} (m : Meanings K U C) (words : List (List ℕ)) (z e : Around SourceTold) (out : Around SinkTold) (wants : List ℕ → Type 0) (hub : Around (CrowdHubTold U C))
     (b : KeeperTold) (moment : ℕ) (service : Service) (legal : serving_of words ≡ Some service) (held left : K) (k : Keeps b.rows (m.keeper.told held).rows) (kb : KeepsBatches b (m.keeper.told held)) (same : (m.keeper.told held).faults ≡ b.faults)
     (opening : Opening) (found : Finds (journal_of b (m.keeper.told held)) z service.options.origin opening) where
   abbrev world : World
-  world = record { words = words; zone = z; events = e; journal = journal_of b (m.keeper.told left); output = out; moment = Some moment }
+  world = record { words = words; zone = z; events = e; journal = journal_of b (m.keeper.told left); output = out; wants = wants; moment = Some moment }
 
   -- a journal was opened
   begins : (first : SeenOf K) → OpensBook m.keeper held service.options opening moment first → Begins m.keeper world service first

@@ -1,13 +1,13 @@
 -- Words without a number of connections are options here exactly where they are options of the library's.
-use Rattle.std.proofs.Common.{◌≡◌, ◌≤◌, ℕ, suc, List, [], ◌∷◌, Bool, true, false, Option, Some, None, refl, sym, ap, ◌∙◌, arith}
-use Rattle.std.specs.Prelude.{count_by, drop, is_some, nat_le, not, ◌&&◌, ◌||◌, if◌then◌else◌, codes}
+use Rattle.std.proofs.Common.{◌≡◌, ℕ, List, [], ◌∷◌, Bool, true, false, Option, Some, None, refl}
+use Rattle.std.specs.Prelude.{count_by, drop, is_some, not, ◌&&◌, ◌||◌, if◌then◌else◌, codes}
 use Rattle.std.specs.List.{list_all}
 use Rattle.std.specs.Option.{option_map}
 use Rattle.std.specs.Str.{bytes_eq}
 use Rattle.dns_command.specs.CommandLine.{options_behind}
-use Rattle.dns_command.specs.ListeningWords.{are_serve_options, are_single, is_serve_option, listening_of, service_of}
+use Rattle.dns_command.specs.ListeningWords.{are_serve_options, are_single, is_serve_option, service_of}
 use Rattle.dns_command.specs.declared.command_line.Options.{Options}
-use Rattle.dns_serve.specs.Words.{are_own_options, is_connections_word, is_own_option, places_of, serving_of}
+use Rattle.dns_serve.specs.Words.{are_own_options, is_connections_word, is_own_option, serving_of}
 
 abbrev IsPlain : List (List ℕ) → Type 0
 IsPlain words = list_all (λ word. not (is_connections_word word)) words ≡ true

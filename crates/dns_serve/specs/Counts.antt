@@ -1,5 +1,5 @@
 -- Which counts of faults rose in the top call: those alone of which its status tells, or the work that it tells of.
-use Rattle.std.specs.Prelude.{◌≡◌, ◌⊎◌, ◌<◌, ℕ, List, ◌∷◌, [], Some, Ok, Err}
+use Rattle.std.specs.Prelude.{◌≡◌, ◌⊎◌, ◌<◌, ℕ, List, ◌∷◌, [], Some, Err}
 use Rattle.dns_io.specs.Told.{Grows, Rose}
 use Rattle.dns_edges.specs.Edges.{Around}
 use Rattle.dns_command.specs.declared.status.Status.{Status}

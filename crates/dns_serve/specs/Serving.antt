@@ -1,5 +1,5 @@
 -- What the command `serve` does: the book is opened, workers settle what comes to the ports, and the book is closed.
-use Rattle.std.specs.Prelude.{◌≡◌, ℕ, List, ◌∷◌, [], Some, None, IsSome, Result, Ok, Err}
+use Rattle.std.specs.Prelude.{◌≡◌, ℕ, List, ◌∷◌, [], Some, None, IsSome, Ok, Err}
 use Rattle.std.specs.List.{AllByRecursion}
 use Rattle.dns_io.specs.declared.io_fault.IoFault.{IoFault}
 use Rattle.dns_io.specs.declared.io_fault.IoFault.TheVariants as io

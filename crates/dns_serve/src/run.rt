@@ -5,6 +5,7 @@ ghost use Rattle.dns_edges.specs.Edges.{around};
 ghost use Rattle.dns_io.specs.Told.{Rose};
 ghost use Rattle.dns_io.specs.declared.io_fault.IoFault.TheVariants.{Failed};
 ghost use Rattle.dns_name.specs.Name.{fold_of};
+ghost use Rattle.dns_words.specs.Writing.{WantedMemory};
 ghost use Rattle.dns_command.specs.CommandLine.{access_of};
 ghost use Rattle.dns_command.specs.World.{IsAsked};
 ghost use Rattle.dns_crowd_server.specs.Hubs.{HasAllBack, seats_of};
@@ -64,6 +65,7 @@ where
           events = around E.source.told events.old events.new;
           journal = around K.keeper.told keeper left;
           output = around W.sink.told out.old out.new;
+          wants = λ text. WantedMemory W.sink out.old text out.new;
           moment = moment;
         }) (around H.told hub.old hub.new) result.status) }
     ensures back { HasAllBack (H.told hub.old) (H.told hub.new) }
@@ -116,6 +118,7 @@ where
           events = around E.source.told until.old until.new;
           journal = around K.keeper.told keeper left;
           output = around W.sink.told out.old out.new;
+          wants = λ text. WantedMemory W.sink out.old text out.new;
           moment = moment;
         }) (around H.told hub.old hub.new) result.status)) }
     ensures back { HasAllBack (H.told hub.old) (H.told hub.new) }
@@ -169,8 +172,8 @@ where
     H::Connections: Send,
     requires limit { service.places.limit < 2 ^ 47 }
     requires seats { (0 < seats_of service.places) × (seats_of service.places ≤ 1024) }
-    ensures ends { EndsServing K.keeper H.Udp.told H.Connections.told (around H.told hub.old hub.new) (around E.source.told until.old until.new)
-        service.places (access_of service.options) book result.book result.answer }
+    ensures ends { EndsServing K.keeper H.Udp.told H.Connections.told (around H.told hub.old hub.new)
+        (around E.source.told until.old until.new) service.places (access_of service.options) book result.book result.answer }
     ensures failed { IsErrOf result.answer Failed → Rose (H.told hub.old).faults (H.told hub.new).faults }
     ensures back { HasAllBack (H.told hub.old) (H.told hub.new) }
     ensures later { (E.source.told until.old).faults ≤ (E.source.told until.new).faults }

@@ -1,4 +1,4 @@
-use Rattle.std.proofs.Common.{rules, ◌≡◌, ◌∷◌, [], List, refl, ap, ◌∙◌, length, length-append, arith}
+use Rattle.std.proofs.Common.{rules, ◌∷◌, [], refl, ap, ◌∙◌, length, length-append, arith}
 use Rattle.std.specs.Vec.Iter.{into_iter_items}
 use Rattle.dns_io.proofs.ToldContents.{Keeps-same}
 use Rattle.dns_ports.specs.Ports.{IsFreshListener}

@@ -16,7 +16,7 @@ returns-in-Ok-serve_opened-clause-ends g c =
       Some c.now-moment.result,
       (c.now-moment.ensures.next, c.now-moment.ensures.reading),
       λ words legal. closing _ _ _ _ _
-          (serves _ _ _ _ _ _ _ _ _ legal _ _ c.in-Ok.ensures.kept c.in-Ok.ensures.batches c.in-Ok.ensures.still _ c.in-Ok.ensures.ok served.first _ served.begun served.served c.into_keeper.ensures.keeper)
+          (serves _ _ _ _ _ _ _ _ _ _ legal _ _ c.in-Ok.ensures.kept c.in-Ok.ensures.batches c.in-Ok.ensures.still _ c.in-Ok.ensures.ok served.first _ served.begun served.served c.into_keeper.ensures.keeper)
           c.finish.ensures.ends,
     )
 
@@ -25,6 +25,6 @@ returns-in-Err-serve_opened-clause-ends g c = (
   Some c.now-moment.result,
   (c.now-moment.ensures.next, c.now-moment.ensures.reading),
   λ words legal. refused _ _ _ _ _
-      (serves_none _ _ _ _ _ _ _ _ _ legal _ _ c.in-Ok.ensures.kept c.in-Ok.ensures.batches c.in-Ok.ensures.still _ c.in-Ok.ensures.ok _ c.in-Err-serve_opened.ensures.err)
+      (serves_none _ _ _ _ _ _ _ _ _ _ legal _ _ c.in-Ok.ensures.kept c.in-Ok.ensures.batches c.in-Ok.ensures.still _ c.in-Ok.ensures.ok _ c.in-Err-serve_opened.ensures.err)
       c.refuse-in-Err-serve_opened.ensures.ends,
 )

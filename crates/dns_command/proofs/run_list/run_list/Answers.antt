@@ -19,7 +19,7 @@ returns-in-Ok-settle_events-clause-ends g c =
       Some c.now-moment.result,
       (c.now-moment.ensures.next, c.now-moment.ensures.reading),
       tells g.K.Keeper.keeper _ _
-          (answered g.K.Keeper.keeper _ _ _ (answers g.K.Keeper.keeper _ _ _ _ _ _ _ _ _ c.in-Ok.ensures.ok c.in-Ok.ensures.kept c.in-Ok.ensures.batches c.in-Ok.ensures.still _ _ settled left kept) c.finish.ensures.ends),
+          (answered g.K.Keeper.keeper _ _ _ (answers g.K.Keeper.keeper _ _ _ _ _ _ _ _ _ _ c.in-Ok.ensures.ok c.in-Ok.ensures.kept c.in-Ok.ensures.batches c.in-Ok.ensures.still _ _ settled left kept) c.finish.ensures.ends),
     )
 
 pub returns-in-Err-settle_events-clause-ends : goal.returns-in-Err-settle_events-clause-ends
@@ -27,5 +27,5 @@ returns-in-Err-settle_events-clause-ends g c = (
   Some c.now-moment.result,
   (c.now-moment.ensures.next, c.now-moment.ensures.reading),
   tells g.K.Keeper.keeper _ _
-      (unsettled g.K.Keeper.keeper _ _ _ _ _ _ _ _ _ c.in-Ok.ensures.ok c.in-Ok.ensures.kept c.in-Ok.ensures.batches c.in-Ok.ensures.still _ _ c.in-Err-settle_events.ensures.err c.refuse-in-Err-settle_events.ensures.ends),
+      (unsettled g.K.Keeper.keeper _ _ _ _ _ _ _ _ _ _ c.in-Ok.ensures.ok c.in-Ok.ensures.kept c.in-Ok.ensures.batches c.in-Ok.ensures.still _ _ c.in-Err-settle_events.ensures.err c.refuse-in-Err-settle_events.ensures.ends),
 )
