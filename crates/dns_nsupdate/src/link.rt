@@ -1,16 +1,21 @@
 //! The connection to the server: a new one behind each hundred messages.
 
-use dns_io::{IoFault, Ip, Peer};
+ghost use Rattle.std.specs.Prelude.{◌≡◌, None, Ok, Err, MatchResult};
+ghost use Rattle.std.specs.Io.{WritesAtMost};
+ghost use Rattle.std.specs.Io.KnownBytes.{WriteAppends};
+ghost use Rattle.dns_io.specs.Told.{one_more};
+ghost use Rattle.dns_nsupdate.specs.Decisions.{messages_over};
+
+use crate::decisions::{patience, read_over, write_over};
+use dns_io::{IoFault, Peer};
+use dns_ports::address_of;
 use dns_update_client::is_used_up;
 use std::cell::RefCell;
-use std::io::{self, ErrorKind, Read, Write};
-use std::net::{IpAddr, Ipv4Addr, Ipv6Addr, Net, SocketAddr, TcpStream};
-use std::time::Duration;
+use std::io::{self, Read, Write};
+use std::net::{Net, TcpStream};
 
-/// For how many seconds the server may leave the program waiting, for a connection, for bytes, or to take bytes.
-const PATIENCE: u64 = 5;
-
-/// What came of making a connection, which what is sent and what comes have in common.
+/// What came of making a connection, which what is sent and what comes have in common. Each borrows it for one call alone; were it lent
+/// then, the call would fail.
 pub(crate) type Link = RefCell<Result<TcpStream, IoFault>>;
 
 /// What goes to the server. Where as many messages went over a connection as may, the next one makes a new connection, so that a server
@@ -37,22 +42,23 @@ impl<'a, R> Outgoing<'a, R> {
 }
 
 impl<R: Net<Stream = TcpStream>> Write for Outgoing<'_, R> {
-    fn write(&mut self, bytes: &[u8]) -> io::Result<usize> {
+    /// The clauses `bound` and `bytes` are those of `Write` for a writer whose bytes are not told.
+    fn write(&mut self, bytes: &[u8]) -> io::Result<usize>
+        ensures bound { WritesAtMost result bytes.now }
+        ensures bytes { WriteAppends None None result bytes.now }
+        ensures sent { self.new.sent ≡ messages_over self.old.sent }
+    {
         if is_used_up(self.sent) {
-            let _former = self.link.try_replace(connection(self.net, self.server));
             self.sent = 0;
+            *self.link.try_borrow_mut()? = connection(self.net, self.server);
         }
-        let Ok(made) = self.link.try_borrow() else {
-            return Err(ErrorKind::ResourceBusy.into());
-        };
-        match &*made {
-            Ok(stream) => (&mut &*stream).write(bytes),
-            Err(_fault) => Ok(bytes.len()),
-        }
+        write_over(&mut over(&*self.link.try_borrow()?), bytes)
     }
 
     /// Behind each message there is one flush: nothing is held back.
-    fn flush(&mut self) -> io::Result<()> {
+    fn flush(&mut self) -> io::Result<()>
+        ensures sent { self.new.sent ≡ one_more self.old.sent }
+    {
         self.sent = self.sent.saturating_add(1);
         Ok(())
     }
@@ -73,14 +79,17 @@ impl<'a> Incoming<'a> {
 
 impl Read for Incoming<'_> {
     fn read(&mut self, room: &mut [u8]) -> io::Result<usize> {
-        let Ok(made) = self.link.try_borrow() else {
-            return Err(ErrorKind::ResourceBusy.into());
-        };
-        match &*made {
-            Ok(stream) => (&mut &*stream).read(room),
-            Err(IoFault::OutOfMemory) => Err(ErrorKind::OutOfMemory.into()),
-            Err(IoFault::Failed) => Err(ErrorKind::NotConnected.into()),
-        }
+        read_over(&mut over(&*self.link.try_borrow()?), room)
+    }
+}
+
+/// What is read and written over, by what came of making a connection.
+fn over(made: &Result<TcpStream, IoFault>) -> Result<&TcpStream, IoFault>
+    ensures { MatchResult result (λ stream. made.now ≡ Ok stream.now) (λ fault. made.now ≡ Err fault) }
+{
+    match made {
+        Ok(stream) => Ok(stream),
+        Err(fault) => Err(*fault),
     }
 }
 
@@ -89,18 +98,9 @@ pub(crate) fn connection<R: Net<Stream = TcpStream>>(
     net: &R,
     server: Peer,
 ) -> Result<TcpStream, IoFault> {
-    let patience = Duration::from_secs(PATIENCE);
-    let stream = TcpStream::connect_timeout(net, &socket_address(server), patience)?;
+    let patience = patience();
+    let stream = TcpStream::connect_timeout(net, &address_of(server), patience)?;
     stream.set_read_timeout(Some(patience))?;
     stream.set_write_timeout(Some(patience))?;
     Ok(stream)
-}
-
-/// The socket address of a peer.
-fn socket_address(peer: Peer) -> SocketAddr {
-    let ip = match peer.ip {
-        Ip::V4(bits) => IpAddr::V4(Ipv4Addr::from_bits(bits)),
-        Ip::V6(bits) => IpAddr::V6(Ipv6Addr::from_bits(bits)),
-    };
-    SocketAddr::new(ip, peer.port)
 }

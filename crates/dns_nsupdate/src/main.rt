@@ -1,8 +1,10 @@
 //! The program: it sends the updates of a script to a server.
 #![tactic(auto)]
 
+mod decisions;
 mod link;
 
+use crate::decisions::most_read;
 use crate::link::{Incoming, Outgoing, connection};
 use dns_edges::{FileSource, Reading, Sink, Writing};
 use dns_io::OutOfMemory;
@@ -12,9 +14,6 @@ use std::cell::RefCell;
 use std::io::{self, BufWriter, Cursor, Read};
 use std::net::TcpStream;
 use std::process::ExitCode;
-
-/// So much of the script is read at most: one byte more than it may have.
-const MOST: u64 = 1_048_577;
 
 /// Does what the words of the command line say, and ends with the status's number. The script is standard input, and the lines go to
 /// standard output.
@@ -63,6 +62,6 @@ fn refuse<O: Sink>(rt: &HostRuntime, words: &Vec<String>, out: &mut O) -> Update
 /// What standard input has, or so much of it that it is known to be too long.
 fn script_text(rt: &HostRuntime) -> io::Result<Cursor<Vec<u8>>> {
     let mut text = Vec::new(rt.alloc());
-    rt.reader().take(MOST).read_to_end(&mut text)?;
+    rt.reader().take(most_read()).read_to_end(&mut text)?;
     Ok(Cursor::new(text))
 }
