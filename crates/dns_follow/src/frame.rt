@@ -1,7 +1,8 @@
 //! Frames of a feed, and their bytes.
 
-ghost use Rattle.std.specs.Prelude.{◌≡◌, ◌+◌, ◌<◌, ◌≤◌, ◌++◌, ◌^◌, length, IfOk, IfSome, IfNone, OnOk};
+ghost use Rattle.std.specs.Prelude.{◌≡◌, ◌+◌, ◌<◌, ◌≤◌, ◌++◌, ◌^◌, length, IfOk, IfSome, IfNone, OnOk, OnErr};
 ghost use Rattle.std.specs.Int.{w32, w64, from_be_bytes};
+ghost use Rattle.std.specs.Io.{StartsWith};
 ghost use Rattle.dns_follow.specs.Feed.{frame_in, framed};
 
 use dns_io::{Octets, OutOfMemory};
@@ -42,10 +43,25 @@ impl Frame {
         }))
     }
 
-    /// Adds the frame to a buffer, behind the two bytes of its length. Where memory runs out, part of it may have been added.
+    /// Adds the frame to a buffer, behind the two bytes of its length. Where memory runs out the buffer is as it was.
     pub fn append(&self, out: &mut Vec<u8>) -> Result<(), OutOfMemory>
         requires { length self.now.bytes ≤ 65518 }
-        ensures { OnOk result (out.new.items ≡ out.old.items ++ framed self.now) }
+        ensures ok { OnOk result (out.new.items ≡ out.old.items ++ framed self.now) }
+        ensures err { OnErr result (out.new.items ≡ out.old.items) }
+    {
+        let len = out.len();
+        let appended = self.put(out);
+        if appended.is_err() {
+            out.truncate(len);
+        }
+        appended
+    }
+
+    /// Adds it so. Where memory runs out, part of it may stand behind what the buffer had.
+    fn put(&self, out: &mut Vec<u8>) -> Result<(), OutOfMemory>
+        requires { length self.now.bytes ≤ 65518 }
+        ensures ok { OnOk result (out.new.items ≡ out.old.items ++ framed self.now) }
+        ensures begins { StartsWith out.new.items out.old.items }
     {
         let size = 17 + self.bytes.len() as u16;
         out.extend_from_slice(&size.to_be_bytes())?;

@@ -1,15 +1,15 @@
 //! What the program says of itself.
 
 /// The answer to `--version`.
-pub const VERSION: &str = "dns_follow 0.1.0\n";
+pub const VERSION: &str = "dns-follow 0.1.0\n";
 
 /// The answer to `--help`.
 pub const HELP: &str = "\
-dns_follow: feeds the journal of a DNS zone to other machines, and follows such a feed
+dns-follow: feeds the journal of a DNS zone to other machines, and follows such a feed
 
-usage: dns_follow feed ORIGIN FROM [--journal=PATH]
-       dns_follow follow ORIGIN [--journal=PATH]
-       dns_follow --help | --version
+usage: dns-follow feed ORIGIN FROM [--journal=PATH]
+       dns-follow follow ORIGIN [--journal=PATH]
+       dns-follow --help | --version
 
 feed writes the rows of the journal from row FROM on to standard output, each as a frame: two bytes of length, then the row's number,
 its client, its serial, a mark on the last row of a batch, and the record. Before it writes the first of them it sees that the journal
@@ -45,5 +45,5 @@ Exit status, and the one line that is then written, by feed behind what it wrote
 Whatever the status, the batches that were taken whole before are stored. One whose storing a fault of the journal or a crash cut off is
 there whole or not at all.
 
-example: dns_follow feed example.com. 1 --journal=primary.journal | dns_follow follow example.com. --journal=second.journal
+example: dns-follow feed example.com. 1 --journal=primary.journal | dns-follow follow example.com. --journal=second.journal
 ";

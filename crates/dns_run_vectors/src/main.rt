@@ -1,5 +1,5 @@
 //! Rows from the specifications, each tried on the compiled libraries: the commands over a list of events, audits, and feeds with their followers, on journals that are
-//! not in a file.
+//! not in a file; and the scripts of the update client, the messages that they mean, and their exchange with a server.
 //!
 //! A row is a line of standard input, `KIND|GIVEN|WANTED`: what is called, what it is given, and the answer that is due. A row with another
 //! answer is written with that answer, and at the end the number of rows. A line that begins with `#` says what the rows below it show.
@@ -10,6 +10,8 @@ mod follows;
 mod journals;
 mod keepers;
 mod runs;
+mod stops;
+mod updates;
 
 use dns_rows::parted;
 use std::alloc::Global;
@@ -43,6 +45,7 @@ fn tell(rt: &HostRuntime, row: &str) -> Result<(), Fail> {
 fn answer_to(alloc: Global, kind: &str, given: &str) -> Result<String, Fail> {
     match kind {
         "journal" => journals::journal(alloc, given),
+        "stops" => stops::stops(alloc, given),
         "rows" => keepers::rows(alloc, given),
         "parts" => keepers::parts(alloc, given),
         "audit" => audits::audit_journal(alloc, given),
@@ -53,6 +56,14 @@ fn answer_to(alloc: Global, kind: &str, given: &str) -> Result<String, Fail> {
         "take" => follows::take(alloc, given),
         "turns" => follows::turns(alloc, given),
         "long" => follows::long(alloc, given),
+        "entry" => updates::entry(alloc, given),
+        "script" => updates::script(alloc, given),
+        "messages" => updates::messages(alloc, given),
+        "submit" => updates::submitted(alloc, given),
+        "wanted" => updates::wanted(alloc, given),
+        "large" => updates::large(alloc, given),
+        "client" => updates::client(alloc, given),
+        "wanting_client" => updates::wanting_client(alloc, given),
         _ => Ok("no such kind".to_string(alloc)?),
     }
 }

@@ -11,7 +11,7 @@ use std::alloc::Global;
 use std::test::Fail;
 
 /// A connection over objects in memory.
-type Connection = Accepted<MemorySource, MemorySink, MemoryClock>;
+pub type Connection = Accepted<MemorySource, MemorySink, MemoryClock>;
 
 /// The other end.
 pub const PEER: Peer = Peer {
@@ -100,7 +100,7 @@ fn datagram(alloc: Global, digits: &str) -> Result<Octets, Fail>
 pub fn listener(alloc: Global, step: usize, digits: &str) -> Result<MemoryTcp, Fail>
     ensures { IfOk result IsUnusedTcp }
 {
-    let connection = connection(alloc, step, digits)?;
+    let connection = connection(alloc, step, PEER, digits)?;
     Ok(MemoryTcp::new(alloc, vec![in alloc; connection]?, Vec::new(alloc)))
 }
 
@@ -110,20 +110,25 @@ pub fn failing_listener(alloc: Global, words: &str) -> Result<MemoryTcp, Fail>
 {
     let (accepts, rest) = two(words);
     let (first, second) = two(rest);
-    let first = connection(alloc, 9, first)?;
-    let second = connection(alloc, 9, second)?;
+    let first = connection(alloc, 9, PEER, first)?;
+    let second = connection(alloc, 9, PEER, second)?;
     let coming = vec![in alloc; first, second]?;
     Ok(MemoryTcp::new(alloc, coming, numbers_of(alloc, accepts)?))
 }
 
-/// A connection that brings these bytes, so many in a read.
-fn connection(alloc: Global, step: usize, digits: &str) -> Result<Connection, Fail> {
+/// A connection from this peer that brings these bytes, so many in a read.
+pub fn connection(
+    alloc: Global,
+    step: usize,
+    peer: Peer,
+    digits: &str,
+) -> Result<Connection, Fail> {
     let bytes = Octets::from_vec(bytes_of(alloc, digits)?);
     Ok(Accepted {
         input: MemorySource::new(bytes, step.max(1), Vec::new(alloc)),
         output: MemorySink::new(alloc, 1000, Vec::new(alloc)),
         time: MemoryClock::new(Vec::new(alloc)),
-        peer: PEER,
+        peer,
     })
 }
 

@@ -6,6 +6,7 @@
 mod gates;
 mod hubs;
 mod objects;
+mod peers;
 mod runs;
 mod threads;
 mod two_listeners;
@@ -55,6 +56,7 @@ fn answer_to<R: Threads + Wait + Sync>(
         "workers" => threads::workers(rt, alloc, given),
         "failing_calls" => threads::failing_calls(rt, alloc, given),
         "failing_accepts" => threads::failing_accepts(rt, alloc, given),
+        "peers" => peers::peers(rt, alloc, given),
         "at_once" => two_listeners::at_once(rt, alloc),
         _ => Ok("no such kind".to_string(alloc)?),
     }

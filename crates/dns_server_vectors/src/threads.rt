@@ -7,6 +7,7 @@ use dns_keeper::MemoryKeeper;
 use dns_ports::{MemoryTcp, MemoryUdp, TcpPort};
 use dns_rows::two;
 use dns_server::{RegisterFault, ThreadServer};
+use dns_transport::NetError;
 use std::alloc::Global;
 use std::sync::Wait;
 use std::test::Fail;
@@ -120,15 +121,20 @@ pub fn failing_accepts<R: Threads + Wait + Sync>(
     ended(rt, alloc, &mut server)
 }
 
+/// How the workers ended, in words.
+pub fn how_ended(alloc: Global, ended: Result<(), NetError>) -> Result<String, Fail> {
+    match ended {
+        Ok(()) => Ok("well".to_string(alloc)?),
+        Err(fault) => Ok(format!(in alloc; "{fault}")?),
+    }
+}
+
 fn ended<R: Threads + Wait + Sync>(
     rt: &R,
     alloc: Global,
     server: &mut Server<MemoryTcp>,
 ) -> Result<String, Fail> {
-    let mut answers = match server.block_until_done(rt) {
-        Ok(()) => "well".to_string(alloc)?,
-        Err(fault) => format!(in alloc; "{fault}")?,
-    };
+    let mut answers = how_ended(alloc, server.block_until_done(rt))?;
     answers.push_str(" / ")?;
     put_taken(
         alloc,

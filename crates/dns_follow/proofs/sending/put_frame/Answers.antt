@@ -11,4 +11,4 @@ pub returns : goal.returns
 returns g c =
     let told = g.W.Sink.sink.told in
     all_written (told c.args.out.now) (told c.write_all.new.sink) c.as_slice.result.now c.append.new.out.items c.clear.new.self.items (framed c.args.frame.now) c.write_all.result
-    c.as_slice.ensures.value c.in_ok-append.ensures c.clear.ensures.items c.write_all.ensures.ok c.write_all.ensures.err c.write_all.ensures.cause
+    c.as_slice.ensures.value c.in_ok-append.ensures.ok c.clear.ensures.items c.write_all.ensures.ok c.write_all.ensures.err c.write_all.ensures.cause
