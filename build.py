@@ -10,7 +10,6 @@ and the kit's own rtlib.py, as rt does.
 import os
 import subprocess
 import sys
-import threading
 import time
 from concurrent.futures import FIRST_COMPLETED, ThreadPoolExecutor, wait
 from pathlib import Path
@@ -33,25 +32,6 @@ def behind(crates):
         above = [found[it.name] for it in crates if crate in it.deps]
         found[crate.name] = lines_of(crate.folder) + max(above, default=0)
     return found
-
-
-def sums_once(lib):
-    """Has the kit reckon a crate's sum once in a look at it, where each library above asks for it anew: seconds in place of minutes."""
-    plain, held = lib.Crate.stamp, threading.local()
-
-    def stamp(crate):
-        is_outer = getattr(held, "sums", None) is None
-        if is_outer:
-            held.sums = {}
-        try:
-            if crate.name not in held.sums:
-                held.sums[crate.name] = plain(crate)
-            return held.sums[crate.name]
-        finally:
-            if is_outer:
-                held.sums = None
-
-    lib.Crate.stamp = stamp
 
 
 def built(crate, jobs, log):
@@ -94,7 +74,7 @@ def main():
     log = folder / "out/build.log"
     log.parent.mkdir(exist_ok=True)
     lib.guarded()
-    sums_once(lib)
+    kit.sums_once(lib)
     top = lib.Crate(str(folder), str(TOP), {})
     held = lib.lock([*top.below(), top])
     lanes = int(number) if number.isdigit() and int(number) else len(os.sched_getaffinity(0))

@@ -4,6 +4,7 @@ import importlib.machinery
 import importlib.util
 import subprocess
 import sys
+import threading
 from pathlib import Path
 
 
@@ -26,3 +27,22 @@ def rtlib():
 def version():
     """The line by which the kit names itself."""
     return subprocess.run(["rt", "version"], stdout=subprocess.PIPE, text=True, check=True).stdout.strip()
+
+
+def sums_once(lib):
+    """Has the kit reckon a crate's sum once in a look at it, where each library above asks for it anew: seconds in place of minutes."""
+    plain, held = lib.Crate.stamp, threading.local()
+
+    def stamp(crate):
+        is_outer = getattr(held, "sums", None) is None
+        if is_outer:
+            held.sums = {}
+        try:
+            if crate.name not in held.sums:
+                held.sums[crate.name] = plain(crate)
+            return held.sums[crate.name]
+        finally:
+            if is_outer:
+                held.sums = None
+
+    lib.Crate.stamp = stamp

@@ -454,6 +454,7 @@ def main():
     lib, jobs = kit.rtlib(), os.environ.get("RT_JOBS", "")
     # (what it starts ends when this ends; its first call sets a signal's handler, which only the main thread may)
     lib.guarded()
+    kit.sums_once(lib)
     total, failed, harmless = 0, 0, 0
     # (the largest first)
     crates.sort(key=lambda it: -sum(path.stat().st_size for path in (TOP / "crates" / it).glob("src/**/*.rt")))
