@@ -1,7 +1,7 @@
 -- What arrives at a port, and what a call of a port or a hub does to what it tells of itself.
 use Rattle.std.specs.Prelude.{◌≡◌, ◌≤◌, ◌<◌, ◌+◌, ◌^◌, ℕ, List, [], ◌∷◌, take, Option, Some, None, IfSome, Result, Ok, Err, IfOk, OnOk, OnErr}
 use Rattle.dns_io.specs.declared.io_fault.IoFault.{IoFault}
-use Rattle.dns_io.specs.Told.{Told, Keeps, Takes, Grows, Rose}
+use Rattle.dns_io.specs.Told.{Told, Keeps, Takes, Grows, Rose, counted}
 use Rattle.dns_io.specs.declared.peer.Peer.{Peer}
 use Rattle.dns_edges.specs.Edges.{SourceOf, SinkOf, ClockOf, HasCause}
 use Rattle.dns_ports.specs.declared.port.Accepted.{Accepted}
@@ -56,7 +56,7 @@ pub record UdpTold : Type 0 where
   pub faults : ℕ
 
 -- one receive, and the room as it left it: the next datagram stands at its front, none exactly where none is left; after an error none
--- was taken
+-- was taken. It is counted once where it failed, and else not
 pub record Receives (before after : UdpTold) (room : List ℕ) (result : Result (Option Arrived) IoFault) : Type 0 where
   pub size : IfOk result (λ came. IfSome came (λ arrived. arrived.len ≤ 65535))
   pub moment : IfOk result (λ came. IfSome came (λ arrived. arrived.at < 2 ^ 47))
@@ -65,15 +65,15 @@ pub record Receives (before after : UdpTold) (room : List ℕ) (result : Result 
   pub kept : OnErr result (Keeps before.left after.left)
   pub unreceived : OnErr result (Keeps before.received after.received)
   pub unanswered : Keeps before.taken after.taken
-  pub cause : HasCause before.faults after.faults result
+  pub counted : after.faults ≡ counted before.faults result
 
--- one answer: it was taken; after an error none was
+-- one answer: it was taken; after an error none was. It is counted once where it failed, and else not
 pub record Answers (before after : UdpTold) (reply : Reply) (result : Result (Unit {0}) IoFault) : Type 0 where
   pub grows : OnOk result (Grows before.taken after.taken (reply ∷ []))
   pub kept : OnErr result (Keeps before.taken after.taken)
   pub unread : Keeps before.left after.left
   pub unreceived : Keeps before.received after.received
-  pub cause : HasCause before.faults after.faults result
+  pub counted : after.faults ≡ counted before.faults result
 
 -- a listener: the connections that are left, those that were accepted and those that were given back, each as it was then, in order,
 -- where they are told, how many were accepted and not given back, and how many calls failed

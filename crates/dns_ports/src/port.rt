@@ -19,8 +19,8 @@ pub struct Arrived {
 
 /// A socket of datagrams (RFC 768, RFC 1035 4.2.1).
 pub trait UdpPort {
-    /// What it tells of itself. A port may stop telling at any call, and then never tells again; its count of failed calls goes up to
-    /// `u64::MAX`.
+    /// What it tells of itself. A port may stop telling at any call, and then never tells again. Its count of failed calls counts each
+    /// that fails once, and no other, up to `u64::MAX`.
     ghost told: { Self → UdpTold };
 
     /// Puts the next datagram at the front of `room`; `None` means that the port is stopped, and comes exactly where nothing is

@@ -1,11 +1,10 @@
 -- The answer of serving.
-use Rattle.std.proofs.Common.{◌≡◌, ◌⊎◌, inl, inr, ⊎_elim, ◌+◌, ℕ, List, [], ◌∷◌, Result, Ok, Err, refl, subst, arith}
+use Rattle.std.proofs.Common.{◌≡◌, ◌⊎◌, inl, inr, ⊎_elim, ◌+◌, ◌∙◌, ℕ, zero, suc, List, [], ◌∷◌, Result, Ok, Err, refl, sym, ap, subst, arith}
 use Rattle.std.specs.Prelude.{IfErr, OnOk}
 use Rattle.std.specs.List.{AllByRecursion}
 use Rattle.dns_io.specs.declared.io_fault.IoFault.{IoFault}
 use Rattle.dns_io.specs.declared.io_fault.IoFault.TheVariants.{Failed, OutOfMemory}
-use Rattle.dns_io.specs.Told.{Rose}
-use Rattle.dns_server_core.specs.Books.{RoseBy}
+use Rattle.dns_io.specs.Told.{Rose, one_more}
 use Rattle.dns_transport.specs.declared.error.NetError.{NetError}
 use Rattle.dns_transport.specs.declared.error.NetError.TheVariants as net
 use Rattle.dns_keeper.specs.Keeping.{KeeperOf}
@@ -88,9 +87,14 @@ reading_ended (Ok done) until (Err Failed) a = absurd a
 reading_ended (Ok done) until (Err OutOfMemory) a = tt
 reading_ended (Err error) until reading a = tt
 
--- it rose by one at least, where it rose by more
-rose_at_least : (n before now : ℕ) → RoseBy (n + 1) before now → Rose before now
-rose_at_least n before now r = omega (arith, r)
+-- a count rose where one call failed, beside how many others
+rose_behind : (n before : ℕ) → Rose before (one_more (sockets.raised n before))
+rose_behind zero before = omega arith
+rose_behind (suc n) before = omega (arith, rose_behind n before)
+
+rose_at_least : (n before now : ℕ) → now ≡ sockets.raised (n + 1) before → Rose before now
+rose_at_least n before now is =
+    let more : suc n ≡ n + 1 = omega arith in subst (λ (k : ℕ). Rose before k) (ap (λ (k : ℕ). sockets.raised k before) more ∙ sym is) (rose_behind n before)
 
 -- a worker that failed
 module _ {K : Type 0} (keeper : KeeperOf K) where

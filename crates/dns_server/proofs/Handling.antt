@@ -1,5 +1,5 @@
 -- A worker of a socket, from datagram to datagram.
-use Rattle.std.proofs.Common.{◌≡◌, ◌≤◌, ◌+◌, ◌∙◌, ℕ, List, [], ◌∷◌, ◌++◌, map, Bool, true, false, Option, Some, None, Result, Ok, Err, refl, sym, ap, subst, arith}
+use Rattle.std.proofs.Common.{◌≡◌, ◌+◌, ◌∙◌, ℕ, zero, suc, List, [], ◌∷◌, ◌++◌, map, Bool, true, false, Option, Some, None, Result, Ok, Err, refl, sym, ap, subst, arith}
 use Rattle.std.proofs.lemmas.List.{append-nil, map-append}
 use Rattle.std.proofs.lemmas.List.Sums.{sum_by-append}
 use Rattle.std.proofs.lemmas.Grind.{flat_map-append}
@@ -7,14 +7,12 @@ use Rattle.std.specs.Prelude.{IsSome, OnOk, OnErr}
 use Rattle.std.specs.List.{sum_by}
 use Rattle.dns_io.specs.declared.io_fault.IoFault.{IoFault}
 use Rattle.dns_io.specs.declared.io_fault.IoFault.TheVariants.{Failed, OutOfMemory}
-use Rattle.dns_io.specs.Told.{Takes, Grows, Keeps, Rose}
+use Rattle.dns_io.specs.Told.{Takes, Grows, Keeps, counted, one_more}
 use Rattle.dns_io.proofs.ToldContents.{Keeps-Grows, Grows-Keeps, Grows-more, Grows-nothing, Takes-more, Takes-Keeps}
 use Rattle.dns_book.specs.declared.ask.Ask.{Ask}
 use Rattle.dns_book.specs.declared.ask.Settled.{Settled}
-use Rattle.dns_edges.specs.Edges.{CountsBy, HasCause}
 use Rattle.dns_ports.specs.Ports.{Datagram, UdpTold, GivesNext, GrowsBy}
-use Rattle.dns_server_core.specs.Books.{RoseBy}
-use Rattle.dns_server.specs.Sockets.{Fate, Answered, Refused, Skipped, Handled, Post, Steps, Run, Handles, Handling, WorksSocket, Ended, IsAtEnd, answer_to, answers_of, ask_for, failed_by, found_memory, outcome_of, taken_by, failures, unmet, unmet_by}
+use Rattle.dns_server.specs.Sockets.{Fate, Answered, Refused, Skipped, Handled, Post, Steps, Run, Handles, Handling, WorksSocket, Ended, IsAtEnd, answer_to, answers_of, ask_for, failed_by, found_memory, outcome_of, taken_by, failures, raised, unmet, unmet_by}
 
 -- a run, and one datagram more
 pub Run-more : {H : Type 0} (serves : H → Ask → Settled → H → Type 0) (skips : H → H → Type 0) (before : H) (handled : List Handled) (between : H) (one : Handled) (after : H)
@@ -45,25 +43,22 @@ Takes-kept (Some x) (Some y) k = sym k
 pub Grows-kept : {A : Type 0} (a b : Option (List A)) → Keeps a b → Grows a b []
 Grows-kept a b k = Keeps-Grows _ _ _ _ k (Grows-nothing b)
 
-rose_more : (a b c n k m : ℕ) → m ≡ n + k → RoseBy n a b → RoseBy k b c → RoseBy m a c
-rose_more a b c n k m e p q = omega (arith, e, p, q)
-
 pub sum_snoc : {A : Type 0} (f : A → ℕ) (xs : List A) (x : A) → sum_by f (xs ++ x ∷ []) ≡ sum_by f xs + f x
 sum_snoc f xs x = omega (arith, sum_by-append f xs (x ∷ []))
 
-rose_from : (a b c n : ℕ) → a ≤ b → RoseBy n b c → RoseBy n a c
-rose_from a b c n p q = omega (arith, p, q)
+-- so many failed calls are counted, and then so many more
+raised_twice : (n k m a : ℕ) → m ≡ n + k → raised k (raised n a) ≡ raised m a
+raised_twice n zero m a e = let same : n ≡ m = omega (arith, e) in ap (λ (i : ℕ). raised i a) same
+raised_twice n (suc k) m a e =
+    let both : raised k (raised n a) ≡ raised (n + k) a = raised_twice n k (n + k) a refl in
+    let more : suc (n + k) ≡ m = omega (arith, e) in ap one_more both ∙ ap (λ (i : ℕ). raised i a) more
 
--- where none of both failed, the count stood still
-calm_more : (a b c n k m : ℕ) → m ≡ n + k → (n ≡ 0 → b ≡ a) → (k ≡ 0 → c ≡ b) → m ≡ 0 → c ≡ a
-calm_more a b c n k m e p q none = q (omega (arith, e, none)) ∙ p (omega (arith, e, none))
+counted_more : (n k m a b c : ℕ) → m ≡ n + k → b ≡ raised n a → c ≡ raised k b → c ≡ raised m a
+counted_more n k m a b c e p q = q ∙ ap (λ (i : ℕ). raised k i) p ∙ raised_twice n k m a e
 
--- one call more failed
-rose_once : (a b c n : ℕ) → RoseBy n a b → Rose b c → RoseBy (n + 1) a c
-rose_once a b c n p q = omega (arith, p, q)
-
-rose_later : (a b c n : ℕ) → RoseBy n a b → b ≤ c → RoseBy n a c
-rose_later a b c n p q = omega (arith, p, q)
+-- one call that failed is counted
+raised_once : (a : ℕ) → one_more a ≡ raised 1 a
+raised_once a = let once : suc zero ≡ 1 = omega arith in ap (λ (i : ℕ). raised i a) once
 
 -- where memory was found, nothing wanted it
 none_unmet : (fate : Fate) → found_memory (outcome_of fate) ≡ true → unmet_by fate ≡ 0
@@ -77,38 +72,32 @@ pub answered : {H U : Type 0} (serves : H → Ask → Settled → H → Type 0) 
     → serves before.handler ask settled after.handler → (owed ≡ true → IsSome settled.reply) → OnErr result (owed ≡ true)
     → Keeps (socket before.port).left (socket after.port).left → Keeps (socket before.port).received (socket after.port).received
     → OnOk result (Grows (socket before.port).taken (socket after.port).taken (answer_to ask.source settled.reply)) → OnErr result (Keeps (socket before.port).taken (socket after.port).taken)
-    → HasCause (socket before.port).faults (socket after.port).faults result → Handles serves skips socket before after ask result
-answered serves skips socket before after ask settled owed (Ok done) step replied is_owed unread unreceived ok err cause = record {
+    → (socket after.port).faults ≡ counted (socket before.port).faults result → Handles serves skips socket before after ask result
+answered serves skips socket before after ask settled owed (Ok done) step replied is_owed unread unreceived ok err counts = record {
   fate = Answered settled;
   step = step;
   unread = unread;
   unreceived = unreceived;
   answered = ok;
-  rose = omega (arith, cause.later);
-  calm = λ none. cause.counts;
-  later = cause.later;
+  counted = counts;
   is = refl;
 }
-answered serves skips socket before after ask settled owed (Err Failed) step replied is_owed unread unreceived ok err cause = record {
+answered serves skips socket before after ask settled owed (Err Failed) step replied is_owed unread unreceived ok err counts = record {
   fate = Refused settled Failed;
   step = (step, replied is_owed);
   unread = unread;
   unreceived = unreceived;
   answered = Grows-kept _ _ err;
-  rose = cause.counts;
-  calm = λ none. absurd cc;
-  later = cause.later;
+  counted = counts ∙ raised_once _;
   is = refl;
 }
-answered serves skips socket before after ask settled owed (Err OutOfMemory) step replied is_owed unread unreceived ok err cause = record {
+answered serves skips socket before after ask settled owed (Err OutOfMemory) step replied is_owed unread unreceived ok err counts = record {
   fate = Refused settled OutOfMemory;
   step = (step, replied is_owed);
   unread = unread;
   unreceived = unreceived;
   answered = Grows-kept _ _ err;
-  rose = omega (arith, cause.later);
-  calm = λ none. cause.counts;
-  later = cause.later;
+  counted = counts;
   is = refl;
 }
 
@@ -119,7 +108,7 @@ module _ {H U : Type 0} (serves : H → Ask → Settled → H → Type 0) (skips
   -- between two datagrams, where the flag says whether memory was wanting
   pub record Going (handler : H) (port : U) (is_short : Bool) : Type 0 where
     pub work : Work handler port
-    pub calm : failures work.handled ≡ 0 → (socket port).faults ≡ (socket before.port).faults
+    pub counted : (socket port).faults ≡ raised (failures work.handled) (socket before.port).faults
     pub met : is_short ≡ false → unmet work.handled ≡ 0
 
   Work-begun : Work before.handler before.port
@@ -129,38 +118,35 @@ module _ {H U : Type 0} (serves : H → Ask → Settled → H → Type 0) (skips
     came = Takes-nothing _;
     noted = Grows-nothing _;
     answered = Grows-nothing _;
-    rose = omega arith;
-    later = omega arith;
   }
 
   pub Going-begun : Going before.handler before.port false
   unfolding Work-begun
-  Going-begun = record { work = Work-begun; calm = λ none. refl; met = λ e. refl }
+  Going-begun = record { work = Work-begun; counted = refl; met = λ e. refl }
 
   -- no datagram came, since memory was wanting
   pub Works-nothing : WorksSocket serves skips socket before before (Err OutOfMemory)
-  Works-nothing = record { work = Work-begun; ends = λ none. refl }
+  unfolding Work-begun
+  Works-nothing = record { work = Work-begun; ends = refl }
 
   -- a call of the port that gave nothing
   pub Work-later : (handler : H) (port now : U) → Work handler port → Takes (socket port).left (socket now).left [] → Keeps (socket port).received (socket now).received → Keeps (socket port).taken (socket now).taken
-      → (socket port).faults ≤ (socket now).faults → Work handler now
-  Work-later handler port now w none kept untaken later = record {
+      → Work handler now
+  Work-later handler port now w none kept untaken = record {
     handled = w.handled;
     run = w.run;
     came = subst (Takes (socket before.port).left (socket now).left) (append-nil (map (λ (x : Handled). x.datagram) w.handled))
         (Takes-more (socket before.port).left (socket port).left (socket now).left (map (λ (x : Handled). x.datagram) w.handled) [] w.came none);
     noted = Grows-Keeps _ _ _ _ w.noted kept;
     answered = Grows-Keeps _ _ _ _ w.answered untaken;
-    rose = rose_later _ _ _ _ w.rose later;
-    later = omega (arith, w.later, later);
   }
 
   -- a datagram came, and was handled
   Work-more : (handler : H) (port came : U) (d : Datagram) (handler' : H) (port' : U) (outcome : Result (Unit {0}) IoFault) → Work handler port
-      → Takes (socket port).left (socket came).left (d ∷ []) → Grows (socket port).received (socket came).received (d ∷ []) → Keeps (socket port).taken (socket came).taken → (socket port).faults ≤ (socket came).faults
+      → Takes (socket port).left (socket came).left (d ∷ []) → Grows (socket port).received (socket came).received (d ∷ []) → Keeps (socket port).taken (socket came).taken
       → (h : Handles serves skips socket (record { handler = handler; port = came }) (record { handler = handler'; port = port' }) (ask_for d) outcome)
       → Work handler' port'
-  Work-more handler port came d handler' port' outcome w takes grows untaken later h =
+  Work-more handler port came d handler' port' outcome w takes grows untaken h =
       let one : Handled = record { datagram = d; fate = h.fate } in record {
         handled = w.handled ++ one ∷ [];
         run = Run-more serves skips before.handler w.handled handler one handler' w.run h.step;
@@ -173,8 +159,6 @@ module _ {H U : Type 0} (serves : H → Ask → Settled → H → Type 0) (skips
         answered = rw (flat_map-append (λ (x : Handled). taken_by x.datagram.1 x.fate) w.handled (one ∷ []), append-nil (taken_by d.1 h.fate))
             (Grows-more (socket before.port).taken (socket port).taken (socket port').taken (answers_of w.handled) (taken_by d.1 h.fate) w.answered
             (Keeps-Grows (socket port).taken (socket came).taken (socket port').taken (taken_by d.1 h.fate) untaken h.answered));
-        rose = rose_more _ _ _ _ _ _ (sum_snoc (λ (x : Handled). failed_by x.fate) w.handled one) w.rose (rose_from _ _ _ _ later h.rose);
-        later = omega (arith, w.later, later, h.later);
       }
 
   -- and so for memory
@@ -187,8 +171,8 @@ module _ {H U : Type 0} (serves : H → Ask → Settled → H → Type 0) (skips
   unfolding Work-more
   Going-more handler port came d handler' port' is_short outcome is_short' g takes grows untaken still h flag =
       let one : Handled = record { datagram = d; fate = h.fate } in record {
-        work = Work-more handler port came d handler' port' outcome g.work takes grows untaken (omega (arith, still)) h;
-        calm = calm_more _ _ _ _ _ _ (sum_snoc (λ (x : Handled). failed_by x.fate) g.work.handled one) g.calm (λ none. h.calm none ∙ still);
+        work = Work-more handler port came d handler' port' outcome g.work takes grows untaken h;
+        counted = counted_more _ _ _ _ _ _ (sum_snoc (λ (x : Handled). failed_by x.fate) g.work.handled one) (still ∙ g.counted) h.counted;
         met = λ e. let f = flag e in omega (arith, sum_snoc (λ (x : Handled). unmet_by x.fate) g.work.handled one, g.met f.0, none_unmet h.fate (ap found_memory (sym h.is) ∙ f.1));
       }
 
@@ -199,27 +183,27 @@ module _ {H U : Type 0} (serves : H → Ask → Settled → H → Type 0) (skips
       → WorksSocket serves skips socket before (record { handler = handler; port = now }) result
   unfolding Work-later
   Works-done handler port now false (Ok done) g gives kept untaken still e = record {
-    work = Work-later handler port now g.work (ended_takes _ _ gives) kept untaken (omega (arith, still));
-    ends = (at_end _ _ gives, g.met refl, λ none. still ∙ g.calm none);
+    work = Work-later handler port now g.work (ended_takes _ _ gives) kept untaken;
+    ends = (at_end _ _ gives, g.met refl, still ∙ g.counted);
   }
   Works-done handler port now true (Ok done) g gives kept untaken still e = absurd e
   Works-done handler port now is_short (Err Failed) g gives kept untaken still e = absurd e
   Works-done handler port now is_short (Err OutOfMemory) g gives kept untaken still e = record {
-    work = Work-later handler port now g.work (ended_takes _ _ gives) kept untaken (omega (arith, still));
-    ends = λ none. still ∙ g.calm none;
+    work = Work-later handler port now g.work (ended_takes _ _ gives) kept untaken;
+    ends = still ∙ g.counted;
   }
 
   -- a receiving failed, or found no memory
   pub Works-failed : (handler : H) (port now : U) (is_short : Bool) (fault : IoFault) → Going handler port is_short
       → Keeps (socket port).left (socket now).left → Keeps (socket port).received (socket now).received → Keeps (socket port).taken (socket now).taken
-      → (socket port).faults ≤ (socket now).faults → CountsBy {T = Unit {0}} (socket port).faults (socket now).faults (Err fault)
+      → (socket now).faults ≡ counted {T = Unit {0}} (socket port).faults (Err fault)
       → WorksSocket serves skips socket before (record { handler = handler; port = now }) (Err fault)
   unfolding Work-later
-  Works-failed handler port now is_short Failed g unread kept untaken later counts = record {
-    work = Work-later handler port now g.work (Takes-kept _ _ unread) kept untaken later;
-    ends = rose_once _ _ _ _ g.work.rose counts;
+  Works-failed handler port now is_short Failed g unread kept untaken counts = record {
+    work = Work-later handler port now g.work (Takes-kept _ _ unread) kept untaken;
+    ends = counted_more (failures g.work.handled) 1 (failures g.work.handled + 1) (socket before.port).faults (socket port).faults (socket now).faults refl g.counted (counts ∙ raised_once (socket port).faults);
   }
-  Works-failed handler port now is_short OutOfMemory g unread kept untaken later counts = record {
-    work = Work-later handler port now g.work (Takes-kept _ _ unread) kept untaken later;
-    ends = λ none. counts ∙ g.calm none;
+  Works-failed handler port now is_short OutOfMemory g unread kept untaken counts = record {
+    work = Work-later handler port now g.work (Takes-kept _ _ unread) kept untaken;
+    ends = counts ∙ g.counted;
   }

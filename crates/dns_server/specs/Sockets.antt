@@ -1,15 +1,14 @@
 -- What the worker of a socket does with the datagrams that come in (RFC 1035 4.2.1).
-use Rattle.std.specs.Prelude.{◌≡◌, ◌⊎◌, ◌≤◌, ◌+◌, ℕ, Bool, true, false, List, [], ◌∷◌, map, Option, None, Some, IsSome, IfSome, Result, Ok, Err}
+use Rattle.std.specs.Prelude.{◌≡◌, ◌⊎◌, ◌+◌, ℕ, zero, suc, Bool, true, false, List, [], ◌∷◌, map, Option, None, Some, IsSome, IfSome, Result, Ok, Err}
 use Rattle.std.specs.List.{flat_map, sum_by}
 use Rattle.dns_io.specs.declared.io_fault.IoFault.{IoFault}
 use Rattle.dns_io.specs.declared.io_fault.IoFault.TheVariants.{Failed, OutOfMemory}
 use Rattle.dns_io.specs.declared.peer.Peer.{Peer}
 use Rattle.dns_io.specs.declared.peer.Protocol.TheVariants.{Udp}
-use Rattle.dns_io.specs.Told.{Grows, Keeps, Takes}
+use Rattle.dns_io.specs.Told.{Grows, Keeps, Takes, one_more}
 use Rattle.dns_book.specs.declared.ask.Ask.{Ask}
 use Rattle.dns_book.specs.declared.ask.Settled.{Settled}
 use Rattle.dns_ports.specs.Ports.{Datagram, Reply, UdpTold}
-use Rattle.dns_server_core.specs.Books.{RoseBy}
 
 -- what became of a datagram: it was settled, and the socket took its reply, where one was owed; or the socket refused the reply;
 -- or no memory was found to settle it
@@ -52,6 +51,11 @@ failed_by Skipped = 0
 -- how many replies the socket failed to take
 abbrev pub failures : List Handled → ℕ
 failures = sum_by (λ one. failed_by one.fate)
+
+-- a count of faults behind so many calls more that failed: each is counted once
+abbrev pub raised : ℕ → ℕ → ℕ
+raised zero before = before
+raised (suc count) before = one_more (raised count before)
 
 -- 1 where no memory was found, to settle the message or to take its reply
 abbrev pub unmet_by : Fate → ℕ
@@ -107,13 +111,9 @@ pub record Post (H P : Type 0) : Type 0 where
 
 -- the meanings of a handler, and what a socket tells
 module _ {H U : Type 0} (serves : H → Ask → Settled → H → Type 0) (skips : H → H → Type 0) (socket : U → UdpTold) (before after : Post H U) where
-  -- the count of the socket's faults rose by this many at least, or stands at its last value
-  abbrev pub Raised : ℕ → Type 0
-  Raised count = RoseBy count (socket before.port).faults (socket after.port).faults
-
-  -- where none of these many calls failed, it is what it was
-  abbrev pub IsCalmWithout : ℕ → Type 0
-  IsCalmWithout count = count ≡ 0 → (socket after.port).faults ≡ (socket before.port).faults
+  -- the socket counted so many calls that failed, and no other
+  abbrev pub Counts : ℕ → Type 0
+  Counts failed = (socket after.port).faults ≡ raised failed (socket before.port).faults
 
   -- one message is settled, and its sender answered, with this outcome
   pub record Handles (ask : Ask) (outcome : Result (Unit {0}) IoFault) : Type 0 where
@@ -122,9 +122,7 @@ module _ {H U : Type 0} (serves : H → Ask → Settled → H → Type 0) (skips
     pub unread : Keeps (socket before.port).left (socket after.port).left
     pub unreceived : Keeps (socket before.port).received (socket after.port).received
     pub answered : Grows (socket before.port).taken (socket after.port).taken (taken_by ask.source fate)
-    pub rose : Raised (failed_by fate)
-    pub calm : IsCalmWithout (failed_by fate)
-    pub later : (socket before.port).faults ≤ (socket after.port).faults
+    pub counted : Counts (failed_by fate)
     pub is : outcome ≡ outcome_of fate
 
   -- one step of the handler for each datagram received, in order; the socket took the replies, but those that it refused
@@ -134,15 +132,13 @@ module _ {H U : Type 0} (serves : H → Ask → Settled → H → Type 0) (skips
     pub came : Takes (socket before.port).left (socket after.port).left (map (λ one. one.datagram) handled)
     pub noted : Grows (socket before.port).received (socket after.port).received (map (λ one. one.datagram) handled)
     pub answered : Grows (socket before.port).taken (socket after.port).taken (answers_of handled)
-    pub rose : Raised (failures handled)
-    pub later : (socket before.port).faults ≤ (socket after.port).faults
 
-  -- why a worker ends, by its answer: nothing is left, and memory was found for all; or a receiving failed, which was counted beside each
-  -- reply that the socket failed to take. It ends by a receiving alone; where that did not fail, only such replies were counted
+  -- why a worker ends, by its answer: nothing is left, and memory was found for all; or a receiving failed; or memory was wanting. What
+  -- the socket counted is each reply that it failed to take, and the receiving that failed
   abbrev pub EndsBy : List Handled → Result (Unit {0}) IoFault → Type 0
-  EndsBy handled (Ok done) = IsAtEnd (socket after.port).left × (unmet handled ≡ 0) × IsCalmWithout (failures handled)
-  EndsBy handled (Err Failed) = Raised (failures handled + 1)
-  EndsBy handled (Err OutOfMemory) = IsCalmWithout (failures handled)
+  EndsBy handled (Ok done) = IsAtEnd (socket after.port).left × (unmet handled ≡ 0) × Counts (failures handled)
+  EndsBy handled (Err Failed) = Counts (failures handled + 1)
+  EndsBy handled (Err OutOfMemory) = Counts (failures handled)
 
   -- what a socket's worker did, with its answer
   pub record WorksSocket (result : Result (Unit {0}) IoFault) : Type 0 where

@@ -1,8 +1,7 @@
 //! The worker of a socket.
 
 ghost use Rattle.std.specs.Prelude.{◌≡◌, ◌≤◌, ◌<◌, ◌^◌, length, take, true, false, if◌then◌else◌, OnOk, IfOk, OnErr, IsErrOf, Some, None};
-ghost use Rattle.dns_io.specs.Told.{Grows, Keeps};
-ghost use Rattle.dns_edges.specs.Edges.{HasCause};
+ghost use Rattle.dns_io.specs.Told.{Grows, Keeps, counted};
 ghost use Rattle.dns_server.specs.Sockets.{Ended, Handles, WorksSocket, answer_to, ask_for, found_memory};
 
 use dns_book::{AccessControl, LentAsk};
@@ -150,7 +149,7 @@ fn answer<U: UdpPort>(socket: &mut U, to: Peer, is_owed: bool, reply: &[u8]) -> 
     ensures owed { OnErr result (is_owed ≡ true) }
     ensures left { Keeps (U.told socket.old).left (U.told socket.new).left }
     ensures received { Keeps (U.told socket.old).received (U.told socket.new).received }
-    ensures cause { HasCause (U.told socket.old).faults (U.told socket.new).faults result }
+    ensures counted { (U.told socket.new).faults ≡ counted (U.told socket.old).faults result }
 {
     if is_owed {
         return socket.answer(to, reply);

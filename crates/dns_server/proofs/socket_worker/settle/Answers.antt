@@ -16,4 +16,4 @@ returns g c =
     c.source_of.ensures
     (subst (λ (r : Option (List ℕ)). OnOk c.answer.result (Grows (g.U.UdpPort.told c.args.socket.now).taken (g.U.UdpPort.told c.answer.new.socket).taken (answer_to c.source_of.result r)))
     (plain_reply _ _ _ _ _ c.clear.ensures.items c.as_slice.ensures.value into) c.answer.ensures.ok))
-    c.answer.ensures.err c.answer.ensures.cause
+    c.answer.ensures.err c.answer.ensures.counted
