@@ -7,9 +7,9 @@ use Rattle.dns_edges.specs.Edges.{Around}
 use Rattle.dns_ports.specs.declared.hub.Opening.{Opening}
 use Rattle.dns_ports.specs.Ports.{UdpTold, TcpTold, HubTold, IsFreshSocket, IsFreshListener, ClosesSocket, ClosesListener}
 use Rattle.dns_ticket_lock.specs.declared.view.Terms.{Terms}
-use Rattle.dns_ticket_lock.specs.Passes.{BookSeen, PassSeen, AreNew}
+use Rattle.dns_ticket_lock.specs.Passes.{BookSeen, PassSeen, InOrder, AreNew}
 use Rattle.dns_server.specs.declared.worker.Worker.{Worker}
-use Rattle.dns_server.specs.Servers.{ServerSeen, TakesOn, Matches, MatchesOnce, RoseAt, their_ports}
+use Rattle.dns_server.specs.Servers.{ServerSeen, TakesOn, Matches, MatchesOnce, RoseAt, their_passes, their_ports}
 use Rattle.dns_command.specs.Hubs.{EndsWith, AnyFault}
 use Rattle.dns_command.specs.Serving.{IsNewWorker}
 use Rattle.dns_command.specs.ServingParts.{IsManned, IsSameServer, Registers, OpensAll, IsCalm}
@@ -20,12 +20,18 @@ all_snoc : {X : Type 0} (P : X → Type 0) (xs : List X) (x : X) → AllByRecurs
 all_snoc P [] x h p = (p, tt)
 all_snoc P (y ∷ ys) x h p = (h.0, all_snoc P ys x h.1 p)
 
+-- the pass of the last worker comes before those of none
+last_before : {P : Type 0} (workers : List (Worker P)) (worker : Worker P) (left : List PassSeen) → their_passes (workers ++ worker ∷ []) ++ left ≡ their_passes workers ++ worker.pass ∷ left
+last_before [] worker left = refl
+last_before (w ∷ workers) worker left = ap (λ (l : List PassSeen). w.pass ∷ l) (last_before workers worker left)
+
 -- what is known of a worker that was taken on
 record IsTaken {P : Type 0} (t : Terms) (limit : ℕ) (Fresh : P → Type 0) (free left : List PassSeen) (workers now : List (Worker P)) : Type 0 where
   new : AreNew t left
   each : AllByRecursion (IsNewWorker t limit Fresh) now
   more : length now ≡ length workers + 1
   fewer : length free ≡ length left + 1
+  order : their_passes workers ++ free ≡ their_passes now ++ left
 
 taken : {P : Type 0} (t : Terms) (limit : ℕ) (Fresh : P → Type 0) (port : P) (free left : List PassSeen) (workers now : List (Worker P))
     → AreNew t free → AllByRecursion (IsNewWorker t limit Fresh) workers → Fresh port → TakesOn port limit free workers left now → IsTaken t limit Fresh free left workers now
@@ -39,16 +45,21 @@ taken {P} t limit Fresh port free left workers now new each fresh_port takes =
           (all_snoc (IsNewWorker t limit Fresh) workers worker each (record { terms = head.0; account = head.1; limit = refl; port = fresh_port }));
       more = ap length takes.last ∙ length-append workers (worker ∷ []);
       fewer = let h = ap length takes.first in omega (arith, h);
+      order = ap (λ (l : List PassSeen). their_passes workers ++ l) takes.first ∙ sym (ap (λ (l : List (Worker P)). their_passes l ++ left) takes.last ∙ last_before workers worker left);
     }
 
--- a socket is registered
-pub socket_taken : {U T R W C : Type 0} (F : U → UdpTold) (G : T → TcpTold R W C) (limit : ℕ) (s t : ServerSeen U T) (port : U) → IsManned F G limit s → IsFreshSocket (F port)
+-- a socket is registered, where there is no listener yet
+pub socket_taken : {U T R W C : Type 0} (F : U → UdpTold) (G : T → TcpTold R W C) (limit : ℕ) (s t : ServerSeen U T) (port : U) → IsManned F G limit s → s.listeners ≡ [] → IsFreshSocket (F port)
     → TakesOn port 0 s.free s.sockets t.free t.sockets → t.book ≡ s.book → t.listeners ≡ s.listeners → IsManned F G limit t × (length t.sockets ≡ length s.sockets + 1)
-socket_taken {T = T} F G limit s t port m fresh_port takes book others =
+socket_taken {T = T} F G limit s t port m none fresh_port takes book others =
     let k = taken s.book.terms 0 (λ p. IsFreshSocket (F p)) port s.free t.free s.sockets t.sockets m.free m.sockets fresh_port takes in (
       record {
         free = subst (λ (b : BookSeen). AreNew b.terms t.free) (sym book) k.new;
         seats = let a = k.more in let b = k.fewer in let c = ap length others in let d = m.seats in let e = ap (λ (b : BookSeen). b.terms.seats) book in omega (arith, a, b, c, d, e);
+        order = subst (λ (b : BookSeen). InOrder b.id (their_passes t.sockets ++ (their_passes t.listeners ++ t.free))) (sym book)
+            (subst (λ (l : List PassSeen). InOrder s.book.id l)
+            (ap (λ (l : List (Worker T)). their_passes s.sockets ++ (their_passes l ++ s.free)) none
+            ∙ (k.order ∙ ap (λ (l : List (Worker T)). their_passes t.sockets ++ (their_passes l ++ t.free)) (sym (others ∙ none)))) m.order);
         sockets = subst (λ (b : BookSeen). AllByRecursion (IsNewWorker b.terms 0 (λ p. IsFreshSocket (F p))) t.sockets) (sym book) k.each;
         listeners = subst (λ (b : BookSeen). AllByRecursion (IsNewWorker b.terms limit (λ p. IsFreshListener (G p))) t.listeners) (sym book)
             (subst (λ (l : List (Worker T)). AllByRecursion (IsNewWorker s.book.terms limit (λ p. IsFreshListener (G p))) l) (sym others) m.listeners);
@@ -64,6 +75,9 @@ listener_taken {U = U} F G limit s t port m fresh_port takes book others =
       record {
         free = subst (λ (b : BookSeen). AreNew b.terms t.free) (sym book) k.new;
         seats = let a = k.more in let b = k.fewer in let c = ap length others in let d = m.seats in let e = ap (λ (b : BookSeen). b.terms.seats) book in omega (arith, a, b, c, d, e);
+        order = subst (λ (b : BookSeen). InOrder b.id (their_passes t.sockets ++ (their_passes t.listeners ++ t.free))) (sym book)
+            (subst (λ (l : List PassSeen). InOrder s.book.id l)
+            (ap (λ (l : List PassSeen). their_passes s.sockets ++ l) k.order ∙ ap (λ (l : List (Worker U)). their_passes l ++ (their_passes t.listeners ++ t.free)) (sym others)) m.order);
         sockets = subst (λ (b : BookSeen). AllByRecursion (IsNewWorker b.terms 0 (λ p. IsFreshSocket (F p))) t.sockets) (sym book)
             (subst (λ (l : List (Worker U)). AllByRecursion (IsNewWorker s.book.terms 0 (λ p. IsFreshSocket (F p))) l) (sym others) m.sockets);
         listeners = subst (λ (b : BookSeen). AllByRecursion (IsNewWorker b.terms limit (λ p. IsFreshListener (G p))) t.listeners) (sym book) k.each;

@@ -33,7 +33,7 @@ use Rattle.dns_book.specs.Access.{Access}
 use Rattle.dns_ticket_lock.specs.declared.view.Account.{Account}
 use Rattle.dns_ticket_lock.specs.declared.view.Terms.{Terms}
 use Rattle.dns_ticket_lock.specs.Lists.{total}
-use Rattle.dns_ticket_lock.specs.Passes.{PassSeen, AreNew, pass_faults}
+use Rattle.dns_ticket_lock.specs.Passes.{BookId, PassSeen, AreNew, pass_faults}
 use Rattle.dns_ticket_lock.proofs.Totals.{total_append}
 use Rattle.dns_server.specs.declared.worker.Worker.{Worker}
 use Rattle.dns_server.specs.Servers.{their_ports, their_passes}
@@ -270,10 +270,10 @@ free_total t (p ∷ ps) new =
     let others : total pass_faults ps ≡ 0 = free_total t ps (λ k. new (suc k)) in
     omega (arith, one, others)
 
-module _ {K U T R W C : Type 0} (m : Meanings K U T R W C) (t : Terms) (access : Access) (last : SeenOf K) where
+module _ {K U T R W C : Type 0} (m : Meanings K U T R W C) (book : BookId) (t : Terms) (access : Access) (last : SeenOf K) where
   -- nobody worked
   unworked_still : (limit : ℕ) (crew : Crew U T) (free : List PassSeen) → AllByRecursion (IsNewSocket m.socket t) crew.sockets → AllByRecursion (IsNewListener m.listener.told t limit) crew.listeners → AreNew t free
-      → ClosedForAll m t (free ++ passes_of crew) last → (m.keeper.told last.keeper).faults ≡ t.start
+      → ClosedForAll m book t (free ++ passes_of crew) last → (m.keeper.told last.keeper).faults ≡ t.start
   unworked_still limit crew free sockets listeners others at_end =
       let a = new_total t 0 (λ port. IsFreshSocket (m.socket port)) crew.sockets sockets in
       let b = new_total t limit (λ port. IsFreshListener (m.listener.told port)) crew.listeners listeners in
@@ -284,16 +284,16 @@ module _ {K U T R W C : Type 0} (m : Meanings K U T R W C) (t : Terms) (access :
       omega (arith, a, b, c, all, both, rise)
 
   -- what was served so far counted nothing where no update got ServFail
-  stopped_still : (limit : ℕ) (before after : Crew U T) (free : List PassSeen) (shared : SharesPasses m t limit access before after free) (worked : (after ≡ before) ⊎ Works m access before after)
-      → ClosedForAll m t (free ++ passes_of after) last → failed_so_far m access before after worked ≡ 0 → (m.keeper.told last.keeper).faults ≡ t.start
+  stopped_still : (limit : ℕ) (before after : Crew U T) (free : List PassSeen) (shared : SharesPasses m book t limit access before after free) (worked : (after ≡ before) ⊎ Works m access before after)
+      → ClosedForAll m book t (free ++ passes_of after) last → failed_so_far m access before after worked ≡ 0 → (m.keeper.told last.keeper).faults ≡ t.start
   stopped_still limit before after free shared (inl same) at_end none =
-      unworked_still limit before free shared.new_sockets shared.new_listeners shared.new_free (subst (λ (c : Crew U T). ClosedForAll m t (free ++ passes_of c) last) same at_end)
+      unworked_still limit before free shared.new_sockets shared.new_listeners shared.new_free (subst (λ (c : Crew U T). ClosedForAll m book t (free ++ passes_of c) last) same at_end)
   stopped_still limit before after free shared (inr worked) at_end none =
       still_failed_updates m.keeper access m.socket m.listener before.sockets after.sockets worked.sockets before.listeners after.listeners worked.listeners t last free at_end.closed
       (free_total t free shared.new_free) (new_total t 0 (λ port. IsFreshSocket (m.socket port)) before.sockets shared.new_sockets) (new_total t limit (λ port. IsFreshListener (m.listener.told port)) before.listeners shared.new_listeners) none
 
   -- nor did what was served to its end
-  served_still : (listening : Listening) (before after : Crew U T) → IsNewCrew m listening t before → (worked : WorksToItsEnd m access before after) → ClosedForAll m t (passes_of after) last
+  served_still : (listening : Listening) (before after : Crew U T) → IsNewCrew m listening book t before → (worked : WorksToItsEnd m access before after) → ClosedForAll m book t (passes_of after) last
       → failed_updates m access before after worked ≡ 0 → (m.keeper.told last.keeper).faults ≡ t.start
   served_still listening before after new worked at_end none =
       still_failed_updates m.keeper access m.socket m.listener before.sockets after.sockets worked.sockets before.listeners after.listeners worked.listeners t last [] at_end.closed
@@ -334,6 +334,7 @@ module _ {K U T R W C : Type 0} (m : Meanings K U T R W C) (words : List (List �
     service = service;
     first = first;
     last = last;
+    book = served.book;
     opened = served.opened;
     crew = served.crew;
     begun = begins first o;
@@ -342,7 +343,7 @@ module _ {K U T R W C : Type 0} (m : Meanings K U T R W C) (words : List (List �
     closed = served.closed;
     few = record {
       few = few_failed_updates m.keeper _ m.socket m.listener _ _ served.ports.worked.sockets _ _ served.ports.worked.listeners _ last served.closed.closed;
-      still = served_still m _ _ last service.listening served.opened served.crew served.ports.new served.ports.worked served.closed;
+      still = served_still m served.book _ _ last service.listening served.opened served.crew served.ports.new served.ports.worked served.closed;
     };
     left = ap m.keeper.told (sym is);
     text = refl;
@@ -356,6 +357,7 @@ module _ {K U T R W C : Type 0} (m : Meanings K U T R W C) (words : List (List �
     service = service;
     first = first;
     last = last;
+    book = leaves.book;
     opened = leaves.opened;
     crew = leaves.crew;
     free = leaves.free;
@@ -363,7 +365,7 @@ module _ {K U T R W C : Type 0} (m : Meanings K U T R W C) (words : List (List �
     shared = leaves.shared;
     read = leaves.read;
     closed = leaves.closed;
-    still = stopped_still m _ _ last _ leaves.opened leaves.crew leaves.free leaves.shared leaves.shared.worked leaves.closed;
+    still = stopped_still m leaves.book _ _ last _ leaves.opened leaves.crew leaves.free leaves.shared leaves.shared.worked leaves.closed;
     left = ap m.keeper.told is;
     cause = leaves.cause;
   })

@@ -8,7 +8,7 @@ use Rattle.dns_book.specs.Book.{SeenOf}
 use Rattle.dns_ports.specs.Ports.{UdpTold, TcpTold, HubTold, IsFreshSocket, IsFreshListener}
 use Rattle.dns_ticket_lock.specs.declared.view.Terms.{Terms}
 use Rattle.dns_ticket_lock.specs.Naming.{terms_at}
-use Rattle.dns_ticket_lock.specs.Passes.{BookSeen, PassSeen, AreNew, AreAll, ArePasses, ClosedFor}
+use Rattle.dns_ticket_lock.specs.Passes.{BookSeen, PassSeen, InOrder, AreNew, AreAll, ArePasses, ClosedFor}
 use Rattle.dns_server.specs.declared.worker.Worker.{Worker}
 use Rattle.dns_server.specs.Servers.{ServerSeen, IsServer, Matches, MatchesOnce, RoseAt, IsDone, IsReadOut, all_passes, their_passes, their_ports}
 use Rattle.dns_command.specs.declared.status.Status.{Status}
@@ -26,11 +26,13 @@ no_items : {X : Type 0} (xs : List X) → length xs ≡ 0 → xs ≡ []
 no_items [] e = refl
 no_items (x ∷ xs) e = absurd cc
 
--- a new server's passes are all free
+-- a new server's passes are all free, in order
 pub new_server : {U T R W C : Type 0} (F : U → UdpTold) (G : T → TcpTold R W C) (limit : ℕ) (s : ServerSeen U T) → ArePasses s.book s.free → s.sockets ≡ [] → s.listeners ≡ [] → IsManned F G limit s
 new_server {U} {T} F G limit s passes none_s none_l = record {
   free = passes.new;
   seats = let a = passes.many in let b = ap length none_s in let c = ap length none_l in omega (arith, a, b, c);
+  order = subst (λ (l : List PassSeen). InOrder s.book.id l)
+      (sym (ap (λ (l : List (Worker U)). their_passes l ++ (their_passes s.listeners ++ s.free)) none_s ∙ ap (λ (l : List (Worker T)). their_passes l ++ s.free) none_l)) passes.order;
   sockets = subst (λ (l : List (Worker U)). AllByRecursion (IsNewWorker s.book.terms 0 (λ p. IsFreshSocket (F p))) l) (sym none_s) tt;
   listeners = subst (λ (l : List (Worker T)). AllByRecursion (IsNewWorker s.book.terms limit (λ p. IsFreshListener (G p))) l) (sym none_l) tt;
 }
@@ -54,11 +56,16 @@ module _ {K U T R W C : Type 0} (m : Meanings K U T R W C) where
   served_well hub until listening s0 s1 s2 none_s none_l seats manned same count_s count_l server matched_s matched_l done_s done_l opens read =
       let zs = ap length none_s in
       let zl = ap length none_l in
+      let none_free : s1.free ≡ [] = no_items s1.free (let q = manned.seats in let b = ap (λ (x : BookSeen). x.terms.seats) same.book in omega (arith, zs, zl, count_s, count_l, seats, q, b)) in
       record {
         crew = crew_of s1;
         new = record {
           socket_count = omega (arith, zs, count_s);
           listener_count = omega (arith, zl, count_l);
+          order = subst (λ (b : BookSeen). InOrder b.id (passes_of (crew_of s1))) same.book
+              (subst (λ (l : List PassSeen). InOrder s1.book.id l)
+              (ap (λ (l : List PassSeen). their_passes s1.sockets ++ (their_passes s1.listeners ++ l)) none_free ∙ ap (λ (l : List PassSeen). their_passes s1.sockets ++ l) (append-nil (their_passes s1.listeners)))
+              manned.order);
           new_sockets = subst (λ (b : BookSeen). AllByRecursion (IsNewWorker b.terms 0 FreshSocket) s1.sockets) same.book manned.sockets;
           new_listeners = subst (λ (b : BookSeen). AllByRecursion (IsNewWorker b.terms listening.limit FreshListener) s1.listeners) same.book manned.listeners;
         };
@@ -68,16 +75,19 @@ module _ {K U T R W C : Type 0} (m : Meanings K U T R W C) where
           sockets_done = done_s;
           listeners_done = done_l;
         };
-        free = server.free ∙ no_items s1.free (let q = manned.seats in let b = ap (λ (x : BookSeen). x.terms.seats) same.book in omega (arith, zs, zl, count_s, count_l, seats, q, b));
+        free = server.free ∙ none_free;
         opens = opens;
         read = read;
       }
 
   -- the workers that were taken on, with these passes of no worker
   shared_by : (limit : ℕ) (s0 s1 : ServerSeen U T) (after : Crew U T) (free : List PassSeen) → IsManned m.socket m.listener.told limit s1 → IsSameServer s0 s1 → free ≡ s1.free
-      → (after ≡ crew_of s1) ⊎ Works m s0.access (crew_of s1) after → SharesPasses m s0.book.terms limit s0.access (crew_of s1) after free
+      → (after ≡ crew_of s1) ⊎ Works m s0.access (crew_of s1) after → SharesPasses m s0.book.id s0.book.terms limit s0.access (crew_of s1) after free
   shared_by limit s0 s1 after free manned same is worked = record {
     many = let a = manned.seats in let b = ap (λ (x : BookSeen). x.terms.seats) same.book in let c = ap length is in omega (arith, a, b, c);
+    order = subst (λ (b : BookSeen). InOrder b.id (passes_of (crew_of s1) ++ free)) same.book
+        (subst (λ (l : List PassSeen). InOrder s1.book.id l)
+        (sym (append_assoc (their_passes s1.sockets) (their_passes s1.listeners) s1.free) ∙ ap (λ (l : List PassSeen). passes_of (crew_of s1) ++ l) (sym is)) manned.order);
     new_sockets = subst (λ (b : BookSeen). AllByRecursion (IsNewWorker b.terms 0 FreshSocket) s1.sockets) same.book manned.sockets;
     new_listeners = subst (λ (b : BookSeen). AllByRecursion (IsNewWorker b.terms limit FreshListener) s1.listeners) same.book manned.listeners;
     new_free = subst (λ (b : BookSeen). AreNew b.terms free) same.book (subst (λ (l : List PassSeen). AreNew s1.book.terms l) (sym is) manned.free);
@@ -110,7 +120,7 @@ module _ {K U T R W C : Type 0} (m : Meanings K U T R W C) where
 
   pub served_ports : (a b c : HubTold U T) (until : Around SourceTold) (listening : Listening) (s0 s2 : ServerSeen U T)
       → (w : ServesWell m (over a b) until listening s0 s2) → TakesBack (over b c) s2 (Faulty s2)
-      → ServesPorts m (over a c) listening s0.book.terms s0.access w.crew (crew_of s2)
+      → ServesPorts m (over a c) listening s0.book.id s0.book.terms s0.access w.crew (crew_of s2)
   served_ports a b c until listening s0 s2 w back = record {
     opened = Grows-Keeps a.openings b.openings c.openings (openings_of listening) w.opens.opened back.opened;
     new = w.new;
@@ -207,21 +217,20 @@ module _ {K U T R W C : Type 0} (m : Meanings K U T R W C) (a b c : HubTold U T)
   abbrev terms_now : Terms
   terms_now = terms_at m.keeper first (seats_of service.listening)
 
-  same_terms : s2.book.terms ≡ terms_now
-  same_terms = ap (λ (x : BookSeen). x.terms) registers.same.book ∙ terms
-
-  -- the terms are those of the book that was shared
-  closed_with : (passes : List PassSeen) → all_passes (emptied s2) ≡ passes → ClosedForAll m terms_now passes last
-  closed_with passes is = subst (λ (t : Terms). ClosedForAll m t passes last) same_terms
-      (subst (λ (l : List PassSeen). ClosedForAll m s2.book.terms l last) is (record { book = s2.book.id; all = all; closed = closed_for }))
+  -- it is the book that was shared, with its terms
+  closed_with : (passes : List PassSeen) → all_passes (emptied s2) ≡ passes → ClosedForAll m s0.book.id terms_now passes last
+  closed_with passes is = subst (λ (t : Terms). ClosedForAll m s0.book.id t passes last) terms
+      (subst (λ (x : BookSeen). ClosedForAll m x.id x.terms passes last) registers.same.book
+      (subst (λ (l : List PassSeen). ClosedForAll m s2.book.id s2.book.terms l last) is (record { all = all; closed = closed_for })))
 
   pub serves_book : ServesWell m (over a b) until service.listening s0 s2 → ServesBook m (over a c) until service first last
   serves_book w = record {
+    book = s0.book.id;
     opened = w.crew;
     crew = crew_of s2;
     ports =
-        subst (λ (t : Terms). ServesPorts m (over a c) service.listening t (access_of service.options) w.crew (crew_of s2)) terms
-        (subst (λ (x : Access). ServesPorts m (over a c) service.listening s0.book.terms x w.crew (crew_of s2)) let_in
+        subst (λ (t : Terms). ServesPorts m (over a c) service.listening s0.book.id t (access_of service.options) w.crew (crew_of s2)) terms
+        (subst (λ (x : Access). ServesPorts m (over a c) service.listening s0.book.id s0.book.terms x w.crew (crew_of s2)) let_in
         (served_ports m a b c until service.listening s0 s2 w back));
     read = w.read;
     closed = closed_with _ (passes_back s2 ∙ ap (λ (l : List PassSeen). l ++ passes_of (crew_of s2)) w.free);
@@ -235,12 +244,13 @@ module _ {K U T R W C : Type 0} (m : Meanings K U T R W C) (a b c : HubTold U T)
   pub leaves_book : (s : Status) → HasCrew m service.listening.limit s0 s2 → MayBeRead until (over a b) service.listening
       → IsCauseSoFar a.faults b.faults (HasFaultyPort m.socket m.listener.told s2) s → LeavesBook m (over a c) until service first s last
   leaves_book s crew read cause = record {
+    book = s0.book.id;
     opened = crew.opened;
     crew = crew_of s2;
     free = s2.free;
     shared =
-        subst (λ (t : Terms). SharesPasses m t service.listening.limit (access_of service.options) crew.opened (crew_of s2) s2.free) terms
-        (subst (λ (x : Access). SharesPasses m s0.book.terms service.listening.limit x crew.opened (crew_of s2) s2.free) let_in crew.shared);
+        subst (λ (t : Terms). SharesPasses m s0.book.id t service.listening.limit (access_of service.options) crew.opened (crew_of s2) s2.free) terms
+        (subst (λ (x : Access). SharesPasses m s0.book.id s0.book.terms service.listening.limit x crew.opened (crew_of s2) s2.free) let_in crew.shared);
     read = may_be_read read;
     closed = closed_with _ (passes_back s2);
     cause = cause_at_end m a b c s0 s2 s registers back cause;

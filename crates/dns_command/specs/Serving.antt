@@ -16,7 +16,7 @@ use Rattle.dns_ports.specs.Ports.{UdpTold, TcpTold, HubTold, IsFreshSocket, IsFr
 use Rattle.dns_ticket_lock.specs.declared.view.Terms.{Terms}
 use Rattle.dns_ticket_lock.specs.Naming.{terms_at}
 use Rattle.dns_ticket_lock.specs.Rule.{fresh}
-use Rattle.dns_ticket_lock.specs.Passes.{BookId, PassSeen, AreNew, AreAll, ClosedFor}
+use Rattle.dns_ticket_lock.specs.Passes.{BookId, PassSeen, InOrder, AreNew, AreAll, ClosedFor}
 use Rattle.dns_server.specs.declared.worker.Worker.{Worker}
 use Rattle.dns_server.specs.Servers.{ServedSocket, ServedListener, EndsReading, Matches, IsDone, IsReadOut, their_ports, their_passes}
 use Rattle.dns_server.specs.FailedUpdates.{failed_by_socket, failed_by_listener, added_up}
@@ -96,10 +96,11 @@ module _ {K U T R W C : Type 0} (m : Meanings K U T R W C) where
   IsPortCause hub sockets listeners status.OutOfMemory = (hub.after.faults ≡ hub.before.faults) ⊎ TakesFaulty m hub sockets listeners
   IsPortCause hub sockets listeners _ = ⊥
 
-  -- as many as the words ask for, and each is new
-  pub record IsNewCrew (listening : Listening) (t : Terms) (crew : Crew U T) : Type 0 where
+  -- as many as the words ask for, and each is new; their passes are of the book, and bear the numbers from 1 on in this order
+  pub record IsNewCrew (listening : Listening) (book : BookId) (t : Terms) (crew : Crew U T) : Type 0 where
     pub socket_count : length crew.sockets ≡ sockets_of listening
     pub listener_count : length crew.listeners ≡ listeners_of listening
+    pub order : InOrder book (passes_of crew)
     pub new_sockets : AllByRecursion (IsNewSocket m.socket t) crew.sockets
     pub new_listeners : AllByRecursion (IsNewListener m.listener.told t listening.limit) crew.listeners
 
@@ -140,26 +141,27 @@ module _ {K U T R W C : Type 0} (m : Meanings K U T R W C) where
 
   -- the openings of the hub are those of the words, and no other; each port had a worker, and the hub has it back. Its count of faults
   -- is what it was, but for one of these ports
-  pub record ServesPorts (hub : Around (HubTold U T)) (listening : Listening) (t : Terms) (access : Access) (before after : Crew U T) : Type 0 where
+  pub record ServesPorts (hub : Around (HubTold U T)) (listening : Listening) (book : BookId) (t : Terms) (access : Access) (before after : Crew U T) : Type 0 where
     pub opened : Grows hub.before.openings hub.after.openings (openings_of listening)
-    pub new : IsNewCrew listening t before
+    pub new : IsNewCrew listening book t before
     pub worked : WorksToItsEnd access before after
     pub sockets_back : Grows hub.before.closed_udp hub.after.closed_udp (their_ports after.sockets)
     pub listeners_back : Grows hub.before.closed_tcp hub.after.closed_tcp (their_ports after.listeners)
     pub counted : (hub.after.faults ≡ hub.before.faults) ⊎ TakesFaulty m hub (their_ports after.sockets) (their_ports after.listeners)
 
-  -- the workers that were taken on, which were new at first, and the passes of none, which are new still; they are as many as seats. The
-  -- workers did their work, or were not run
-  pub record SharesPasses (t : Terms) (limit : ℕ) (access : Access) (before after : Crew U T) (free : List PassSeen) : Type 0 where
+  -- the workers that were taken on, which were new at first, and the passes of none, which are new still; they are as many as seats. All
+  -- these passes are of the book, and bear the numbers from 1 on: first those of the workers, in order, then those of none. The workers did
+  -- their work, or were not run
+  pub record SharesPasses (book : BookId) (t : Terms) (limit : ℕ) (access : Access) (before after : Crew U T) (free : List PassSeen) : Type 0 where
     pub many : length free + (length before.sockets + length before.listeners) ≡ t.seats
+    pub order : InOrder book (passes_of before ++ free)
     pub new_sockets : AllByRecursion (IsNewSocket m.socket t) before.sockets
     pub new_listeners : AllByRecursion (IsNewListener m.listener.told t limit) before.listeners
     pub new_free : AreNew t free
     pub worked : (after ≡ before) ⊎ Works access before after
 
   -- the book was closed for these passes, which are all of it: one with each number from 1 to the seats
-  pub record ClosedForAll (t : Terms) (passes : List PassSeen) (last : SeenOf K) : Type 0 where
-    pub book : BookId
+  pub record ClosedForAll (book : BookId) (t : Terms) (passes : List PassSeen) (last : SeenOf K) : Type 0 where
     pub all : AreAll book t.seats passes
     pub closed : ClosedFor m.keeper t passes last
 
@@ -171,12 +173,13 @@ module _ {K U T R W C : Type 0} (m : Meanings K U T R W C) where
     pub service : Service
     pub first : SeenOf K
     pub last : SeenOf K
+    pub book : BookId
     pub opened : Crew U T
     pub crew : Crew U T
     pub begun : BeginsServing m.keeper w service first
-    pub ports : ServesPorts hub service.listening (terms_at m.keeper first (seats_of service.listening)) (access_of service.options) opened crew
+    pub ports : ServesPorts hub service.listening book (terms_at m.keeper first (seats_of service.listening)) (access_of service.options) opened crew
     pub stopped : IsReadOut w.events
-    pub closed : ClosedForAll (terms_at m.keeper first (seats_of service.listening)) (passes_of crew) last
+    pub closed : ClosedForAll book (terms_at m.keeper first (seats_of service.listening)) (passes_of crew) last
     pub few : CountsFailures (failed_updates (access_of service.options) opened crew ports.worked)
         (m.keeper.told first.keeper).faults (m.keeper.told last.keeper).faults
     pub left : m.keeper.told last.keeper ≡ w.journal.after
@@ -189,13 +192,14 @@ module _ {K U T R W C : Type 0} (m : Meanings K U T R W C) where
     pub service : Service
     pub first : SeenOf K
     pub last : SeenOf K
+    pub book : BookId
     pub opened : Crew U T
     pub crew : Crew U T
     pub free : List PassSeen
     pub begun : BeginsServing m.keeper w service first
-    pub shared : SharesPasses (terms_at m.keeper first (seats_of service.listening)) service.listening.limit (access_of service.options) opened crew free
+    pub shared : SharesPasses book (terms_at m.keeper first (seats_of service.listening)) service.listening.limit (access_of service.options) opened crew free
     pub read : MayBeRead w.events hub service.listening
-    pub closed : ClosedForAll (terms_at m.keeper first (seats_of service.listening)) (free ++ passes_of crew) last
+    pub closed : ClosedForAll book (terms_at m.keeper first (seats_of service.listening)) (free ++ passes_of crew) last
     pub still : failed_so_far (access_of service.options) opened crew shared.worked ≡ 0
         → (m.keeper.told last.keeper).faults ≡ (m.keeper.told first.keeper).faults
     pub left : m.keeper.told last.keeper ≡ w.journal.after

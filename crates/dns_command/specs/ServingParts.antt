@@ -9,7 +9,7 @@ use Rattle.dns_book.specs.Book.{SeenOf}
 use Rattle.dns_ports.specs.declared.hub.Opening.{Opening as Opened}
 use Rattle.dns_ports.specs.Ports.{UdpTold, TcpTold, HubTold}
 use Rattle.dns_ticket_lock.specs.Naming.{terms_at}
-use Rattle.dns_ticket_lock.specs.Passes.{PassSeen, AreNew}
+use Rattle.dns_ticket_lock.specs.Passes.{BookId, PassSeen, InOrder, AreNew}
 use Rattle.dns_server.specs.Servers.{ServerSeen, IsReadOut, their_ports, their_passes}
 use Rattle.dns_command.specs.declared.status.Status.{Status}
 use Rattle.dns_command.specs.declared.status.Status.TheVariants as status
@@ -29,10 +29,11 @@ abbrev pub crew_of : {U T : Type 0} → ServerSeen U T → Crew U T
 crew_of s = record { sockets = s.sockets; listeners = s.listeners }
 
 -- of the passes and the workers there are as many as seats; each free pass has seen the opening rows and settled nothing, and each
--- worker is new
+-- worker is new; the passes of sockets, of listeners and of none bear the numbers from 1 on in this order
 pub record IsManned {U T R W C : Type 0} (socket : U → UdpTold) (listener : T → TcpTold R W C) (limit : ℕ) (s : ServerSeen U T) : Type 0 where
   pub free : AreNew s.book.terms s.free
   pub seats : length s.free + (length s.sockets + length s.listeners) ≡ s.book.terms.seats
+  pub order : InOrder s.book.id (their_passes s.sockets ++ (their_passes s.listeners ++ s.free))
   pub sockets : AllByRecursion (IsNewSocket socket s.book.terms) s.sockets
   pub listeners : AllByRecursion (IsNewListener listener s.book.terms limit) s.listeners
 
@@ -106,7 +107,7 @@ module _ {K U T R W C : Type 0} (m : Meanings K U T R W C) where
   -- the ports of the words were opened, and their workers, who are all there are, did their work to its end
   pub record ServesWell (hub : Around (HubTold U T)) (until : Around SourceTold) (listening : Listening) (before after : ServerSeen U T) : Type 0 where
     pub crew : Crew U T
-    pub new : IsNewCrew m listening before.book.terms crew
+    pub new : IsNewCrew m listening before.book.id before.book.terms crew
     pub worked : WorksToItsEnd m before.access crew (crew_of after)
     pub free : after.free ≡ []
     pub opens : OpensAll hub (openings_of listening)
@@ -115,24 +116,26 @@ module _ {K U T R W C : Type 0} (m : Meanings K U T R W C) where
   -- the workers so far
   pub record HasCrew (limit : ℕ) (before after : ServerSeen U T) : Type 0 where
     pub opened : Crew U T
-    pub shared : SharesPasses m before.book.terms limit before.access opened (crew_of after) after.free
+    pub shared : SharesPasses m before.book.id before.book.terms limit before.access opened (crew_of after) after.free
 
   -- a book was shared, served and closed
   pub record ServesBook (hub : Around (HubTold U T)) (until : Around SourceTold) (service : Service) (first last : SeenOf K) : Type 0 where
+    pub book : BookId
     pub opened : Crew U T
     pub crew : Crew U T
-    pub ports : ServesPorts m hub service.listening (terms_at m.keeper first (seats_of service.listening)) (access_of service.options) opened crew
+    pub ports : ServesPorts m hub service.listening book (terms_at m.keeper first (seats_of service.listening)) (access_of service.options) opened crew
     pub read : IsReadOut until
-    pub closed : ClosedForAll m (terms_at m.keeper first (seats_of service.listening)) (passes_of crew) last
+    pub closed : ClosedForAll m book (terms_at m.keeper first (seats_of service.listening)) (passes_of crew) last
 
   -- it was shared and closed, but not served to the end
   pub record LeavesBook (hub : Around (HubTold U T)) (until : Around SourceTold) (service : Service) (first : SeenOf K) (s : Status) (last : SeenOf K) : Type 0 where
+    pub book : BookId
     pub opened : Crew U T
     pub crew : Crew U T
     pub free : List PassSeen
-    pub shared : SharesPasses m (terms_at m.keeper first (seats_of service.listening)) service.listening.limit (access_of service.options) opened crew free
+    pub shared : SharesPasses m book (terms_at m.keeper first (seats_of service.listening)) service.listening.limit (access_of service.options) opened crew free
     pub read : MayBeRead until hub service.listening
-    pub closed : ClosedForAll m (terms_at m.keeper first (seats_of service.listening)) (free ++ passes_of crew) last
+    pub closed : ClosedForAll m book (terms_at m.keeper first (seats_of service.listening)) (free ++ passes_of crew) last
     pub cause : IsPortCause m hub (their_ports crew.sockets) (their_ports crew.listeners) s
 
   -- why not, and the keeper: it was not shared for want of memory, and neither the hub nor the source was used; or it was closed

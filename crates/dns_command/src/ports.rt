@@ -63,13 +63,14 @@ where
     }
 }
 
-/// Opens the ports that the words name, and registers each of them.
+/// Opens the ports that the words name, and registers each of them: first the socket, where there is no listener yet, then the listeners.
 fn open_ports<K: Keeper, H: Hub>(
     server: &mut ThreadServer<K, H::Udp, H::Tcp>,
     listening: &Listening,
     hub: &mut H,
 ) -> Result<(), Status>
     requires manned { IsManned H.Udp.told H.Tcp.told listening.now.limit server.old }
+    requires none { server.old.listeners ≡ [] }
     requires limit { listening.now.limit < 2 ^ 47 }
     ensures manned { IsManned H.Udp.told H.Tcp.told listening.now.limit server.new }
     ensures ok { OnOk result (OpensAll (around H.told hub.old hub.new) (openings_of listening.now)) }
@@ -88,7 +89,7 @@ fn open_ports<K: Keeper, H: Hub>(
     )
 }
 
-/// Opens a socket at this address, if there is one, and registers it.
+/// Opens a socket at this address, if there is one, and registers it. The passes keep their order, since no listener is registered yet.
 fn open_socket<K: Keeper, H: Hub>(
     server: &mut ThreadServer<K, H::Udp, H::Tcp>,
     at: Option<Peer>,
@@ -96,6 +97,7 @@ fn open_socket<K: Keeper, H: Hub>(
     hub: &mut H,
 ) -> Result<(), Status>
     requires manned { IsManned H.Udp.told H.Tcp.told limit server.old }
+    requires none { server.old.listeners ≡ [] }
     ensures manned { IsManned H.Udp.told H.Tcp.told limit server.new }
     ensures ok { OnOk result (OpensAll (around H.told hub.old hub.new) (opening_at at)) }
     ensures sockets { OnOk result (length server.new.sockets ≡ length server.old.sockets + count_at 1 at) }
@@ -136,6 +138,7 @@ fn registered_socket<K: Keeper, U: UdpPort + Drop, T: TcpPort + Drop>(
     limit: u64,
 ) -> Option<U>
     requires manned { IsManned U.told T.told limit server.old }
+    requires none { server.old.listeners ≡ [] }
     requires fresh { IsFreshSocket (U.told socket) }
     ensures manned { IsManned U.told T.told limit server.new }
     ensures same { IsSameServer server.old server.new }

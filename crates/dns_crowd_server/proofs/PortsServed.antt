@@ -52,11 +52,13 @@ module _ {K U C : Type 0} (keeper : KeeperOf K) (socket : U → UdpTold) (crowd 
       let t = book.terms in
       let new = both_all (IsNewPass t) (their_passes before.sockets) (their_passes before.crowds) (new_passes t (passes_of before) passes.new) in
       record {
+        book = book.id;
         before = before;
         after = after;
         new = record {
           socket_count = socket_count;
           crowd_count = crowd_count;
+          order = passes.order;
           sockets = new_workers t (λ one. IsFreshSocket (socket one)) before.sockets new.0 fresh_sockets;
           crowds = new_workers t (λ one. IsFreshCrowd (crowd one)) before.crowds new.1 fresh_crowds;
         };
@@ -67,7 +69,7 @@ module _ {K U C : Type 0} (keeper : KeeperOf K) (socket : U → UdpTold) (crowd 
         reading = reading;
         ended = ended;
         answer = answer;
-        closed = record { book = book.id; all = still_all book (passes_of before) (passes_of after) passes (crew_same before after m n); closed = closed };
+        closed = record { all = still_all book (passes_of before) (passes_of after) passes (crew_same before after m n); closed = closed };
         few = few_failed keeper (failed_by_socket keeper access socket) (socket_grew keeper access socket) (failed_by_crowd keeper access crowd) (crowd_grew keeper access crowd)
             before.sockets after.sockets m before.crowds after.crowds n t last closed;
         still = λ none. still_failed keeper (failed_by_socket keeper access socket) (socket_grew keeper access socket) (failed_by_crowd keeper access crowd) (crowd_grew keeper access crowd)
@@ -88,6 +90,7 @@ module _ {K U C : Type 0} (keeper : KeeperOf K) (socket : U → UdpTold) (crowd 
       → ServesPorts keeper socket crowd (record { before = first; after = hub.after }) until places now access last result
   opened_served first hub until places t now last result sockets_kept crowds_kept calm same p =
       subst (λ (x : Terms). ServesPorts keeper socket crowd (record { before = first; after = hub.after }) until places x access last result) same (record {
+        book = p.book;
         before = p.before;
         after = p.after;
         new = p.new;
@@ -120,8 +123,10 @@ none_opened {A} keeper socket crowd hub places book passes now last fault are o 
       sockets_kept = o.sockets_kept;
       crowds_kept = o.crowds_kept;
       cause = record { later = o.cause.later; counts = fault_cause A hub.before.faults hub.after.faults fault o.cause.counts };
+      book = book.id;
       passes = passes;
+      order = are.order;
       new = are.new;
-      closed = record { book = book.id; all = first_all book passes are; closed = closed };
+      closed = record { all = first_all book passes are; closed = closed };
       still = omega (arith, rise, none);
     })

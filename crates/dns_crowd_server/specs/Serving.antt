@@ -13,7 +13,7 @@ use Rattle.dns_server_core.specs.Books.{RoseBy}
 use Rattle.dns_ticket_lock.specs.declared.view.Terms.{Terms}
 use Rattle.dns_ticket_lock.specs.Naming.{terms_at}
 use Rattle.dns_ticket_lock.specs.Rule.{fresh}
-use Rattle.dns_ticket_lock.specs.Passes.{AreAll, AreNew, BookId, ClosedFor, PassSeen}
+use Rattle.dns_ticket_lock.specs.Passes.{AreAll, AreNew, BookId, ClosedFor, InOrder, PassSeen}
 use Rattle.dns_crowd.specs.Crowds.{CrowdTold}
 use Rattle.dns_server.specs.declared.worker.Worker.{Worker}
 use Rattle.dns_server.specs.FailedUpdates.{added_up, failed_by_socket}
@@ -50,10 +50,11 @@ pub record IsNewWorker {P : Type 0} (t : Terms) (IsFresh : P → Type 0) (worker
 
 -- the meanings of a keeper, of a socket and of a crowd
 module _ {K U C : Type 0} (keeper : KeeperOf K) (socket : U → UdpTold) (crowd : C → CrowdTold) where
-  -- as many as are asked for, and each is new
-  pub record IsNewCrew (places : Places) (t : Terms) (crew : Crew U C) : Type 0 where
+  -- as many as are asked for, and each is new; their passes are of the book, and bear the numbers from 1 on in this order
+  pub record IsNewCrew (places : Places) (book : BookId) (t : Terms) (crew : Crew U C) : Type 0 where
     pub socket_count : length crew.sockets ≡ sockets_of places
     pub crowd_count : length crew.crowds ≡ crowds_of places
+    pub order : InOrder book (passes_of crew)
     pub sockets : AllByRecursion (IsNewWorker t (λ one. IsFreshSocket (socket one))) crew.sockets
     pub crowds : AllByRecursion (IsNewWorker t (λ one. IsFreshCrowd (crowd one))) crew.crowds
 
@@ -70,8 +71,7 @@ module _ {K U C : Type 0} (keeper : KeeperOf K) (socket : U → UdpTold) (crowd 
       + added_up (failed_by_crowd keeper access crowd) before.crowds after.crowds works.crowds
 
   -- the book was closed for these passes, which are all of it: one with each number from 1 to the seats
-  pub record ClosesFor (t : Terms) (passes : List PassSeen) (last : SeenOf K) : Type 0 where
-    pub book : BookId
+  pub record ClosesFor (book : BookId) (t : Terms) (passes : List PassSeen) (last : SeenOf K) : Type 0 where
     pub all : AreAll book t.seats passes
     pub closed : ClosedFor keeper t passes last
 
@@ -80,9 +80,10 @@ module _ {K U C : Type 0} (keeper : KeeperOf K) (socket : U → UdpTold) (crowd 
   -- that stands at its last value: where none got it that count stood still
   pub record ServesPorts (hub : Around (CrowdHubTold U C)) (until : Around SourceTold) (places : Places) (t : Terms) (access : Access)
       (last : SeenOf K) (result : Result (Unit {0}) IoFault) : Type 0 where
+    pub book : BookId
     pub before : Crew U C
     pub after : Crew U C
-    pub new : IsNewCrew places t before
+    pub new : IsNewCrew places book t before
     pub works : Works access before after
     pub sockets_back : Grows hub.before.sockets hub.after.sockets (their_ports after.sockets)
     pub crowds_back : Grows hub.before.crowds hub.after.crowds (their_ports after.crowds)
@@ -90,19 +91,21 @@ module _ {K U C : Type 0} (keeper : KeeperOf K) (socket : U → UdpTold) (crowd 
     pub reading : Result (Unit {0}) IoFault
     pub ended : EndsReading until reading
     pub answer : result ≡ or_later (crew_answer after) reading
-    pub closed : ClosesFor t (passes_of after) last
+    pub closed : ClosesFor book t (passes_of after) last
     pub few : RoseBy (failed_updates access before after works) t.start (keeper.told last.keeper).faults
     pub still : failed_updates access before after works ≡ 0 → (keeper.told last.keeper).faults ≡ t.start
 
-  -- nothing could be opened: the hub failed, or found no memory. The book was closed for passes that have settled nothing
+  -- nothing could be opened: the hub failed, or found no memory. The book was closed for passes that have settled nothing, in order
   pub record OpensNone (hub : Around (CrowdHubTold U C)) (t : Terms) (last : SeenOf K) (fault : IoFault) : Type 0 where
     pub opened : Keeps hub.before.opened hub.after.opened
     pub sockets_kept : Keeps hub.before.sockets hub.after.sockets
     pub crowds_kept : Keeps hub.before.crowds hub.after.crowds
     pub cause : HasCause {T = Unit {0}} hub.before.faults hub.after.faults (Err fault)
+    pub book : BookId
     pub passes : List PassSeen
+    pub order : InOrder book passes
     pub new : AreNew t passes
-    pub closed : ClosesFor t passes last
+    pub closed : ClosesFor book t passes last
     pub still : (keeper.told last.keeper).faults ≡ t.start
 
   -- how serving a book ended: no memory was found to share it, and nothing was done; or nothing could be opened; or it was served

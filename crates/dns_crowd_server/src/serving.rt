@@ -82,9 +82,14 @@ where
             };
         }
     };
-    serve_ports(
-        rt, alloc, shared, passes, access, places, sockets, crowds, rooms, until, &token, hub,
-    )
+    let opened = Opened {
+        shared,
+        passes,
+        sockets,
+        crowds,
+        rooms,
+    };
+    serve_ports(rt, alloc, opened, access, places, until, &token, hub)
 }
 
 /// A book that no memory was found to share.
@@ -98,17 +103,22 @@ fn unserved<K: Keeper>(book: Book<K>) -> Served<K>
     }
 }
 
-/// Takes a worker on for each port, has all serve, dismisses them, and hands their ports back.
+/// A shared book and its passes, the ports that were opened, and the room for their workers.
+struct Opened<K: Keeper, U, C> {
+    shared: TicketBook<K>,
+    passes: Vec<Pass>,
+    sockets: Vec<U>,
+    crowds: Vec<C>,
+    rooms: Rooms<U, C>,
+}
+
+/// Takes a worker on for each port, in order, has all serve, dismisses them, and hands their ports back.
 fn serve_ports<K: Keeper + Send, H: CrowdHub, E: Source, R: Threads + Wait + Sync>(
     rt: &R,
     alloc: Global,
-    shared: TicketBook<K>,
-    passes: Vec<Pass>,
+    opened: Opened<K, H::Udp, H::Connections>,
     access: &AccessControl,
     places: &Places,
-    sockets: Vec<H::Udp>,
-    crowds: Vec<H::Connections>,
-    rooms: Rooms<H::Udp, H::Connections>,
     until: &mut E,
     token: &StopToken,
     hub: &mut H,
@@ -116,22 +126,23 @@ fn serve_ports<K: Keeper + Send, H: CrowdHub, E: Source, R: Threads + Wait + Syn
 where
     H::Udp: Send,
     H::Connections: Send,
-    requires passes { ArePasses shared passes.items }
-    requires seats { shared.terms.seats ≡ seats_of places.now }
+    requires passes { ArePasses opened.shared opened.passes.items }
+    requires seats { opened.shared.terms.seats ≡ seats_of places.now }
     requires limit { places.now.limit < 2 ^ 47 }
-    requires empty_workers { (rooms.sockets.items ≡ []) × (rooms.crowds.items ≡ []) }
-    requires empty_ports { (rooms.socket_ports.items ≡ []) × (rooms.crowd_ports.items ≡ []) }
-    requires socket_room { (sockets_of places.now ≤ vec_capacity rooms.sockets)
-        × (sockets_of places.now ≤ vec_capacity rooms.socket_ports) }
-    requires crowd_room { (crowds_of places.now ≤ vec_capacity rooms.crowds) × (crowds_of places.now ≤ vec_capacity rooms.crowd_ports) }
-    requires sockets { length sockets.items ≡ sockets_of places.now }
-    requires crowds { length crowds.items ≡ crowds_of places.now }
-    requires fresh_sockets { All (λ one. IsFreshSocket (H.Udp.told one)) sockets.items }
-    requires fresh_crowds { All (λ one. IsFreshCrowd (H.Connections.told one)) crowds.items }
+    requires empty_workers { (opened.rooms.sockets.items ≡ []) × (opened.rooms.crowds.items ≡ []) }
+    requires empty_ports { (opened.rooms.socket_ports.items ≡ []) × (opened.rooms.crowd_ports.items ≡ []) }
+    requires socket_room { (sockets_of places.now ≤ vec_capacity opened.rooms.sockets)
+        × (sockets_of places.now ≤ vec_capacity opened.rooms.socket_ports) }
+    requires crowd_room { (crowds_of places.now ≤ vec_capacity opened.rooms.crowds)
+        × (crowds_of places.now ≤ vec_capacity opened.rooms.crowd_ports) }
+    requires sockets { length opened.sockets.items ≡ sockets_of places.now }
+    requires crowds { length opened.crowds.items ≡ crowds_of places.now }
+    requires fresh_sockets { All (λ one. IsFreshSocket (H.Udp.told one)) opened.sockets.items }
+    requires fresh_crowds { All (λ one. IsFreshCrowd (H.Connections.told one)) opened.crowds.items }
     requires lent_sockets { sockets_of places.now ≤ (H.told hub.old).lent_sockets }
     requires lent_crowds { crowds_of places.now ≤ (H.told hub.old).lent_crowds }
     ensures served { ServesPorts K.keeper H.Udp.told H.Connections.told (around H.told hub.old hub.new)
-        (around E.source.told until.old until.new) places.now shared.terms access.now result.book result.answer }
+        (around E.source.told until.old until.new) places.now opened.shared.terms access.now result.book result.answer }
     ensures failed { IsErrOf result.answer fault.Failed → Rose (H.told hub.old).faults (H.told hub.new).faults }
     ensures lent_sockets { (H.told hub.new).lent_sockets + sockets_of places.now ≡ (H.told hub.old).lent_sockets }
     ensures lent_crowds { (H.told hub.new).lent_crowds + crowds_of places.now ≡ (H.told hub.old).lent_crowds }
@@ -139,6 +150,13 @@ where
     ensures read { (bytes : List ℕ) × Takes (E.source.told until.old).left (E.source.told until.new).left bytes }
     ensures later { (E.source.told until.old).faults ≤ (E.source.told until.new).faults }
 {
+    let Opened {
+        shared,
+        passes,
+        sockets,
+        crowds,
+        rooms,
+    } = opened;
     let mut free = passes;
     let Rooms {
         sockets: socket_workers,

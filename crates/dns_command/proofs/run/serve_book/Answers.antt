@@ -1,8 +1,12 @@
 use Rattle.std.proofs.Common.{refl, sym, ap, ◌∙◌}
 use Rattle.dns_book.specs.Book.{SeenOf}
 use Rattle.dns_command.specs.ServingParts.{unshared, closed}
-use Rattle.dns_command.proofs.Served.{serves_book, leaves_book}
+use Rattle.dns_command.proofs.Served.{new_server, serves_book, leaves_book}
 use Rattle.dns_command.proofs.run.serve_book.Goals as goal
+
+pub serve_ports-outcome-requires-clause-manned : goal.serve_ports-outcome-requires-clause-manned
+serve_ports-outcome-requires-clause-manned g c κs within =
+    new_server g.H.Udp.UdpPort.told g.H.Tcp.TcpPort.told c.args.service.listening.limit c.in-Ok.server c.in-Ok.ensures.passes c.in-Ok.ensures.empty.0 c.in-Ok.ensures.empty.1
 
 pub returns-in-Err-clause-err : goal.returns-in-Err-clause-err
 returns-in-Err-clause-err g c = rw c.refused.ensures.status (unshared (sym (c.refused.ensures.keeper ∙ ap (λ (b : SeenOf g.row.K.Denot). b.keeper) c.in-Err.ensures.err)) refl refl)
