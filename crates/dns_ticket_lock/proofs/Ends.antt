@@ -1,5 +1,5 @@
 -- A seat cut in two, two seats joined, the start and the end.
-use Rattle.std.proofs.Common.{◌≡◌, ◌≢◌, inl, ⊎_elim, ℕ, zero, suc, ◌+◌, ◌-◌, ◌<◌, ◌≤◌, ◌==◌, ◌&&◌, cond, ne_eqb, Bool, true, false, List, [], ◌∷◌, set, length, drop, replicate, Option, Some, None, refl, sym, ap, subst, ◌∙◌, arith}
+use Rattle.std.proofs.Common.{◌≡◌, ◌≢◌, inl, ⊎_elim, ℕ, zero, suc, ◌+◌, ◌-◌, ◌<◌, ◌≤◌, ◌==◌, ◌&&◌, cond, Bool, true, false, true≢false, List, [], ◌∷◌, set, length, drop, replicate, Option, Some, None, refl, sym, ap, subst, ◌∙◌, arith}
 use Rattle.std.proofs.lemmas.List.{length-append, append-nil}
 use mathlib.Core.Option.{some, some-injective, some-ne-none}
 use Rattle.std.proofs.Math.Decide.{dec_lt}
@@ -12,6 +12,7 @@ use Rattle.dns_keeper.specs.declared.row.Row.{Row}
 use Rattle.dns_keeper.specs.Keeping.{KeeperOf}
 use Rattle.dns_ticket_lock.specs.declared.held.Member.{Member}
 use Rattle.dns_ticket_lock.specs.declared.view.Account.{Account}
+use Rattle.dns_ticket_lock.specs.declared.view.Phase.TheVariants.{Idle}
 use Rattle.dns_ticket_lock.specs.declared.view.Terms.{Terms}
 use Rattle.dns_ticket_lock.specs.declared.view.View.{View}
 use Rattle.dns_ticket_lock.specs.Lists.{StartsWith, total, only_first, but_first}
@@ -21,9 +22,9 @@ use Rattle.dns_ticket_lock.specs.Settling.{ClosedAs, HasTerms, Names}
 use Rattle.dns_ticket_lock.specs.Passes.{PassSeen, ClosedFor, pass_faults}
 use Rattle.dns_ticket_lock.specs.Naming.{NamesRows}
 use Rattle.dns_book.specs.Book.{SeenOf, IsKept}
-use Rattle.dns_ticket_lock.specs.Rule.{Naming, Fits, Meets, Clear, Apart, Kept, busy, size, fresh, first_view, spent, member_of, keeps_first, has_others, with_both, faults_of}
+use Rattle.dns_ticket_lock.specs.Rule.{Naming, Fits, Meets, Clear, Apart, Kept, has_book, tickets, busy, size, fresh, first_view, spent, member_of, keeps_first, has_others, with_both, faults_of}
 use Rattle.dns_ticket_lock.proofs.Totals.{total_set, total_snoc}
-use Rattle.dns_ticket_lock.proofs.Seats.{within, at_append, same_at, all_set, all_snoc, apart_set, apart_snoc, home_stays, home_longer}
+use Rattle.dns_ticket_lock.proofs.Seats.{within, at_append, same_at, all_set, all_snoc, apart_set, apart_snoc, has_ticket, home_stays, home_longer}
 
 cut_length : {X : Type 0} (l : List X) → length (only_first l) + length (but_first l) ≡ length l
 cut_length [] = refl
@@ -145,15 +146,15 @@ module _ {H : Type 0} (N : Naming H) where
   Slot = Option H
 
   -- 5. a seat keeps its first account, and a new seat has the others
-  pub splits : (t : Terms) (id : ℕ) (v : View) → v.phase ≡ 0 → 1 < length v.accounts → Splits (Kept N t) id v (keeps_first v) (has_others v)
+  pub splits : (t : Terms) (id : ℕ) (v : View) → v.phase ≡ Idle → 1 < length v.accounts → Splits (Kept N t) id v (keeps_first v) (has_others v)
   splits t id v rests more_own s kept at =
       let left = keeps_first v in
       let right = has_others v in
       let f = kept.fits id v at in
       let cut = cut_length v.accounts in
       let one : length left.accounts ≡ 1 = one_first v.accounts (omega arith) in
-      let old_busy : busy v ≡ 0 = rw rests in
-      let left_busy : busy left ≡ 0 = rw rests in
+      let old_busy : busy v ≡ 0 = ap tickets rests in
+      let left_busy : busy left ≡ 0 = ap tickets rests in
       let busy_at = total_set busy s.views id v left at in
       let size_at = total_set size s.views id v left at in
       let busy_more = total_snoc busy (set s.views id left) right in
@@ -195,12 +196,12 @@ module _ {H : Type 0} (N : Naming H) where
         fits = all_snoc (Fits t kept.queue kept.rows kept.members kept.serving) (set s.views id left) right
             (all_set (Fits t kept.queue kept.rows kept.members kept.serving) s.views id left (λ seat x n e. kept.fits seat x e) left_fits) right_fits;
         apart = apart_snoc (set s.views id left) right right_clear left_apart;
-        home = home_longer N t s.homes (set s.views id left) kept.rows kept.members right (omega arith)
-            (home_stays N t s.homes s.views kept.rows kept.members id v left at (omega arith) (omega arith) kept.home);
+        home = home_longer N t s.homes (set s.views id left) kept.rows kept.members right refl
+            (home_stays N t s.homes s.views kept.rows kept.members id v left at (ap has_book rests) (ap has_book rests) kept.home);
       }
 
   -- 6. a seat takes in another, whose accounts follow its own
-  pub joins : (t : Terms) (id : ℕ) (v : View) (other : ℕ) (w : View) → v.phase ≡ 0 → w.phase ≡ 0 → 0 < length v.accounts → v.low + length v.accounts ≡ w.low → Joins (Kept N t) id v other w (with_both v w) spent
+  pub joins : (t : Terms) (id : ℕ) (v : View) (other : ℕ) (w : View) → v.phase ≡ Idle → w.phase ≡ Idle → 0 < length v.accounts → v.low + length v.accounts ≡ w.low → Joins (Kept N t) id v other w (with_both v w) spent
   joins t id v other w rests too some_own follows s kept at apart bt =
       let both = with_both v w in
       let before = set s.views other spent in
@@ -208,9 +209,9 @@ module _ {H : Type 0} (N : Naming H) where
       let at_v : get_elem? before id ≡ some v = set_else s.views other id spent (λ same. apart (sym same)) ∙ at in
       let f = kept.fits id v at in
       let g = kept.fits other w at_w in
-      let busy_v : busy v ≡ 0 = rw rests in
-      let busy_both : busy both ≡ 0 = rw rests in
-      let busy_w : busy w ≡ 0 = rw too in
+      let busy_v : busy v ≡ 0 = ap tickets rests in
+      let busy_both : busy both ≡ 0 = ap tickets rests in
+      let busy_w : busy w ≡ 0 = ap tickets too in
       let long : length both.accounts ≡ length v.accounts + length w.accounts = length-append v.accounts w.accounts in
       let busy_one = total_set busy s.views other w spent at_w in
       let size_one = total_set size s.views other w spent at_w in
@@ -255,8 +256,8 @@ module _ {H : Type 0} (N : Naming H) where
         many = kept.many;
         fits = all_set F before id both (λ seat x n e. all_set F s.views other spent (λ seat x n e. kept.fits seat x e) none_own seat x e) mine;
         apart = apart_set before id both (λ j x n e. clear j x e n) first;
-        home = home_stays N t s.homes before kept.rows kept.members id v both at_v (omega arith) (omega arith)
-            (home_stays N t s.homes s.views kept.rows kept.members other w spent at_w (omega arith) (omega arith) kept.home);
+        home = home_stays N t s.homes before kept.rows kept.members id v both at_v (ap has_book rests) (ap has_book rests)
+            (home_stays N t s.homes s.views kept.rows kept.members other w spent at_w (ap has_book too) refl kept.home);
       } in
       subst (λ (views : List View). Kept N t (record { words = s.words; homes = s.homes; views = views })) (set_comm s.views other id spent both apart) after
     where
@@ -309,12 +310,12 @@ module _ {H : Type 0} (N : Naming H) where
       alone zero v e f = subst (Fits t [] rows members 0 0) (some-injective (first_view t) v e) f
       alone (suc k) v e f = absurd (some-ne-none v (sym e))
 
-      idle : (seat : ℕ) (v : View) → get_elem? (first_view t ∷ []) seat ≡ some v → v.phase ≤ 1
-      idle zero v e = let p = ap (λ (y : View). y.phase) (some-injective (first_view t) v e) in omega arith
+      idle : (seat : ℕ) (v : View) → get_elem? (first_view t ∷ []) seat ≡ some v → has_book v.phase ≡ false
+      idle zero v e = ap (λ (y : View). has_book y.phase) (sym (some-injective (first_view t) v e))
       idle (suc k) v e = absurd (some-ne-none v (sym e))
 
   -- 8. where one seat has every account, no other has any, and the book is at home
-  pub closes : (t : Terms) (s : State Slot View) → Kept N t s → (id : ℕ) (v : View) → get_elem? s.views id ≡ some v → v.phase ≡ 0 → v.low ≡ 0 → length v.accounts ≡ t.seats
+  pub closes : (t : Terms) (s : State Slot View) → Kept N t s → (id : ℕ) (v : View) → get_elem? s.views id ≡ some v → v.phase ≡ Idle → v.low ≡ 0 → length v.accounts ≡ t.seats
       → (h : H) × (s.homes ≡ some (Some h) ∷ []) × (rows : List Row) × (members : List Member) × N t rows members h × (length members ≡ t.seats) × StartsWith rows t.rows × (all_within t.seats (drop (length t.rows) rows) ≡ true)
       × ((k : ℕ) (a : Account) → get_elem? v.accounts k ≡ some a → Meets t rows members k a)
   closes t s kept id v at rests lowest all = ⊎_elim
@@ -324,11 +325,8 @@ module _ {H : Type 0} (N : Naming H) where
       let x = away.2 in
       let g = kept.fits holder x away.3 in
       let owns : busy x ≤ length x.accounts = g.owns in
-      let is_busy : busy x ≡ 1 = has_it x.phase away.4 in
-      let apart : id ≢ holder = λ same. (let p = ap (λ (y : View). y.phase) (same_at s.views id holder v x same at away.3) in let two = away.4 in omega arith) in
+      let is_busy : busy x ≡ 1 = has_ticket x.phase away.4 in
+      let apart : id ≢ holder = λ same. true≢false (sym away.4 ∙ (ap (λ (y : View). has_book y.phase) (same_at s.views holder id x v (sym same) away.3 at) ∙ ap has_book rests)) in
       let room = g.room in
       absurd (kept.apart id holder v x apart at away.3 x.low 0 (omega arith) (omega arith) (omega arith)))
       kept.home
-    where
-      has_it : (p : ℕ) → 1 < p → ◌≡◌ {A = ℕ} (cond (p == 0) 0 1) 1
-      has_it p h = rw (ne_eqb p 0 (λ is. absurd (omega arith))) refl

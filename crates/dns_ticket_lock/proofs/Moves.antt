@@ -1,8 +1,9 @@
 -- Each step keeps the rule.
-use Rattle.std.proofs.Common.{◌≡◌, ◌≢◌, inl, inr, ⊎_elim, ℕ, zero, suc, ◌+◌, ◌%◌, ◌^◌, ◌<◌, ◌≤◌, ◌==◌, Bool, true, false, List, [], ◌∷◌, ◌++◌, set, length, drop, slice_index, Option, Some, refl, sym, ap, subst, subst₂, ◌∙◌, arith}
+use Rattle.std.proofs.Common.{◌≡◌, ◌≢◌, inl, inr, ⊎_elim, ℕ, zero, suc, ◌+◌, ◌%◌, ◌^◌, ◌<◌, ◌≤◌, ◌==◌, Bool, true, false, true≢false, List, [], ◌∷◌, ◌++◌, set, length, drop, slice_index, Option, Some, refl, sym, ap, subst, subst₂, ◌∙◌, arith}
 use Rattle.std.proofs.lemmas.List.{length-append, length-set}
 use Rattle.std.proofs.Math.Nat.{mod-add-mod, mod-eq_of_lt}
 use mathlib.Core.Option.{some, none, some-injective, some-ne-none}
+use Rattle.std.proofs.lemmas.Bool.{false_from_ne_true}
 use Rattle.std.proofs.lemmas.Bool.Decides.{nat_tests}
 use lib.ListN.{get_elem?}
 use Rattle.atomic_table.specs.Table.{State, Me, step, Act, keeps, takes, gives, Allows, stepped, Valid, carried_after, rest}
@@ -10,14 +11,15 @@ use Rattle.atomic_table.proofs.Lists.{set_here, set_else, at_longer, at_last, on
 use Rattle.dns_keeper.specs.declared.row.Row.{Row}
 use Rattle.dns_ticket_lock.specs.declared.held.Member.{Member}
 use Rattle.dns_ticket_lock.specs.declared.view.Account.{Account}
+use Rattle.dns_ticket_lock.specs.declared.view.Phase.TheVariants.{Idle, Waiting, Holding, HasCounted}
 use Rattle.dns_ticket_lock.specs.declared.view.Terms.{Terms}
 use Rattle.dns_ticket_lock.specs.declared.view.View.{View}
 use Rattle.dns_ticket_lock.specs.Lists.{StartsWith, with_head}
 use Rattle.dns_ticket_lock.specs.Places.{places_from, places_of, listed, all_bear, all_within}
-use Rattle.dns_ticket_lock.specs.Rule.{Naming, Fits, Stands, Meets, NoneHas, Kept, Done, IsDone, busy, size, waits, has, member_of, settled, with_member, has_counted, rests, FindsOwn, Draws, Takes, Looks, Counts, Passes}
+use Rattle.dns_ticket_lock.specs.Rule.{Naming, Fits, Stands, Meets, NoneHas, Kept, Done, IsDone, has_book, tickets, busy, size, waits, has, member_of, settled, with_member, has_counted, rests, FindsOwn, Draws, Takes, Looks, Counts, Passes}
 use Rattle.dns_ticket_lock.proofs.Totals.{total_set, total_below}
 use Rattle.dns_ticket_lock.proofs.Places.{still_bears, bears_more, numbered_after, places_of-append}
-use Rattle.dns_ticket_lock.proofs.Seats.{begins_within, begins_more, begins_itself, within, same_at, all_set, apart_same, home_stays, length_head, restand}
+use Rattle.dns_ticket_lock.proofs.Seats.{begins_within, begins_more, begins_itself, within, same_at, all_set, apart_same, not_idle, has_ticket, home_stays, length_head, restand}
 
 abbrev M : ℕ
 M = 2 ^ 64
@@ -36,18 +38,18 @@ module _ {H : Type 0} (N : Naming H) where
       (λ busy st. record { place = st.place; at = at_longer queue (id ∷ []) st.place seat st.at; ticket = st.ticket; first = st.first })
 
   -- 1. a seat draws a ticket
-  pub draws : (t : Terms) (n id : ℕ) (v : View) → v.phase ≡ 0 → 0 < length v.accounts → Allows (Kept N t) n id (v, []) 0 (λ n. (n + 1) % 2 ^ 64) (Draws (step n 0 1 0 none) (v, []))
+  pub draws : (t : Terms) (n id : ℕ) (v : View) → v.phase ≡ Idle → 0 < length v.accounts → Allows (Kept N t) n id (v, []) 0 (λ n. (n + 1) % 2 ^ 64) (Draws (step n 0 1 0 none) (v, []))
   draws t n id v rests some_own s kept slots at room =
       let w = waits kept.next v in
       let f = kept.fits id v at in
       let busy_at = total_set busy s.views id v w at in
       let size_at = total_set size s.views id v w at in
-      let old_busy : busy v ≡ 0 = rw rests in
+      let old_busy : busy v ≡ 0 = ap tickets rests in
       let mine : Fits t (kept.queue ++ id ∷ []) kept.rows kept.members kept.serving id w = record {
         terms = f.terms;
         room = f.room;
         owns = omega arith;
-        stands = λ b. record { place = length kept.queue; at = at_last kept.queue id (length kept.queue) refl; ticket = kept.drawn; first = λ two. absurd (omega arith) };
+        stands = λ b. record { place = length kept.queue; at = at_last kept.queue id (length kept.queue) refl; ticket = kept.drawn; first = λ two. absurd (true≢false (sym two)) };
         meets = f.meets;
       } in
       let after : Kept N t (record { words = (kept.next + 1) % 2 ^ 64 ∷ kept.serving ∷ length kept.rows ∷ []; homes = s.homes; views = set s.views id w }) = record {
@@ -67,7 +69,7 @@ module _ {H : Type 0} (N : Naming H) where
         fits = all_set (Fits t (kept.queue ++ id ∷ []) kept.rows kept.members kept.serving) s.views id w
             (λ seat x n e. longer_queue t kept.queue kept.rows kept.members kept.serving seat id x (kept.fits seat x e)) mine;
         apart = apart_same s.views id v w at refl refl kept.apart;
-        home = home_stays N t s.homes s.views kept.rows kept.members id v w at (omega arith) (omega arith) kept.home;
+        home = home_stays N t s.homes s.views kept.rows kept.members id v w at (ap has_book rests) refl kept.home;
       } in
       let P : List ℕ → Type 0 = λ ws. Kept N t (record { words = set ws 0 ((slice_index ws 0 + 1) % M); homes = s.homes; views = set s.views id w }) in
       let Q : List ℕ → Me Slot View = λ ws. (waits (slice_index ws 0) v, []) in
@@ -82,15 +84,15 @@ module _ {H : Type 0} (N : Naming H) where
   based t s k = record { next = k.next; serving = k.serving; queue = k.queue; rows = k.rows; members = k.members; words = refl; drawn = k.drawn; counted = k.counted; seated = k.seated; few = k.few; opened = k.opened; numbered = k.numbered; many = k.many; fits = k.fits; apart = k.apart; home = k.home }
 
   -- one that has the book stands first
-  stands_first : (t : Terms) (s : State Slot View) (k : Kept N t s) (id : ℕ) (v : View) → get_elem? s.views id ≡ some v → 1 < v.phase → get_elem? k.queue 0 ≡ some id
+  stands_first : (t : Terms) (s : State Slot View) (k : Kept N t s) (id : ℕ) (v : View) → get_elem? s.views id ≡ some v → has_book v.phase ≡ true → get_elem? k.queue 0 ≡ some id
   stands_first t s k id v at two =
-      let st = (k.fits id v at).stands (λ none. absurd (omega arith)) in
+      let st = (k.fits id v at).stands (not_idle v.phase (has_ticket v.phase two)) in
       ap (get_elem? k.queue) (sym (st.first two)) ∙ st.at
 
   -- where a seat has the book, it is out, and the seat's view names what it was
-  holder_is : (t : Terms) (s : State Slot View) (k : Kept N t s) (id : ℕ) (v : View) → get_elem? s.views id ≡ some v → 1 < v.phase → (s.homes ≡ none ∷ []) × (v.rows ≡ k.rows) × (v.members ≡ k.members)
+  holder_is : (t : Terms) (s : State Slot View) (k : Kept N t s) (id : ℕ) (v : View) → get_elem? s.views id ≡ some v → has_book v.phase ≡ true → (s.homes ≡ none ∷ []) × (v.rows ≡ k.rows) × (v.members ≡ k.members)
   holder_is t s k id v at two = ⊎_elim
-      (λ here. let low = here.3 id v at in absurd (omega arith))
+      (λ here. absurd (true≢false (sym two ∙ here.3 id v at)))
       (λ away.
       let one : away.1 ≡ id = some-injective away.1 id (sym (stands_first t s k away.1 away.2 away.3 away.4) ∙ stands_first t s k id v at two) in
       let same : away.2 ≡ v = same_at s.views away.1 id away.2 v one away.3 at in
@@ -104,14 +106,14 @@ module _ {H : Type 0} (N : Naming H) where
       (m.seen, subst (λ (i : ℕ). get_elem? members i ≡ some (member_of a)) (omega arith) m.member)
 
   -- the seat whose turn it is takes the book
-  takes_it : (t : Terms) (id : ℕ) (v : View) → v.phase ≡ 1 → (s : State Slot View) (kept : Kept N t s) → get_elem? s.views id ≡ some v → kept.serving ≡ v.ticket → kept.serving < M
+  takes_it : (t : Terms) (id : ℕ) (v : View) → v.phase ≡ Waiting → (s : State Slot View) (kept : Kept N t s) → get_elem? s.views id ≡ some v → kept.serving ≡ v.ticket → kept.serving < M
       → (h : H) × (s.homes ≡ some (Some h) ∷ []) × Takes N v kept.rows kept.members h
       × Kept N t (record { words = kept.next ∷ kept.serving ∷ length kept.rows ∷ []; homes = none ∷ []; views = set s.views id (has kept.rows kept.members v) })
   takes_it t id v phase s kept at same small =
       let f = kept.fits id v at in
-      let st = f.stands (λ none. absurd (omega arith)) in
+      let old_busy : busy v ≡ 1 = ap tickets phase in
+      let st = f.stands (not_idle v.phase old_busy) in
       let first = first_is st.place kept.serving v.ticket (length kept.queue) (within kept.queue st.place id st.at) (short t s kept) small st.ticket same in
-      let old_busy : busy v ≡ 1 = rw phase in
       let some_own : 0 < length v.accounts = let o = f.owns in omega arith in
       ⊎_elim
       (λ here.
@@ -143,21 +145,21 @@ module _ {H : Type 0} (N : Naming H) where
         many = kept.many;
         fits = all_set (Fits t kept.queue kept.rows kept.members kept.serving) s.views id w (λ seat x n e. kept.fits seat x e) mine;
         apart = apart_same s.views id v w at refl refl kept.apart;
-        home = inr (refl, id, w, set_here s.views id w (within s.views id v at), (omega arith), refl, refl);
+        home = inr (refl, id, w, set_here s.views id w (within s.views id v at), refl, refl, refl);
       } in
       let terms = f.terms some_own in
       let named : N v.terms kept.rows kept.members h = subst (λ (x : Terms). N x kept.rows kept.members h) (sym terms) n in
       let own : FindsOwn v.accounts v.low kept.rows kept.members = finds_own t kept.rows kept.members v.low v.accounts f.meets in
       (h, here.1, (named, own), after))
       (λ away.
-      let other = (kept.fits away.1 away.2 away.3).stands (λ none. let two = away.4 in absurd (omega arith)) in
+      let other = (kept.fits away.1 away.2 away.3).stands (not_idle away.2.phase (has_ticket away.2.phase away.4)) in
       let holder = same_at kept.queue st.place other.place id away.1 (first ∙ sym (other.first away.4)) st.at other.at in
       let one = same_at s.views id away.1 v away.2 holder at away.3 in
-      let p = ap (λ (y : View). y.phase) one in let two = away.4 in absurd (omega arith))
+      absurd (true≢false (sym away.4 ∙ (ap (λ (y : View). has_book y.phase) (sym one) ∙ ap has_book phase))))
       kept.home
 
   -- 2. a seat looks whether it is its turn, and takes the book then
-  pub looks : (t : Terms) (n id : ℕ) (v : View) → v.phase ≡ 1 → Allows (Kept N t) n id (v, []) 1 (λ n. n) (Looks N (step n 1 0 0 none) (v, []))
+  pub looks : (t : Terms) (n id : ℕ) (v : View) → v.phase ≡ Waiting → Allows (Kept N t) n id (v, []) 1 (λ n. n) (Looks N (step n 1 0 0 none) (v, []))
   looks t n id v phase s kept slots at room = looks_by (slice_index s.words 1 == v.ticket) refl
     where
       looks_by : (hit : Bool) → (slice_index s.words 1 == v.ticket) ≡ hit
@@ -213,28 +215,28 @@ module _ {H : Type 0} (N : Naming H) where
         other_meets t rows members done.batch low (member_of (settled rows done b)) (low + suc k) a opened fit.theirs (λ same. absurd (omega arith)) (meets (suc k) a e)
 
   -- 3. the seat that has the book counts its batch and its faults
-  pub counts : (t : Terms) (n id : ℕ) (me : Me Slot View) (done : Done) (k : ℕ) → me.0.phase ≡ 2 → IsDone (me.0.low + 1) me.0.rows done → k ≡ length done.batch → length me.0.rows + length done.batch < M
+  pub counts : (t : Terms) (n id : ℕ) (me : Me Slot View) (done : Done) (k : ℕ) → me.0.phase ≡ Holding → IsDone (me.0.low + 1) me.0.rows done → k ≡ length done.batch → length me.0.rows + length done.batch < M
       → Allows (Kept N t) n id me 2 (λ n. (n + k) % 2 ^ 64) (Counts done (step n 2 k 0 none) me)
   counts t n id me done k phase fit many small s kept slots at room =
       let v = me.0 in
       let w = has_counted done v in
       let f = kept.fits id v at in
-      let out = holder_is t s kept id v at (omega arith) in
-      let old_busy : busy v ≡ 1 = rw phase in
+      let out = holder_is t s kept id v at (ap has_book phase) in
+      let old_busy : busy v ≡ 1 = ap tickets phase in
       let some_own : 0 < length v.accounts = let o = f.owns in omega arith in
       let size_is : length w.accounts ≡ length v.accounts = length_head (settled v.rows done) v.accounts in
       let busy_at = total_set busy s.views id v w at in
       let size_at = total_set size s.views id v w at in
       let began : StartsWith v.rows t.rows = subst (λ (l : List Row). StartsWith l t.rows) (sym out.1) kept.opened in
       let opened : length t.rows ≤ length v.rows = begins_within v.rows t.rows began in
-      let st = f.stands (λ none. absurd (omega arith)) in
+      let st = f.stands (not_idle v.phase old_busy) in
       let meets : (seat : ℕ) (x : View) → get_elem? s.views seat ≡ some x → (k : ℕ) (a : Account) → get_elem? x.accounts k ≡ some a → Meets t v.rows v.members (x.low + k) a =
       λ seat x e. subst₂ (λ (rows : List Row) (members : List Member). (k : ℕ) (a : Account) → get_elem? x.accounts k ≡ some a → Meets t rows members (x.low + k) a) (sym out.1) (sym out.2) (kept.fits seat x e).meets in
       let mine : Fits t kept.queue (v.rows ++ done.batch) w.members kept.serving id w = record {
         terms = λ own. f.terms some_own;
         room = let r = f.room in omega arith;
         owns = omega arith;
-        stands = λ b. record { place = st.place; at = st.at; ticket = st.ticket; first = λ two. st.first (omega arith) };
+        stands = λ b. record { place = st.place; at = st.at; ticket = st.ticket; first = λ two. st.first (ap has_book phase) };
         meets = own_meet t v.rows v.members done v.low opened fit v.accounts (meets id v at);
       } in
       let others : (seat : ℕ) (x : View) → seat ≢ id → get_elem? s.views seat ≡ some x → Fits t kept.queue (v.rows ++ done.batch) w.members kept.serving seat x = λ seat x n e.
@@ -266,7 +268,7 @@ module _ {H : Type 0} (N : Naming H) where
         many = members_length w.accounts v.low v.members ∙ (ap (λ (l : List Member). length l) out.2 ∙ kept.many);
         fits = all_set (Fits t kept.queue (v.rows ++ done.batch) w.members kept.serving) s.views id w others mine;
         apart = apart_same s.views id v w at refl size_is kept.apart;
-        home = inr (out.0, id, w, set_here s.views id w (within s.views id v at), (omega arith), refl, refl);
+        home = inr (out.0, id, w, set_here s.views id w (within s.views id v at), refl, refl, refl);
       } in
       let P : List ℕ → Type 0 = λ ws. Kept N t (record { words = set ws 2 ((slice_index ws 2 + k) % M); homes = s.homes; views = set s.views id w }) in
       (w, keeps, tt, subst P (sym kept.words) after, refl)
@@ -291,15 +293,15 @@ module _ {H : Type 0} (N : Naming H) where
   first_of (x ∷ xs) id at = (xs, ap (λ (y : ℕ). y ∷ xs) (some-injective x id at), omega arith)
 
   -- 4. the seat gives the book back, and the turn to the next
-  pub passes : (t : Terms) (n id : ℕ) (v : View) (h : H) → v.phase ≡ 3 → N v.terms v.rows v.members h
+  pub passes : (t : Terms) (n id : ℕ) (v : View) (h : H) → v.phase ≡ HasCounted → N v.terms v.rows v.members h
       → Allows (Kept N t) n id (v, (0, Some h) ∷ []) 1 (λ n. (n + 1) % 2 ^ 64) (Passes (step n 1 1 0 none) (v, (0, Some h) ∷ []))
   passes t n id v h phase names s kept slots at room =
-      let two : 1 < v.phase = omega arith in
+      let two : has_book v.phase ≡ true = ap has_book phase in
       let f = kept.fits id v at in
       let out = holder_is t s kept id v at two in
       let rest = first_of kept.queue id (stands_first t s kept id v at two) in
       let w = rests v in
-      let old_busy : busy v ≡ 1 = rw phase in
+      let old_busy : busy v ≡ 1 = ap tickets phase in
       let some_own : 0 < length v.accounts = let o = f.owns in omega arith in
       let terms = f.terms some_own in
       let busy_at = total_set busy s.views id v w at in
@@ -309,8 +311,8 @@ module _ {H : Type 0} (N : Naming H) where
       record { terms = f.terms; room = f.room; owns = omega arith; stands = λ b. absurd (b refl); meets = f.meets } in
       let named : N t kept.rows kept.members h =
       subst (λ (x : Terms). N x kept.rows kept.members h) terms (subst₂ (λ (rows : List Row) (members : List Member). N v.terms rows members h) out.1 out.2 names) in
-      let none_has : NoneHas (set s.views id w) = all_set (λ seat (x : View). x.phase ≤ 1) s.views id w
-      (λ seat x n e. low_or x.phase (λ two_x. n (some-injective seat id (sym (stands_first t s kept seat x e two_x) ∙ stands_first t s kept id v at two)))) (omega arith) in
+      let none_has : NoneHas (set s.views id w) = all_set (λ seat (x : View). has_book x.phase ≡ false) s.views id w
+      (λ seat x n e. false_from_ne_true (has_book x.phase) (λ two_x. n (some-injective seat id (sym (stands_first t s kept seat x e two_x) ∙ stands_first t s kept id v at two)))) refl in
       let after : Kept N t (record { words = kept.next ∷ (kept.serving + 1) % M ∷ length kept.rows ∷ []; homes = some (Some h) ∷ []; views = set s.views id w }) = record {
         next = kept.next;
         serving = (kept.serving + 1) % M;
@@ -333,21 +335,16 @@ module _ {H : Type 0} (N : Naming H) where
       } in
       let P : List ℕ → List (mathlib.Core.Option.Option Slot) → Type 0 = λ ws hs. Kept N t (record { words = set ws 1 ((slice_index ws 1 + 1) % M); homes = set hs 0 (some (Some h)); views = set s.views id w }) in
       (w, gives, tt, subst₂ P (sym kept.words) (sym out.0) after, refl)
-    where
-      low_or : (p : ℕ) → (1 < p → ⊥) → p ≤ 1
-      low_or zero never = omega arith
-      low_or (suc zero) never = omega arith
-      low_or (suc (suc p)) never = absurd (never (omega arith))
 
-  pub draws_me : (t : Terms) (n id : ℕ) (me : Me Slot View) → me.1 ≡ [] → me.0.phase ≡ 0 → 0 < length me.0.accounts → Allows (Kept N t) n id me 0 (λ n. (n + 1) % 2 ^ 64) (Draws (step n 0 1 0 none) me)
+  pub draws_me : (t : Terms) (n id : ℕ) (me : Me Slot View) → me.1 ≡ [] → me.0.phase ≡ Idle → 0 < length me.0.accounts → Allows (Kept N t) n id me 0 (λ n. (n + 1) % 2 ^ 64) (Draws (step n 0 1 0 none) me)
   draws_me t n id me bare rests some_own =
       subst (λ (c : List (ℕ × Slot)). Allows (Kept N t) n id (me.0, c) 0 (λ n. (n + 1) % 2 ^ 64) (Draws (step n 0 1 0 none) (me.0, c))) (sym bare) (draws t n id me.0 rests some_own)
 
-  pub looks_me : (t : Terms) (n id : ℕ) (me : Me Slot View) → me.1 ≡ [] → me.0.phase ≡ 1 → Allows (Kept N t) n id me 1 (λ n. n) (Looks N (step n 1 0 0 none) me)
+  pub looks_me : (t : Terms) (n id : ℕ) (me : Me Slot View) → me.1 ≡ [] → me.0.phase ≡ Waiting → Allows (Kept N t) n id me 1 (λ n. n) (Looks N (step n 1 0 0 none) me)
   looks_me t n id me bare phase =
       subst (λ (c : List (ℕ × Slot)). Allows (Kept N t) n id (me.0, c) 1 (λ n. n) (Looks N (step n 1 0 0 none) (me.0, c))) (sym bare) (looks t n id me.0 phase)
 
-  pub passes_me : (t : Terms) (n id : ℕ) (me : Me Slot View) (h : H) → me.1 ≡ (0, Some h) ∷ [] → me.0.phase ≡ 3 → N me.0.terms me.0.rows me.0.members h
+  pub passes_me : (t : Terms) (n id : ℕ) (me : Me Slot View) (h : H) → me.1 ≡ (0, Some h) ∷ [] → me.0.phase ≡ HasCounted → N me.0.terms me.0.rows me.0.members h
       → Allows (Kept N t) n id me 1 (λ n. (n + 1) % 2 ^ 64) (Passes (step n 1 1 0 none) me)
   passes_me t n id me h bare phase names =
       subst (λ (c : List (ℕ × Slot)). Allows (Kept N t) n id (me.0, c) 1 (λ n. (n + 1) % 2 ^ 64) (Passes (step n 1 1 0 none) (me.0, c))) (sym bare) (passes t n id me.0 h phase names)

@@ -1,15 +1,17 @@
 -- The views of all seats after a change of one.
-use Rattle.std.proofs.Common.{◌≡◌, ◌≢◌, ◌⊎◌, inl, inr, ⊎_elim, ℕ, zero, suc, ◌+◌, ◌<◌, ◌≤◌, List, [], ◌∷◌, ◌++◌, set, length, Option, refl, sym, ap, subst, subst₂, ◌∙◌, arith}
+use Rattle.std.proofs.Common.{◌≡◌, ◌≢◌, ◌⊎◌, inl, inr, ⊎_elim, ℕ, zero, suc, ◌+◌, ◌<◌, ◌≤◌, true, false, true≢false, List, [], ◌∷◌, ◌++◌, set, length, Option, refl, sym, ap, subst, subst₂, ◌∙◌, arith}
 use Rattle.std.proofs.lemmas.List.{length-append, append_assoc, append-nil}
 use mathlib.Core.Option.{some, some-injective, some-ne-none}
 use lib.ListN.{get_elem?}
 use Rattle.atomic_table.proofs.Lists.{at_set, set_else, at_longer}
 use Rattle.dns_keeper.specs.declared.row.Row.{Row}
 use Rattle.dns_ticket_lock.specs.declared.held.Member.{Member}
+use Rattle.dns_ticket_lock.specs.declared.view.Phase.{Phase}
+use Rattle.dns_ticket_lock.specs.declared.view.Phase.TheVariants.{Idle}
 use Rattle.dns_ticket_lock.specs.declared.view.Terms.{Terms}
 use Rattle.dns_ticket_lock.specs.declared.view.View.{View}
 use Rattle.dns_ticket_lock.specs.Lists.{StartsWith, with_head}
-use Rattle.dns_ticket_lock.specs.Rule.{Naming, Fits, Stands, Clear, Apart, IsHome}
+use Rattle.dns_ticket_lock.specs.Rule.{Naming, Fits, Stands, Clear, Apart, IsHome, has_book, tickets}
 
 pub begins_more : (rows seen later : List Row) → StartsWith later rows → StartsWith rows seen → StartsWith later seen
 begins_more rows seen later more less = (less.0 ++ more.0, more.1 ∙ (ap (λ (xs : List Row). xs ++ more.0) less.1 ∙ append_assoc seen less.0 more.0))
@@ -93,19 +95,28 @@ apart_snoc views w mine apart i j x y n at bt = ⊎_elim
     (at_end views w y j bt))
     (at_end views w x i at)
 
+-- one that has a ticket is not idle
+pub not_idle : (p : Phase) → tickets p ≡ 1 → p ≢ Idle
+not_idle p one is = let none : tickets p ≡ 0 = ap tickets is in omega arith
+
+-- one that has the book has a ticket
+pub has_ticket : (p : Phase) → has_book p ≡ true → tickets p ≡ 1
+has_ticket Idle e = absurd (true≢false (sym e))
+has_ticket p e = refl
+
 -- the home stays as it is where a seat that doesn't have the book changes
-pub home_stays : {H : Type 0} (N : Naming H) (t : Terms) (homes : List (mathlib.Core.Option.Option (Option H))) (views : List View) (rows : List Row) (members : List Member) (id : ℕ) (v w : View) → get_elem? views id ≡ some v → v.phase ≤ 1 → w.phase ≤ 1
+pub home_stays : {H : Type 0} (N : Naming H) (t : Terms) (homes : List (mathlib.Core.Option.Option (Option H))) (views : List View) (rows : List Row) (members : List Member) (id : ℕ) (v w : View) → get_elem? views id ≡ some v → has_book v.phase ≡ false → has_book w.phase ≡ false
     → IsHome N t homes views rows members → IsHome N t homes (set views id w) rows members
 home_stays N t homes views rows members id v w at old new (inl here) =
-    inl (here.0, here.1, here.2, all_set (λ seat (x : View). x.phase ≤ 1) views id w (λ seat x n e. here.3 seat x e) new)
+    inl (here.0, here.1, here.2, all_set (λ seat (x : View). has_book x.phase ≡ false) views id w (λ seat x n e. here.3 seat x e) new)
 home_stays N t homes views rows members id v w at old new (inr away) =
-    let apart : away.1 ≢ id = λ same. let p = ap (λ (y : View). y.phase) (same_at views id away.1 v away.2 (sym same) at away.3) in let h = away.4 in absurd (omega arith) in
+    let apart : away.1 ≢ id = λ same. true≢false (sym away.4 ∙ (ap (λ (y : View). has_book y.phase) (same_at views away.1 id away.2 v same away.3 at) ∙ old)) in
     inr (away.0, away.1, away.2, set_else views id away.1 w apart ∙ away.3, away.4, away.5, away.6)
 
-pub home_longer : {H : Type 0} (N : Naming H) (t : Terms) (homes : List (mathlib.Core.Option.Option (Option H))) (views : List View) (rows : List Row) (members : List Member) (w : View) → w.phase ≤ 1
+pub home_longer : {H : Type 0} (N : Naming H) (t : Terms) (homes : List (mathlib.Core.Option.Option (Option H))) (views : List View) (rows : List Row) (members : List Member) (w : View) → has_book w.phase ≡ false
     → IsHome N t homes views rows members → IsHome N t homes (views ++ w ∷ []) rows members
 home_longer N t homes views rows members w new (inl here) =
-    inl (here.0, here.1, here.2, all_snoc (λ seat (x : View). x.phase ≤ 1) views w here.3 (λ seat. new))
+    inl (here.0, here.1, here.2, all_snoc (λ seat (x : View). has_book x.phase ≡ false) views w here.3 (λ seat. new))
 home_longer N t homes views rows members w new (inr away) =
     inr (away.0, away.1, away.2, at_longer views (w ∷ []) away.1 away.2 away.3, away.4, away.5, away.6)
 
@@ -115,6 +126,6 @@ length_head f (x ∷ xs) = refl
 
 -- the facts of a seat that drew no ticket, or stands as it did
 pub restand : (t : Terms) (queue later : List ℕ) (rows : List Row) (members : List Member) (serving now seat : ℕ) (x : View) → Fits t queue rows members serving seat x
-    → (x.phase ≢ 0 → Stands queue serving seat x → Stands later now seat x) → Fits t later rows members now seat x
+    → (x.phase ≢ Idle → Stands queue serving seat x → Stands later now seat x) → Fits t later rows members now seat x
 restand t queue later rows members serving now seat x f moves =
     record { terms = f.terms; room = f.room; owns = f.owns; stands = λ busy. moves busy (f.stands busy); meets = f.meets }

@@ -1,6 +1,6 @@
 -- The rule of a ticket lock round a book. Its table has three words, the next ticket, the ticket that is served and the number
 -- of rows, and one slot, where the book is at home.
-use Rattle.std.specs.Prelude.{◌≡◌, ◌≢◌, ◌⊎◌, ℕ, ◌+◌, ◌%◌, ◌^◌, ◌<◌, ◌≤◌, ◌==◌, ◌||◌, Bool, true, false, if◌then◌else◌, MatchBool, List, [], ◌∷◌, ◌++◌, length, drop, replicate, slice_set, Option, Some, None}
+use Rattle.std.specs.Prelude.{◌≡◌, ◌≢◌, ◌⊎◌, ℕ, ◌+◌, ◌%◌, ◌^◌, ◌<◌, ◌≤◌, ◌==◌, ◌||◌, Bool, true, false, MatchBool, List, [], ◌∷◌, ◌++◌, length, drop, replicate, slice_set, Option, Some, None}
 use mathlib.Core.Option.{some, none}
 use lib.ListN.{get_elem?}
 use Rattle.atomic_table.specs.Table.{State, Me, Step}
@@ -8,6 +8,8 @@ use Rattle.dns_keeper.specs.declared.row.Row.{Row}
 use Rattle.dns_book.specs.declared.ask.Receipt.{Receipt}
 use Rattle.dns_ticket_lock.specs.declared.held.Member.{Member}
 use Rattle.dns_ticket_lock.specs.declared.view.Account.{Account}
+use Rattle.dns_ticket_lock.specs.declared.view.Phase.{Phase}
+use Rattle.dns_ticket_lock.specs.declared.view.Phase.TheVariants.{Idle, Waiting, Holding, HasCounted}
 use Rattle.dns_ticket_lock.specs.declared.view.Terms.{Terms}
 use Rattle.dns_ticket_lock.specs.declared.view.View.{View}
 use Rattle.dns_ticket_lock.specs.Lists.{StartsWith, total, with_head, only_first, but_first}
@@ -30,11 +32,11 @@ terms_of (t ∷ ts) = t
 
 -- the first seat has every account
 abbrev pub first_view : Terms → View
-first_view t = record { phase = 0; ticket = 0; low = 0; accounts = replicate t.seats (fresh t); rows = []; members = []; terms = t }
+first_view t = record { phase = Idle; ticket = 0; low = 0; accounts = replicate t.seats (fresh t); rows = []; members = []; terms = t }
 
 -- a seat that another took in
 abbrev pub spent : View
-spent = record { phase = 0; ticket = 0; low = 0; accounts = []; rows = []; members = []; terms = no_terms }
+spent = record { phase = Idle; ticket = 0; low = 0; accounts = []; rows = []; members = []; terms = no_terms }
 
 -- the view of a pass that is at rest
 abbrev pub view_of : List View → View
@@ -42,10 +44,10 @@ view_of [] = spent
 view_of (v ∷ vs) = v
 
 abbrev pub waits : ℕ → View → View
-waits ticket v = record v { phase = 1; ticket = ticket }
+waits ticket v = record v { phase = Waiting; ticket = ticket }
 
 abbrev pub has : List Row → List Member → View → View
-has rows members v = record v { phase = 2; rows = rows; members = members }
+has rows members v = record v { phase = Holding; rows = rows; members = members }
 
 abbrev pub member_of : Account → Member
 member_of a = record { share = a.faults; mark = a.marked }
@@ -82,26 +84,37 @@ with_member (a ∷ more) low ms = slice_set ms low (member_of a)
 
 abbrev pub has_counted : Done → View → View
 has_counted done v = record v {
-  phase = 3;
+  phase = HasCounted;
   accounts = with_head (settled v.rows done) v.accounts;
   rows = v.rows ++ done.batch;
   members = with_member (with_head (settled v.rows done) v.accounts) v.low v.members;
 }
 
 abbrev pub rests : View → View
-rests v = record v { phase = 0; rows = []; members = [] }
+rests v = record v { phase = Idle; rows = []; members = [] }
 
 abbrev pub keeps_first : View → View
 keeps_first v = record v { accounts = only_first v.accounts }
 
 abbrev pub has_others : View → View
-has_others v = record v { phase = 0; low = v.low + 1; accounts = but_first v.accounts }
+has_others v = record v { phase = Idle; low = v.low + 1; accounts = but_first v.accounts }
 
 abbrev pub with_both : View → View → View
 with_both v w = record v { accounts = v.accounts ++ w.accounts }
 
+-- it holds or has counted
+abbrev pub has_book : Phase → Bool
+has_book Holding = true
+has_book HasCounted = true
+has_book phase = false
+
+-- how many tickets it has: none where it is idle, else one
+abbrev pub tickets : Phase → ℕ
+tickets Idle = 0
+tickets phase = 1
+
 abbrev pub busy : View → ℕ
-busy v = if v.phase == 0 then 0 else 1
+busy v = tickets v.phase
 
 abbrev pub size : View → ℕ
 size v = length v.accounts
@@ -111,7 +124,7 @@ pub record Stands (queue : List ℕ) (serving seat : ℕ) (v : View) : Type 0 wh
   pub place : ℕ
   pub at : get_elem? queue place ≡ some seat
   pub ticket : v.ticket ≡ (serving + place) % 2 ^ 64
-  pub first : 1 < v.phase → place ≡ 0
+  pub first : has_book v.phase ≡ true → place ≡ 0
 
 -- the account of the number i + 1 has seen a beginning of the rows, the rows past the opening that bear its number are exactly
 -- those of its receipts, at their places, each once, and its faults and mark are its member's
@@ -124,7 +137,7 @@ pub record Fits (t : Terms) (queue : List ℕ) (rows : List Row) (members : List
   pub terms : 0 < length v.accounts → v.terms ≡ t
   pub room : v.low + length v.accounts ≤ t.seats
   pub owns : busy v ≤ length v.accounts
-  pub stands : v.phase ≢ 0 → Stands queue serving seat v
+  pub stands : v.phase ≢ Idle → Stands queue serving seat v
   pub meets : (k : ℕ) (a : Account) → get_elem? v.accounts k ≡ some a → Meets t rows members (v.low + k) a
 
 -- no number is in both
@@ -135,13 +148,13 @@ abbrev pub Apart : List View → Type 0
 Apart views = (i j : ℕ) (v w : View) → i ≢ j → get_elem? views i ≡ some v → get_elem? views j ≡ some w → Clear v w
 
 abbrev pub NoneHas : List View → Type 0
-NoneHas views = (seat : ℕ) (w : View) → get_elem? views seat ≡ some w → w.phase ≤ 1
+NoneHas views = (seat : ℕ) (w : View) → get_elem? views seat ≡ some w → has_book w.phase ≡ false
 
 -- the book is at home and no seat has it, or one seat has it or has counted, whose view names the rows and members
 abbrev pub IsHome : {H : Type 0} → Naming H → Terms → List (mathlib.Core.Option.Option (Option H)) → List View → List Row → List Member → Type 0
 IsHome {H} N t homes views rows members =
     ((h : H) × (homes ≡ some (Some h) ∷ []) × N t rows members h × NoneHas views)
-    ⊎ ((homes ≡ none ∷ []) × (holder : ℕ) × (w : View) × (get_elem? views holder ≡ some w) × (1 < w.phase) × (w.rows ≡ rows) × (w.members ≡ members))
+    ⊎ ((homes ≡ none ∷ []) × (holder : ℕ) × (w : View) × (get_elem? views holder ≡ some w) × (has_book w.phase ≡ true) × (w.rows ≡ rows) × (w.members ≡ members))
 
 -- what holds between any two steps
 pub record Kept {H : Type 0} (N : Naming H) (t : Terms) (s : State (Option H) View) : Type 0 where
@@ -200,7 +213,7 @@ own (a ∷ more) = a
 -- the view of a pass that is at rest, whose number is this
 pub record Rests (views : List View) (number : ℕ) : Type 0 where
   pub one : length views ≡ 1
-  pub idle : (view_of views).phase ≡ 0
+  pub idle : (view_of views).phase ≡ Idle
   pub account : length (view_of views).accounts ≡ 1
   pub place : (view_of views).low + 1 ≡ number
   pub few : number ≤ 1024

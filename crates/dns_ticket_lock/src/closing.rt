@@ -3,6 +3,7 @@
 ghost use Rattle.std.specs.Prelude.{◌≡◌, ◌⊎◌, ℕ, ◌+◌, ◌-◌, ◌<◌, length, [], ◌∷◌};
 ghost use mathlib.Core.Option.{some};
 ghost use lib.ListN.{get_elem?};
+ghost use Rattle.dns_ticket_lock.specs.declared.view.Phase.TheVariants.{Idle};
 ghost use Rattle.dns_ticket_lock.specs.Lists.{total};
 ghost use Rattle.dns_ticket_lock.specs.Rule.{faults_of};
 ghost use Rattle.dns_ticket_lock.specs.Passes.{AreAll, ClosedFor, pass_faults};
@@ -44,7 +45,7 @@ fn take_out<T: Carried>(board: &Board<T>, passes: &mut Vec<Pass>, number: u32) -
 /// The seat of a pass.
 fn seat_of<T>(pass: Pass) -> Seat<Option<T>, View>
     ensures table { result.table_id ≡ pass.book }
-    ensures rests { (result.me.1 ≡ []) × (result.me.0.phase ≡ 0) × (result.me.0.low + 1 ≡ pass.number) }
+    ensures rests { (result.me.1 ≡ []) × (result.me.0.phase ≡ Idle) × (result.me.0.low + 1 ≡ pass.number) }
     ensures account { result.me.0.accounts ≡ pass.account ∷ [] }
 {
     let Pass { badge, .. } = pass;
@@ -60,7 +61,7 @@ fn join_all<T: Carried>(
     requires board { (board.now.table_id.words ≡ 3) × (board.now.table_id.slots ≡ 1) }
     requires all { AreAll board.now.table_id seats passes.items × (0 < seats) × (seats < 1025) }
     ensures table { result.table_id ≡ board.now.table_id }
-    ensures rests { (result.me.1 ≡ []) × (result.me.0.phase ≡ 0) × (result.me.0.low ≡ 0) }
+    ensures rests { (result.me.1 ≡ []) × (result.me.0.phase ≡ Idle) × (result.me.0.low ≡ 0) }
     ensures many { length result.me.0.accounts ≡ seats }
     ensures found { (i : ℕ) (p : _) → get_elem? passes.items i ≡ some p
         → (k : ℕ) × (p.number ≡ k + 1) × (get_elem? result.me.0.accounts k ≡ some p.account) }

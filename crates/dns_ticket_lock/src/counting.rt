@@ -1,6 +1,7 @@
 //! How a seat counts what a settle did.
 
 ghost use Rattle.std.specs.Prelude.{◌≡◌, ◌+◌, length};
+ghost use Rattle.dns_ticket_lock.specs.declared.view.Phase.TheVariants.{Holding};
 ghost use Rattle.dns_ticket_lock.specs.Rule.{IsDone, has_counted};
 ghost use Rattle.dns_ticket_lock.specs.Counted.{done_at, CountsRows};
 
@@ -19,7 +20,7 @@ fn note<K: Keeper, J: Batch>(
     told: &Told,
 )
     requires board { (board.now.table_id.words ≡ 3) × (board.now.table_id.slots ≡ 1) × (seat.old.table_id ≡ board.now.table_id) }
-    requires has { seat.old.me.0.phase ≡ 2 }
+    requires has { seat.old.me.0.phase ≡ Holding }
     requires done { IsDone (seat.old.me.0.low + 1) seat.old.me.0.rows J.done }
     requires many { CountsRows told.now seat.old.me.0 J.done held.now.value.book.row_count }
     requires picked { J.done ≡ done_at K.keeper seat.old.me.0 held.now.value.book told.now }
@@ -42,7 +43,7 @@ pub(crate) fn count_done<K: Keeper>(
     told: &Told,
 )
     requires board { (board.now.table_id.words ≡ 3) × (board.now.table_id.slots ≡ 1) × (seat.old.table_id ≡ board.now.table_id) }
-    requires has { seat.old.me.0.phase ≡ 2 }
+    requires has { seat.old.me.0.phase ≡ Holding }
     requires done { IsDone (seat.old.me.0.low + 1) seat.old.me.0.rows (done_at K.keeper seat.old.me.0 held.now.value.book told.now) }
     requires many { CountsRows told.now seat.old.me.0
         (done_at K.keeper seat.old.me.0 held.now.value.book told.now) held.now.value.book.row_count }

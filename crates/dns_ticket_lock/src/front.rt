@@ -7,6 +7,7 @@ ghost use lib.ListN.{get_elem?};
 ghost use Rattle.dns_keeper.specs.declared.row.Row.{Row};
 ghost use Rattle.dns_server_core.specs.FrameRuns.{Adds, AddsFront, Halts, behind_first, first_asks, first_messages};
 ghost use Rattle.dns_ticket_lock.specs.declared.view.Account.{Account};
+ghost use Rattle.dns_ticket_lock.specs.declared.view.Phase.TheVariants.{Idle};
 ghost use Rattle.dns_ticket_lock.specs.declared.view.Terms.{Terms};
 ghost use Rattle.dns_ticket_lock.specs.Fronts.{nothing_told};
 ghost use Rattle.dns_ticket_lock.specs.Lists.{StartsWith};
@@ -160,12 +161,12 @@ fn settle_turn<'a, K: Keeper, R: Wait>(
     replies: &mut Vec<u8>,
 ) -> (Result<Front<'a>, OutOfMemory>, u64)
     requires board { (board.now.table_id.words ≡ 3) × (board.now.table_id.slots ≡ 1) × (seat.old.table_id ≡ board.now.table_id) }
-    requires idle { (seat.old.me.1 ≡ []) × (seat.old.me.0.phase ≡ 0) × (length seat.old.me.0.accounts ≡ 1) }
+    requires idle { (seat.old.me.1 ≡ []) × (seat.old.me.0.phase ≡ Idle) × (length seat.old.me.0.accounts ≡ 1) }
     requires number { ask.now.client ≡ seat.old.me.0.low + 1 }
     requires moment { ask.now.at < 2 ^ 47 }
     requires some { 0 < length (first_messages most bytes.now) }
     ensures same { seat.new.table_id ≡ seat.old.table_id }
-    ensures idle { (seat.new.me.1 ≡ []) × (seat.new.me.0.phase ≡ 0) × (length seat.new.me.0.accounts ≡ 1) }
+    ensures idle { (seat.new.me.1 ≡ []) × (seat.new.me.0.phase ≡ Idle) × (length seat.new.me.0.accounts ≡ 1) }
     ensures low { (seat.new.me.0.low ≡ seat.old.me.0.low) × (seat.new.me.0.terms ≡ seat.old.me.0.terms) }
     ensures seen { length (own seat.new.me.0.accounts).seen ≡ result.1 }
     ensures ok { IfOk result.0 (λ f. AddsFront (SettledAs K.keeper seat.old.me.0.terms access.now ask.now.client)
@@ -201,12 +202,12 @@ fn settle_turns<K: Keeper, R: Wait>(
     replies: &mut Vec<u8>,
 ) -> Result<Answered, OutOfMemory>
     requires board { (board.now.table_id.words ≡ 3) × (board.now.table_id.slots ≡ 1) × (seat.old.table_id ≡ board.now.table_id) }
-    requires idle { (seat.old.me.1 ≡ []) × (seat.old.me.0.phase ≡ 0) × (length seat.old.me.0.accounts ≡ 1) }
+    requires idle { (seat.old.me.1 ≡ []) × (seat.old.me.0.phase ≡ Idle) × (length seat.old.me.0.accounts ≡ 1) }
     requires number { ask.now.client ≡ seat.old.me.0.low + 1 }
     requires moment { ask.now.at < 2 ^ 47 }
     requires seen { length (own seat.old.me.0.accounts).seen ≡ seen.old }
     ensures same { seat.new.table_id ≡ seat.old.table_id }
-    ensures idle { (seat.new.me.1 ≡ []) × (seat.new.me.0.phase ≡ 0) × (length seat.new.me.0.accounts ≡ 1) }
+    ensures idle { (seat.new.me.1 ≡ []) × (seat.new.me.0.phase ≡ Idle) × (length seat.new.me.0.accounts ≡ 1) }
     ensures low { (seat.new.me.0.low ≡ seat.old.me.0.low) × (seat.new.me.0.terms ≡ seat.old.me.0.terms) }
     ensures seen { length (own seat.new.me.0.accounts).seen ≡ seen.new }
     ensures ok { OnOk result (Adds (SettledAs K.keeper seat.old.me.0.terms access.now ask.now.client) (own seat.old.me.0.accounts)

@@ -17,4 +17,4 @@ pub use held::{Held, Member, Told};
 pub use pass::{Pass, TicketBook};
 pub use seated::Seated;
 pub use steps::{Batch, Carried};
-pub use view::{Account, Terms, View};
+pub use view::{Account, Phase, Terms, View};

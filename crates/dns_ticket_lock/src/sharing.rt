@@ -1,6 +1,7 @@
 //! How a book becomes a shared one, with a pass for each number.
 
 ghost use Rattle.std.specs.Prelude.{◌≡◌, ◌≢◌, ℕ, ◌+◌, ◌-◌, ◌<◌, ◌≤◌, length, replicate, vec_capacity, [], ◌∷◌, ◌++◌, Some, None, IfSome, IfOk, IfErr};
+ghost use Rattle.dns_ticket_lock.specs.declared.view.Phase.TheVariants.{Idle};
 ghost use Rattle.dns_ticket_lock.specs.Rule.{fresh, own, terms_of};
 ghost use Rattle.dns_ticket_lock.specs.Naming.{terms_at};
 ghost use Rattle.dns_ticket_lock.specs.Passes.{InOrder, AreNew, ArePasses};
@@ -18,7 +19,7 @@ use std::alloc::Global;
 
 /// A pass of a seat with one account, which has seen so many rows.
 fn pass_of<T: Carried>(alloc: Global, seat: Seat<Option<T>, View>, number: u32, seen: u64) -> Pass
-    requires rests { (seat.me.1 ≡ []) × (seat.me.0.phase ≡ 0) × (length seat.me.0.accounts ≡ 1) × (seat.me.0.low + 1 ≡ number) }
+    requires rests { (seat.me.1 ≡ []) × (seat.me.0.phase ≡ Idle) × (length seat.me.0.accounts ≡ 1) × (seat.me.0.low + 1 ≡ number) }
     requires seen { length (own seat.me.0.accounts).seen ≡ seen }
     requires few { number ≤ 1024 }
     ensures { result ≡ record { book = seat.table_id; terms = seat.me.0.terms; number = number; account = own seat.me.0.accounts } }
@@ -41,7 +42,7 @@ fn share_out<T: Carried>(
     mut passes: Vec<Pass>,
 ) -> Vec<Pass>
     requires board { (board.now.table_id.words ≡ 3) × (board.now.table_id.slots ≡ 1) × (first.table_id ≡ board.now.table_id) }
-    requires first { (first.me.1 ≡ []) × (first.me.0.phase ≡ 0) × (first.me.0.low ≡ 0)
+    requires first { (first.me.1 ≡ []) × (first.me.0.phase ≡ Idle) × (first.me.0.low ≡ 0)
         × (first.me.0.accounts ≡ replicate seats (fresh (terms_of board.now.key.views))) × (first.me.0.terms ≡ terms_of board.now.key.views) }
     requires some { (0 < seats) × (seats ≤ 1024) }
     requires seen { length (terms_of board.now.key.views).rows ≡ seen }

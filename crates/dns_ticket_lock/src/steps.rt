@@ -3,6 +3,7 @@
 ghost use Rattle.std.specs.Prelude.{◌≡◌, ◌≢◌, ℕ, ◌+◌, ◌<◌, ◌==◌, ◌^◌, true, length, List, [], ◌∷◌, ◌++◌, Some, None, MatchBool};
 ghost use Rattle.dns_keeper.specs.declared.row.Row.{Row};
 ghost use Rattle.dns_ticket_lock.specs.declared.held.Member.{Member};
+ghost use Rattle.dns_ticket_lock.specs.declared.view.Phase.TheVariants.{Idle, Waiting, Holding, HasCounted};
 ghost use Rattle.dns_ticket_lock.specs.declared.view.Terms.{Terms};
 ghost use Rattle.dns_ticket_lock.specs.Rule.{terms_of, Takes, Kept, Draws, Looks, LooksAt, Counts, Passes, Done, IsDone, nothing_done, first_view, waits, has, has_counted, rests, keeps_first, has_others, with_both, spent};
 
@@ -98,7 +99,7 @@ const NAP_MICROS: u64 = 50;
 /// Draws a ticket.
 pub(crate) fn draw<T: Carried>(board: &Board<T>, seat: &mut Seat<Option<T>, View>) -> u64
     requires board { (board.now.table_id.words ≡ 3) × (board.now.table_id.slots ≡ 1) × (seat.old.table_id ≡ board.now.table_id) }
-    requires idle { (seat.old.me.1 ≡ []) × (seat.old.me.0.phase ≡ 0) × (0 < length seat.old.me.0.accounts) }
+    requires idle { (seat.old.me.1 ≡ []) × (seat.old.me.0.phase ≡ Idle) × (0 < length seat.old.me.0.accounts) }
     ensures same { seat.new.table_id ≡ seat.old.table_id }
     ensures waits { seat.new.me ≡ (waits result seat.old.me.0, []) }
 {
@@ -108,7 +109,7 @@ pub(crate) fn draw<T: Carried>(board: &Board<T>, seat: &mut Seat<Option<T>, View
 /// The ticket that is served. Where it is the seat's, it has the book.
 fn look<T: Carried>(board: &Board<T>, seat: &mut Seat<Option<T>, View>) -> u64
     requires board { (board.now.table_id.words ≡ 3) × (board.now.table_id.slots ≡ 1) × (seat.old.table_id ≡ board.now.table_id) }
-    requires waits { (seat.old.me.1 ≡ []) × (seat.old.me.0.phase ≡ 1) }
+    requires waits { (seat.old.me.1 ≡ []) × (seat.old.me.0.phase ≡ Waiting) }
     ensures same { seat.new.table_id ≡ seat.old.table_id }
     ensures turn { LooksAt T.names seat.old.me result seat.new.me }
 {
@@ -141,7 +142,7 @@ pub(crate) fn wait_for_turn<T: Carried, R: Wait>(
     ticket: u64,
 )
     requires board { (board.now.table_id.words ≡ 3) × (board.now.table_id.slots ≡ 1) × (seat.old.table_id ≡ board.now.table_id) }
-    requires waits { (seat.old.me.1 ≡ []) × (seat.old.me.0.phase ≡ 1) × (seat.old.me.0.ticket ≡ ticket) }
+    requires waits { (seat.old.me.1 ≡ []) × (seat.old.me.0.phase ≡ Waiting) × (seat.old.me.0.ticket ≡ ticket) }
     ensures same { seat.new.table_id ≡ seat.old.table_id }
     ensures turn { (h : _) × (rows : _) × (members : _)
         × (seat.new.me ≡ (has rows members seat.old.me.0, (0, Some h) ∷ [])) × Takes T.names seat.old.me.0 rows members h }
@@ -189,7 +190,7 @@ pub(crate) fn count<T: Carried, J: Batch>(
     many: u64,
 )
     requires board { (board.now.table_id.words ≡ 3) × (board.now.table_id.slots ≡ 1) × (seat.old.table_id ≡ board.now.table_id) }
-    requires has { seat.old.me.0.phase ≡ 2 }
+    requires has { seat.old.me.0.phase ≡ Holding }
     requires done { IsDone (seat.old.me.0.low + 1) seat.old.me.0.rows J.done }
     requires many { (many ≡ length J.done.batch) × (length seat.old.me.0.rows + length J.done.batch < 2 ^ 64) }
     ensures same { seat.new.table_id ≡ seat.old.table_id }
@@ -201,7 +202,7 @@ pub(crate) fn count<T: Carried, J: Batch>(
 /// Gives the slot back, and the turn to the next.
 pub(crate) fn leave<T: Carried>(board: &Board<T>, seat: &mut Seat<Option<T>, View>)
     requires board { (board.now.table_id.words ≡ 3) × (board.now.table_id.slots ≡ 1) × (seat.old.table_id ≡ board.now.table_id) }
-    requires counted { (seat.old.me.0.phase ≡ 3)
+    requires counted { (seat.old.me.0.phase ≡ HasCounted)
         × ((h : _) × (seat.old.me.1 ≡ (0, Some h) ∷ []) × T.names seat.old.me.0.terms seat.old.me.0.rows seat.old.me.0.members h) }
     ensures same { seat.new.table_id ≡ seat.old.table_id }
     ensures rests { seat.new.me ≡ (rests seat.old.me.0, []) }

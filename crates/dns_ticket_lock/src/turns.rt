@@ -2,6 +2,7 @@
 
 ghost use Rattle.std.specs.Prelude.{◌≡◌, ℕ, ◌+◌, ◌<◌, ◌≤◌, ◌^◌, true, length, [], ◌∷◌, ◌++◌, Some, None, IfOk, OnErr};
 ghost use Rattle.dns_book.specs.Into.{SettlesInto};
+ghost use Rattle.dns_ticket_lock.specs.declared.view.Phase.TheVariants.{Idle, Holding};
 ghost use Rattle.dns_ticket_lock.specs.Rule.{Takes, IsDone, waits, has, has_counted, rests, own};
 ghost use Rattle.dns_ticket_lock.specs.Settling.{SettledAs, LeftAs, asked_by};
 ghost use Rattle.dns_ticket_lock.specs.Counted.{done_at, CountsRows, NamesCounted};
@@ -26,7 +27,7 @@ pub(crate) fn begin_turn<T: Carried, R: Wait>(
     seat: &mut Seat<Option<T>, View>,
 ) -> T
     requires board { (board.now.table_id.words ≡ 3) × (board.now.table_id.slots ≡ 1) × (seat.old.table_id ≡ board.now.table_id) }
-    requires idle { (seat.old.me.1 ≡ []) × (seat.old.me.0.phase ≡ 0) × (0 < length seat.old.me.0.accounts) }
+    requires idle { (seat.old.me.1 ≡ []) × (seat.old.me.0.phase ≡ Idle) × (0 < length seat.old.me.0.accounts) }
     ensures same { seat.new.table_id ≡ seat.old.table_id }
     ensures took { (ticket : ℕ) × (rows : _) × (members : _)
         × (seat.new.me ≡ (has rows members (waits ticket seat.old.me.0), (0, None) ∷ [])) × Takes T.names seat.old.me.0 rows members result }
@@ -44,7 +45,7 @@ pub(crate) fn end_turn<K: Keeper>(
     told: &Told,
 )
     requires board { (board.now.table_id.words ≡ 3) × (board.now.table_id.slots ≡ 1) × (seat.old.table_id ≡ board.now.table_id) }
-    requires has { (seat.old.me.0.phase ≡ 2) × (seat.old.me.1 ≡ (0, None) ∷ []) }
+    requires has { (seat.old.me.0.phase ≡ Holding) × (seat.old.me.1 ≡ (0, None) ∷ []) }
     requires done { IsDone (seat.old.me.0.low + 1) seat.old.me.0.rows (done_at K.keeper seat.old.me.0 held.value.book told.now) }
     requires many { CountsRows told.now seat.old.me.0 (done_at K.keeper seat.old.me.0 held.value.book told.now) held.value.book.row_count }
     requires names { NamesCounted K.keeper seat.old.me.0
@@ -69,12 +70,12 @@ fn settle_seat<K: Keeper, R: Wait>(
     is_framed: bool,
 ) -> (Result<SettledInto, OutOfMemory>, u64)
     requires board { (board.now.table_id.words ≡ 3) × (board.now.table_id.slots ≡ 1) × (seat.old.table_id ≡ board.now.table_id) }
-    requires idle { (seat.old.me.1 ≡ []) × (seat.old.me.0.phase ≡ 0) × (length seat.old.me.0.accounts ≡ 1) }
+    requires idle { (seat.old.me.1 ≡ []) × (seat.old.me.0.phase ≡ Idle) × (length seat.old.me.0.accounts ≡ 1) }
     requires number { ask.now.client ≡ seat.old.me.0.low + 1 }
     requires moment { ask.now.at < 2 ^ 47 }
     requires bytes { length ask.now.bytes ≤ 65535 }
     ensures same { seat.new.table_id ≡ seat.old.table_id }
-    ensures idle { (seat.new.me.1 ≡ []) × (seat.new.me.0.phase ≡ 0) × (length seat.new.me.0.accounts ≡ 1) }
+    ensures idle { (seat.new.me.1 ≡ []) × (seat.new.me.0.phase ≡ Idle) × (length seat.new.me.0.accounts ≡ 1) }
     ensures low { (seat.new.me.0.low ≡ seat.old.me.0.low) × (seat.new.me.0.terms ≡ seat.old.me.0.terms) }
     ensures seen { length (own seat.new.me.0.accounts).seen ≡ result.1 }
     ensures ok { IfOk result.0 (SettlesInto (λ settled. SettledAs K.keeper seat.old.me.0.terms access.now (seat.old.me.0.low + 1)

@@ -32,10 +32,22 @@ pub struct Terms {
     pub allow_update: bool,
 }
 
+/// What a seat is at.
+pub enum Phase {
+    /// It has no ticket.
+    Idle,
+    /// It has a ticket, and waits for its turn.
+    Waiting,
+    /// It has the book.
+    Holding,
+    /// It has the book, and has counted what it did.
+    HasCounted,
+}
+
 /// What a seat knows.
 pub struct View {
-    /// 0 where it is idle, 1 where it waits, 2 where it has the book, 3 where it has counted what it did.
-    pub phase: u64,
+    /// What it is at.
+    pub phase: Phase,
     /// The ticket that it drew.
     pub ticket: u64,
     /// Its accounts are those of the numbers low + 1, low + 2 and so on.

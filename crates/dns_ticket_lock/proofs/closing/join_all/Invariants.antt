@@ -1,6 +1,7 @@
 use Rattle.std.proofs.Common.{◌≡◌, ◌⊎◌, ℕ, ◌+◌, ◌-◌, ◌<◌, length, []}
 use mathlib.Core.Option.{some}
 use lib.ListN.{get_elem?}
+use Rattle.dns_ticket_lock.specs.declared.view.Phase.TheVariants.{Idle}
 use Rattle.dns_ticket_lock.specs.Lists.{total}
 use Rattle.dns_ticket_lock.specs.Rule.{faults_of}
 use Rattle.dns_ticket_lock.specs.Passes.{PassSeen, AreAll, pass_faults}
@@ -10,7 +11,7 @@ abbrev pub invariant-loop-number : goal.invariant-loop-number
 invariant-loop-number g l = record {
   table : l.all.table_id ≡ l.board.table_id;
   bare : l.all.me.1 ≡ [];
-  rests : l.all.me.0.phase ≡ 0;
+  rests : l.all.me.0.phase ≡ Idle;
   more : 0 < l.number;
   at : l.all.me.0.low + 1 ≡ l.number;
   many : length l.all.me.0.accounts + l.number ≡ l.seats + 1;
