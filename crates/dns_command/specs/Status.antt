@@ -1,8 +1,7 @@
 -- How a run of the program ends, and the line that a refusal writes.
 use Rattle.std.specs.Prelude.{ℕ, ◌++◌, List, [], codes, Bool, true, false}
 use Rattle.std.specs.Fmt.{decimal}
-use Rattle.dns_zone.specs.declared.zone_text.ZoneTextKind.{ZoneTextKind}
-use Rattle.dns_zone.specs.declared.zone_text.ZoneTextKind.TheVariants as zone
+use Rattle.dns_zone.specs.ZoneText.{kind_text}
 use Rattle.dns_store.specs.RecoveryText.{recovery_line}
 use Rattle.dns_edges.specs.declared.to_end.ReadFault.{ReadFault}
 use Rattle.dns_edges.specs.declared.to_end.ReadFault.TheVariants as read
@@ -24,24 +23,11 @@ status_number status.TooLong = 9
 status_number status.OutOfMemory = 10
 status_number status.PortFault = 11
 
--- what is wrong with a line of a zone text
-abbrev pub zone_kind_text : ZoneTextKind → List ℕ
-zone_kind_text zone.Paren = codes "Paren"
-zone_kind_text zone.Quote = codes "Quote"
-zone_kind_text zone.Directive = codes "Directive"
-zone_kind_text zone.Name = codes "Name"
-zone_kind_text zone.Ttl = codes "Ttl"
-zone_kind_text zone.RecordType = codes "Type"
-zone_kind_text zone.Data = codes "Data"
-zone_kind_text zone.OutOfZone = codes "OutOfZone"
-zone_kind_text zone.NotOneSoa = codes "NotOneSoa"
-zone_kind_text zone.AliasBesideOther = codes "AliasBesideOther"
-
 -- the line that a run which ends so writes in place of its output; none after a fault of the output or want of memory
 abbrev pub refusal_line : Status → List ℕ
 refusal_line status.Ok = []
 refusal_line status.Usage = codes "usage\n"
-refusal_line (status.ZoneText line kind) = codes "zone text line " ++ (decimal line ++ (codes ": " ++ (zone_kind_text kind ++ codes "\n")))
+refusal_line (status.ZoneText line kind) = codes "zone text line " ++ (decimal line ++ (codes ": " ++ (kind_text kind ++ codes "\n")))
 refusal_line (status.EventLine line) = codes "event line " ++ (decimal line ++ codes "\n")
 refusal_line status.NotValid = codes "not valid\n"
 refusal_line (status.Recovery row kind) = recovery_line row kind

@@ -1,18 +1,15 @@
 -- Writing the output, and how the program ends by it.
-use Rattle.std.specs.Prelude.{◌≡◌, ◌≢◌, ℕ, List, true, Result, Ok, Err}
+use Rattle.std.specs.Prelude.{◌≡◌, ◌≢◌, ℕ, List, true, Result}
 use Rattle.dns_edges.specs.Edges.{Around, SinkTold}
 use Rattle.dns_io.specs.declared.io_fault.IoFault.{IoFault}
-use Rattle.dns_io.specs.declared.io_fault.IoFault.TheVariants.{Failed, OutOfMemory}
 use Rattle.dns_command.specs.declared.status.Status.{Status}
 use Rattle.dns_command.specs.declared.status.Status.TheVariants as status
 use Rattle.dns_command.specs.Status.{refusal_line, is_fault}
-use Rattle.dns_words.specs.Writing.{IsUntouched, WritesWhole}
+use Rattle.dns_words.specs.Writing.{IsUntouched, WritesWhole, ended}
 
 -- a status that was meant, where the text was written to its end
 abbrev pub after_writing : Status → Result (Unit {0}) IoFault → Status
-after_writing meant (Ok done) = meant
-after_writing meant (Err Failed) = status.WriteFault
-after_writing meant (Err OutOfMemory) = status.OutOfMemory
+after_writing meant result = ended meant status.WriteFault status.OutOfMemory result
 
 -- the end of a call that writes a text and means to end with a status
 pub record EndsWriting (output : Around SinkTold) (text : List ℕ) (meant s : Status) : Type 0 where

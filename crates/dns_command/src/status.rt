@@ -2,13 +2,14 @@
 
 ghost use Rattle.std.specs.Prelude.{◌≡◌, IfOk, string_bytes};
 ghost use Rattle.std.specs.Process.{exit_status};
-ghost use Rattle.dns_command.specs.Status.{status_number, zone_kind_text, refusal_line, read_status};
+ghost use Rattle.dns_command.specs.Status.{status_number, refusal_line, read_status};
 ghost use Rattle.dns_command.specs.Writing.{after_writing};
 
 use dns_edges::ReadFault;
 use dns_io::{IoFault, OutOfMemory};
 use dns_store::recovery_line;
-use dns_zone::{ReplayKind, ZoneTextKind};
+use dns_words::ended;
+use dns_zone::{ReplayKind, ZoneTextKind, kind_text};
 use std::alloc::Global;
 use std::process::ExitCode;
 
@@ -100,11 +101,7 @@ impl From<ReadFault> for Status {
 pub fn after_writing(meant: Status, outcome: Result<(), IoFault>) -> Status
     ensures { result ≡ after_writing meant outcome }
 {
-    match outcome {
-        Ok(()) => meant,
-        Err(IoFault::Failed) => Status::WriteFault,
-        Err(IoFault::OutOfMemory) => Status::OutOfMemory,
-    }
+    ended(meant, Status::WriteFault, Status::OutOfMemory, outcome)
 }
 
 /// What a run leaves.
@@ -125,7 +122,7 @@ pub fn refusal_line(alloc: Global, status: &Status) -> Result<String, OutOfMemor
         Status::Ok | Status::WriteFault | Status::OutOfMemory => String::new(alloc),
         Status::Usage => String::from_str(alloc, "usage\n")?,
         Status::ZoneText { line, kind } => {
-            let kind = zone_kind_text(*kind);
+            let kind = kind_text(*kind);
             format!(in alloc; "zone text line {line}: {kind}\n")?
         }
         Status::EventLine { line } => format!(in alloc; "event line {line}\n")?,
@@ -137,21 +134,4 @@ pub fn refusal_line(alloc: Global, status: &Status) -> Result<String, OutOfMemor
         Status::PortFault => String::from_str(alloc, "port fault\n")?,
     };
     Ok(line)
-}
-
-fn zone_kind_text(kind: ZoneTextKind) -> &'static str
-    ensures { result.now ≡ zone_kind_text kind }
-{
-    match kind {
-        ZoneTextKind::Paren => "Paren",
-        ZoneTextKind::Quote => "Quote",
-        ZoneTextKind::Directive => "Directive",
-        ZoneTextKind::Name => "Name",
-        ZoneTextKind::Ttl => "Ttl",
-        ZoneTextKind::RecordType => "Type",
-        ZoneTextKind::Data => "Data",
-        ZoneTextKind::OutOfZone => "OutOfZone",
-        ZoneTextKind::NotOneSoa => "NotOneSoa",
-        ZoneTextKind::AliasBesideOther => "AliasBesideOther",
-    }
 }

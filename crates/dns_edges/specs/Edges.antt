@@ -1,5 +1,5 @@
 -- What sources, sinks and clocks tell of themselves, and what a call of one does to that.
-use Rattle.std.specs.Prelude.{◌≡◌, ℕ, ◌≤◌, ◌<◌, List, length, take, Option, Result, Ok, Err, IfOk, OnOk, OnErr}
+use Rattle.std.specs.Prelude.{◌≡◌, ℕ, ◌≤◌, ◌<◌, ◌-◌, ◌^◌, min, max, List, length, take, Option, Result, Ok, Err, IfOk, OnOk, OnErr}
 use Rattle.dns_io.specs.declared.io_fault.IoFault.{IoFault}
 use Rattle.dns_io.specs.declared.io_fault.IoFault.TheVariants.{Failed, OutOfMemory}
 use Rattle.dns_io.specs.Told.{Rose, NeverBegins, Keeps, Takes, EndsAt, Grows, IsHandedOn}
@@ -79,3 +79,7 @@ pub record Flushes (before after : SinkTold) (result : Result (Unit {0}) IoFault
 pub record ClockOf (C : Type 0) : Type 1 where
   pub last : C → ℕ
   pub ticks : C → ℕ → C → Type 0
+
+-- the moment of a clock that tells these milliseconds, behind its last moment: no moment falls, and all are below 2^47
+abbrev pub moment_from : ℕ → ℕ → ℕ
+moment_from last elapsed = max last (min elapsed (2 ^ 47 - 1))

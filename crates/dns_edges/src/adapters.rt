@@ -9,7 +9,7 @@ ghost use Rattle.dns_io.specs.Told.{counted};
 ghost use Rattle.dns_edges.specs.Edges.{Reads, Writes, Flushes, HasCause, given_by};
 ghost use Rattle.dns_edges.specs.Adapters.{opened_of, file_told, untold_source, untold_sink, ReadsCounting, WritesCounting, ReadsOpened, RisesTo};
 
-use crate::clock::Clock;
+use crate::clock::{Clock, moment_from};
 use crate::sink::Sink;
 use crate::source::Source;
 use dns_io::IoFault;
@@ -188,15 +188,11 @@ impl<R: rt::Clock> Clock for SystemClock<R> {
 
     fn now(&mut self) -> u64 {
         if let Ok(time) = self.runtime.since_1970() {
-            let reading = time.as_millis().min(LAST_MOMENT) as u64;
-            self.last = self.last.max(reading);
+            self.last = moment_from(self.last, time.as_millis());
         }
         self.last
     }
 }
-
-/// The greatest moment.
-const LAST_MOMENT: u128 = (1 << 47) - 1;
 
 /// One read of what came of opening a file.
 fn read_opened<R: Read>(opened: &mut Opened<R>, room: &mut [u8]) -> Result<usize, IoFault>

@@ -9,7 +9,7 @@ mod source;
 mod to_end;
 
 pub use adapters::{FileSource, Opened, Reading, SystemClock, Writing};
-pub use clock::Clock;
+pub use clock::{Clock, moment_from};
 pub use memory::{MemoryClock, MemorySink, MemorySource};
 pub use sink::{Sink, write_all};
 pub use source::Source;

@@ -1,5 +1,10 @@
 -- A stream of messages, each behind the two bytes of its length (RFC 1035 4.2.2).
 use Rattle.std.specs.Prelude.{◌≡◌, ℕ, ◌+◌, ◌*◌, List, [], ◌∷◌, ◌++◌, length, take, drop, nat_lt, if◌then◌else◌, zero, suc, Option, Some, None}
+use Rattle.std.specs.Int.{w16, to_be_bytes}
+
+-- a message behind its length
+abbrev pub frame_of : List ℕ → List ℕ
+frame_of message = to_be_bytes w16 (length message) ++ message
 
 -- the whole messages of a stream, and the bytes behind the last of them
 pub record Cut : Type 0 where

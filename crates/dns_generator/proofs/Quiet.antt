@@ -13,7 +13,8 @@ use Rattle.dns_generator.specs.declared.draws.Kind.{Kind}
 use Rattle.dns_generator.specs.declared.draws.Kind.TheVariants.{Query, QueryInPieces, Addition, Deletion}
 use Rattle.dns_generator.specs.Draws.{kind_of, drawn, state_after}
 use Rattle.dns_generator.specs.Requests.{query, update, addition, deletion}
-use Rattle.dns_generator.specs.Loaded.{datagram, frame_of, in_two, coming_as, coming, messages, loaded}
+use Rattle.dns_frames.specs.Frames.{frame_of}
+use Rattle.dns_generator.specs.Loaded.{datagram, in_two, coming_as, coming, messages, loaded}
 use Rattle.dns_generator.proofs.Sizes.{short_query, short_addition, short_deletion}
 
 -- an event that fits, accepts nothing and does not stop the server

@@ -1,9 +1,9 @@
 -- The list of events that a seed and a count of messages stand for.
 use Rattle.std.specs.Prelude.{ℕ, zero, suc, ◌+◌, ◌*◌, ◌%◌, ◌^◌, List, [], ◌∷◌, ◌++◌, take, drop, length}
-use Rattle.std.specs.Int.{w16, to_be_bytes}
 use Rattle.dns_io.specs.declared.peer.Ip.TheVariants.{V4}
 use Rattle.dns_io.specs.declared.peer.Peer.{Peer}
 use Rattle.dns_wire.specs.MessageBytes.{message_bytes}
+use Rattle.dns_frames.specs.Frames.{frame_of}
 use Rattle.dns_server_core.specs.declared.event.Event.{Event}
 use Rattle.dns_server_core.specs.declared.event.Event.TheVariants.{Accepted, Bytes, Datagram}
 use Rattle.dns_generator.specs.declared.draws.Kind.{Kind}
@@ -25,10 +25,6 @@ acceptances = accepted 1 ∷ accepted 2 ∷ accepted 3 ∷ accepted 4 ∷ []
 -- a message comes by datagram, at the moment that is its number
 abbrev pub datagram : ℕ → ℕ → List ℕ → List Event
 datagram number draw bytes = Datagram number (local (1024 + rest_of draw % 1000)) bytes ∷ []
-
--- a message behind its length, as it goes over a connection (RFC 1035 4.2.2)
-abbrev pub frame_of : List ℕ → List ℕ
-frame_of bytes = to_be_bytes w16 (length bytes) ++ bytes
 
 abbrev pub piece : ℕ → ℕ → List ℕ → List Event
 piece number conn bytes = Bytes number conn bytes ∷ []

@@ -1,6 +1,7 @@
 //! The list of events of a seed.
 
 ghost use Rattle.std.specs.Prelude.{◌≡◌, ◌≤◌, ◌<◌, ◌^◌, ◌++◌, IfOk, OnOk, length};
+ghost use Rattle.dns_frames.specs.Frames.{frame_of};
 ghost use Rattle.dns_server_core.specs.Valid.{Valid};
 ghost use Rattle.dns_server_core.specs.Connections.{new_kept};
 ghost use Rattle.dns_generator.specs.Loaded as events;
@@ -112,7 +113,7 @@ fn put_pieces(
     list: &mut Vec<Event>,
 ) -> Result<(), OutOfMemory>
     requires { length bytes ≤ 65535 }
-    ensures { OnOk result (list.new.items ≡ list.old.items ++ events.in_two number draw.0 (events.frame_of bytes)) }
+    ensures { OnOk result (list.new.items ≡ list.old.items ++ events.in_two number draw.0 (frame_of bytes)) }
 {
     let frame = frame_of(alloc, &bytes)?;
     let conn = 1 + draw.rest() % 4;
@@ -124,7 +125,7 @@ fn put_pieces(
 /// A message behind its length.
 fn frame_of(alloc: Global, bytes: &Octets) -> Result<Octets, OutOfMemory>
     requires { length bytes.now ≤ 65535 }
-    ensures { IfOk result (λ frame. frame ≡ events.frame_of bytes.now) }
+    ensures { IfOk result (λ frame. frame ≡ frame_of bytes.now) }
 {
     let length = bytes.len() as u16;
     let mut frame = Octets::from_slice(alloc, &length.to_be_bytes())?;

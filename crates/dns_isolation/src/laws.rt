@@ -46,14 +46,17 @@ pub fn queries<K: Keeper>()
 pub fn isolated<K: Keeper>()
     // The receiver gets the same replies, byte for byte and in the same order, and the books are alike after it: they have the
     // same zone and the same rows.
-    ensures runs { (access : Access) (kept : Kept) (receiver : Receiver) (one two : List Event) (a b later last : SeenOf K) (outs sent : List Out)
+    ensures runs { (access : Access) (kept : Kept) (receiver : Receiver) (one two : List Event)
+        (a b later last : SeenOf K) (outs sent : List Out)
         → without_others receiver one ≡ without_others receiver two → AreAlike K.keeper a b
         → IsQuiet K.keeper receiver (done kept one) a later → Run (Settles K.keeper access) a (done kept one) outs later
         → IsQuiet K.keeper receiver (done kept two) b last → Run (Settles K.keeper access) b (done kept two) sent last
         → (replies_to receiver outs ≡ replies_to receiver sent) × AreAlike K.keeper later last }
     // So it does where replies are added to those that were sent before, which were the same for this receiver.
-    ensures served { (access : Access) (kept : Kept) (receiver : Receiver) (one two : List Event) (a b later last : SeenOf K) (old new before after : List Out)
-        → without_others receiver one ≡ without_others receiver two → AreAlike K.keeper a b → replies_to receiver old ≡ replies_to receiver before
+    ensures served { (access : Access) (kept : Kept) (receiver : Receiver) (one two : List Event)
+        (a b later last : SeenOf K) (old new before after : List Out)
+        → without_others receiver one ≡ without_others receiver two → AreAlike K.keeper a b
+        → replies_to receiver old ≡ replies_to receiver before
         → IsQuiet K.keeper receiver (done kept one) a later → Answers (Settles K.keeper access) a (done kept one) later old new
         → IsQuiet K.keeper receiver (done kept two) b last → Answers (Settles K.keeper access) b (done kept two) last before after
         → (replies_to receiver new ≡ replies_to receiver after) × AreAlike K.keeper later last }

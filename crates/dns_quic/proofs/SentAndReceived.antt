@@ -4,7 +4,8 @@ use Rattle.std.proofs.lemmas.List.{take_at, drop_at}
 use Rattle.std.specs.Prelude.{Result, Ok, Err, IsErrOf}
 use Rattle.dns_transport.specs.declared.error.NetError.{NetError}
 use Rattle.dns_transport.specs.declared.error.NetError.TheVariants.{RequestTooLarge, BadRequest, Build, Response, QuicMessageIdNot0, FinishedEarly, MaxBufferSizeExceeded, UnknownStream, NotMulticast, Timeout, Io, ShutDown, Proto, OutOfMemory}
-use Rattle.dns_quic.specs.Streams.{IsReceived, ReceivesFrame, frame_bytes}
+use Rattle.dns_quic.specs.Streams.{IsReceived, ReceivesFrame}
+use Rattle.dns_frames.specs.Frames.{frame_of}
 
 said : (n : ℕ) → n ≤ 65535 → n / 256 % 256 * 256 + n % 256 ≡ n
 said n short = omega (arith, short)
@@ -19,7 +20,7 @@ same-parts message more bytes rest size same = (
 )
 
 -- a message that was sent is received as it was
-pub read-back : (message more rest : List ℕ) (result : Result (List ℕ) NetError) → length message ≤ 65535 → IsReceived result → ReceivesFrame result (frame_bytes message ++ more) rest
+pub read-back : (message more rest : List ℕ) (result : Result (List ℕ) NetError) → length message ≤ 65535 → IsReceived result → ReceivesFrame result (frame_of message ++ more) rest
     → ¬ (IsErrOf result Io) → ¬ (IsErrOf result OutOfMemory) → (result ≡ Ok message) × (rest ≡ more)
 read-back message more rest (Ok bytes) short kind is sound room =
     let high : length message / 256 % 256 ≡ length bytes / 256 % 256 = ap (λ (l : List ℕ). get_or l 0 0) is in

@@ -1,6 +1,6 @@
 -- Messages on a stream, each behind its length (RFC 9250 4.2, RFC 1035 4.2.2).
 use Rattle.std.specs.Prelude.{◌≡◌, ℕ, ◌+◌, ◌*◌, ◌<◌, ◌≤◌, ◌==◌, nat_lt, true, List, [], ◌∷◌, ◌++◌, length, Option, Result, Ok, Err, MatchBool, MatchResult}
-use Rattle.std.specs.Int.{w16, to_be_bytes}
+use Rattle.dns_frames.specs.Frames.{frame_of}
 use Rattle.dns_io.specs.Told.{Told, Keeps, Grows, GrowsByPrefix}
 use Rattle.dns_io.specs.declared.io_fault.IoFault.{IoFault}
 use Rattle.dns_name.specs.declared.fault.ProtoError.{ProtoError}
@@ -14,10 +14,6 @@ use Rattle.dns_quic.specs.Halves.{SendOf, RecvTold, EndsHalf}
 use Rattle.dns_quic.specs.declared.halves.StreamEnd.{StreamEnd}
 use Rattle.dns_quic.specs.declared.halves.StreamEnd.TheVariants.{Reset}
 use Rattle.dns_quic.specs.declared.quic_stream.QuicStream.{QuicStream}
-
--- a message behind its length
-abbrev pub frame_bytes : List ℕ → List ℕ
-frame_bytes message = to_be_bytes w16 (length message) ++ message
 
 -- a fault of reading or writing
 abbrev pub IsIoFault : NetError → Type 0
@@ -40,7 +36,7 @@ SendsBytes sending before bytes result after =
     ((result ≡ Err (MaxBufferSizeExceeded (length bytes))) × (after ≡ before))
     (MatchBool before.is_ended
     ((result ≡ Err UnknownStream) × (after ≡ before))
-    (TakesBytes (sending.told before.send).taken (sending.told after.send).taken (frame_bytes bytes) result
+    (TakesBytes (sending.told before.send).taken (sending.told after.send).taken (frame_of bytes) result
     × Keeps (sending.told before.send).ends (sending.told after.send).ends
     × (after ≡ record before { send = after.send })))
 
@@ -116,7 +112,7 @@ pub record TakesPart (left rest : List ℕ) : Type 0 where
 
 -- what comes of the bytes that are left: the message that they begin with
 abbrev pub ReceivesFrame : Result (List ℕ) NetError → List ℕ → List ℕ → Type 0
-ReceivesFrame (Ok message) left rest = left ≡ frame_bytes message ++ rest
+ReceivesFrame (Ok message) left rest = left ≡ frame_of message ++ rest
 ReceivesFrame (Err (FinishedEarly count)) left rest = (rest ≡ []) × EndsEarly left count
 ReceivesFrame (Err Io) left rest = TakesPart left rest
 ReceivesFrame (Err OutOfMemory) left rest = TakesPart left rest

@@ -2,7 +2,8 @@
 
 ghost use Rattle.std.specs.Prelude.{◌≡◌, ℕ, ◌≤◌, ◌++◌, length, List, Ok, Result, IsErrOf};
 ghost use Rattle.dns_quic.specs.Codes.{IsProper, code_of, number_of};
-ghost use Rattle.dns_quic.specs.Streams.{IsReceived, ReceivesFrame, frame_bytes};
+ghost use Rattle.dns_quic.specs.Streams.{IsReceived, ReceivesFrame};
+ghost use Rattle.dns_frames.specs.Frames.{frame_of};
 ghost use Rattle.dns_quic.specs.declared.error_code.DoqErrorCode.{DoqErrorCode as Code};
 ghost use Rattle.dns_transport.specs.declared.error.NetError.{NetError as Fault};
 ghost use Rattle.dns_transport.specs.declared.error.NetError.TheVariants.{Io, OutOfMemory};
@@ -16,5 +17,5 @@ pub fn codes_read_back()
 /// fails and memory lasts.
 pub fn messages_received()
     ensures { (message more rest : List ℕ) (result : Result (List ℕ) Fault) → length message ≤ 65535 → IsReceived result
-        → ReceivesFrame result (frame_bytes message ++ more) rest → ¬ (IsErrOf result Io) → ¬ (IsErrOf result OutOfMemory) → (result ≡ Ok message) × (rest ≡ more) }
+        → ReceivesFrame result (frame_of message ++ more) rest → ¬ (IsErrOf result Io) → ¬ (IsErrOf result OutOfMemory) → (result ≡ Ok message) × (rest ≡ more) }
 {}

@@ -4,7 +4,8 @@ ghost use Rattle.std.specs.Prelude.{◌≡◌, ◌≤◌, ◌++◌, ℕ, List, f
 ghost use Rattle.std.specs.Int.{w16, to_be_bytes};
 ghost use Rattle.dns_io.specs.Told.{Keeps};
 ghost use Rattle.dns_quic.specs.Codes.{number_of};
-ghost use Rattle.dns_quic.specs.Streams.{ChecksId, Ends, EndsSo, Encodes, IsOtherId, ReceivesBytes, ReadsChecked, ReceivesMessage, SendsBytes, SendsMessage, Stops, TakesBytes, frame_bytes};
+ghost use Rattle.dns_quic.specs.Streams.{ChecksId, Ends, EndsSo, Encodes, IsOtherId, ReceivesBytes, ReadsChecked, ReceivesMessage, SendsBytes, SendsMessage, Stops, TakesBytes};
+ghost use Rattle.dns_frames.specs.Frames.{frame_of};
 ghost use Rattle.dns_quic.specs.declared.halves.StreamEnd.TheVariants.{Finished, Reset};
 ghost use Rattle.dns_transport.specs.Faults.{HasCause};
 
@@ -213,7 +214,7 @@ fn encoded(alloc: Global, message: &Message) -> Result<Octets, NetError>
 /// Writes these bytes behind their length.
 fn write_frame<S: SendHalf>(half: &mut S, bytes: &[u8]) -> Result<(), NetError>
     requires { length bytes.now ≤ 65535 }
-    ensures taken { TakesBytes (S.sending.told half.old).taken (S.sending.told half.new).taken (frame_bytes bytes.now) result }
+    ensures taken { TakesBytes (S.sending.told half.old).taken (S.sending.told half.new).taken (frame_of bytes.now) result }
     ensures unended { Keeps (S.sending.told half.old).ends (S.sending.told half.new).ends }
     ensures cause { HasCause (S.sending.told half.old).faults (S.sending.told half.new).faults result }
 {

@@ -1,5 +1,5 @@
 -- What the connections of the operating system decide, and what they count.
-use Rattle.std.specs.Prelude.{ℕ, List, [], ◌+◌, ◌-◌, ◌^◌, min, max, nat_le, nat_lt, nat_eq, if◌then◌else◌, Bool, false, ◌&&◌, ◌||◌, Option, Some, None}
+use Rattle.std.specs.Prelude.{ℕ, List, [], ◌+◌, ◌-◌, ◌^◌, nat_le, nat_lt, nat_eq, if◌then◌else◌, Bool, false, ◌&&◌, ◌||◌, Option, Some, None}
 use Rattle.std.specs.declared.io.ErrorKind.{ErrorKind}
 use Rattle.std.specs.declared.io.ErrorKind.TheVariants as kind
 use Rattle.dns_readiness.specs.declared.decisions.Outcome.{Outcome}
@@ -95,10 +95,6 @@ abbrev pub is_late : Stage → ℕ → ℕ → ℕ → ℕ → Bool
 is_late Open owed heard patience now = nat_lt 0 owed && nat_lt patience (now - heard)
 is_late Closing owed heard patience now = nat_lt 0 owed && nat_lt patience (now - heard)
 is_late Draining owed heard patience now = nat_lt 1000 (now - heard)
-
--- the moment of a reading of the clock: no moment falls, and all are below 2^47
-abbrev pub moment_from : ℕ → ℕ → ℕ
-moment_from last elapsed = max last (min elapsed (2 ^ 47 - 1))
 
 -- the number of the next connection, while there are numbers
 abbrev pub number_behind : Option ℕ → Option ℕ

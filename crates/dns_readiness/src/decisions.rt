@@ -2,7 +2,7 @@
 
 ghost use Rattle.std.specs.Prelude.{◌≡◌, ◌≤◌, ◌<◌, ◌^◌, IfSome, true};
 ghost use Rattle.dns_readiness.specs.Came.{IsGreater};
-ghost use Rattle.dns_readiness.specs.Decisions.{accepting_after, is_due, is_late, is_too_much, may_accept, moment_from, number_behind};
+ghost use Rattle.dns_readiness.specs.Decisions.{accepting_after, is_due, is_late, is_too_much, may_accept, number_behind};
 ghost use Rattle.dns_readiness.specs.Decisions.{patience_of, reads_on, ready_after, transfer_after, wait_with};
 
 use crate::link::Stage;
@@ -19,9 +19,6 @@ const DRAINING: u64 = 1_000;
 
 /// For how many milliseconds a peer may take nothing of what it is owed, where connections have no limit.
 const TAKING: u64 = 5_000;
-
-/// Moments, in milliseconds, are at most that.
-const LAST_MOMENT: u64 = (1 << 47) - 1;
 
 /// What becomes of a read or a write that did not succeed.
 #[derive(Clone, Copy, Debug, PartialEq, Eq)]
@@ -140,17 +137,6 @@ pub(crate) fn is_late(stage: Stage, owed: usize, heard: u64, patience: u64, now:
         Stage::Closing => owed > 0 && silent > patience,
         Stage::Draining => silent > DRAINING,
     }
-}
-
-/// The moment of a reading of the clock behind this one.
-pub(crate) fn moment_from(last: u64, elapsed: u128) -> u64
-    requires { last < 2 ^ 47 }
-    ensures is { result ≡ moment_from last elapsed }
-    ensures later { last ≤ result }
-    ensures bound { result < 2 ^ 47 }
-{
-    let elapsed = elapsed.min(LAST_MOMENT as u128) as u64;
-    last.max(elapsed)
 }
 
 /// The number of the next connection, while there are numbers.

@@ -10,8 +10,8 @@ ghost use Rattle.dns_io.specs.declared.io_fault.IoFault.TheVariants.{OutOfMemory
 
 use crate::came::Came;
 use crate::decisions::{
-    Outcome, Refusal, accepting_after, is_due, may_accept, moment_from, number_behind, patience_of,
-    reads_on, ready_after, transfer_after, wait_with,
+    Outcome, Refusal, accepting_after, is_due, may_accept, number_behind, patience_of, reads_on,
+    ready_after, transfer_after, wait_with,
 };
 use crate::link::{Link, Stage};
 use crate::links::{
@@ -19,6 +19,7 @@ use crate::links::{
     take_out,
 };
 use crate::peers::peer_at;
+use dns_edges::moment_from;
 use dns_io::IoFault;
 use dns_ports::StopToken;
 use mio::net::{TcpListener, TcpStream};

@@ -1,5 +1,6 @@
 -- Streams under a limit.
-use Rattle.std.specs.Prelude.{◌≡◌, ℕ, ◌+◌, nat_lt, ◌&&◌, Bool, if◌then◌else◌, Option, Some, None, unwrap_or, Result, Ok, Err}
+use Rattle.std.specs.Prelude.{◌≡◌, ℕ, if◌then◌else◌, Option, Some, None, unwrap_or, Result, Ok, Err}
+use Rattle.dns_server_core.specs.Connections.{is_within}
 use Rattle.dns_transport.specs.declared.poll.Poll.{Poll}
 use Rattle.dns_transport.specs.declared.poll.Poll.TheVariants.{Ready, Pending}
 use Rattle.dns_requests.specs.declared.timeout_stream.TimeoutFault.{TimeoutFault}
@@ -11,13 +12,9 @@ pub record UnderLimit (S : Type 0) : Type 0 where
   pub timeout : ℕ
   pub base : Option ℕ
 
--- a moment is past a base and a limit; a limit of 0 is none
-abbrev pub is_late : ℕ → ℕ → ℕ → Bool
-is_late base limit now = nat_lt 0 limit && nat_lt (base + limit) now
-
 -- what is answered where the stream has nothing yet
 abbrev pub pending_by : {T F : Type 0} → ℕ → ℕ → ℕ → Poll (Option (Result T (TimeoutFault F)))
-pending_by base limit now = if is_late base limit now then Ready (Some (Err (TimedOut base limit now))) else Pending
+pending_by base limit now = if is_within limit base now then Pending else Ready (Some (Err (TimedOut base limit now)))
 
 -- what is told of the stream's answer
 abbrev pub told_by : {T F : Type 0} → ℕ → ℕ → ℕ → Poll (Option (Result T F)) → Poll (Option (Result T (TimeoutFault F)))

@@ -11,7 +11,7 @@ use Rattle.dns_wire.specs.Written.{Written}
 use Rattle.dns_transport.specs.declared.error.NetError.{NetError}
 use Rattle.dns_transport.specs.declared.error.NetError.TheVariants.{Io, OutOfMemory}
 use Rattle.dns_requests.specs.declared.response_handle.ResponseInfo.{ResponseInfo}
-use Rattle.dns_server_core.specs.FrameRuns.{frame_of}
+use Rattle.dns_frames.specs.Frames.{frame_of}
 
 -- what sends replies to one receiver: its address, where the bytes go, and by which protocol
 pub record HandleOf (W : Type 0) : Type 0 where

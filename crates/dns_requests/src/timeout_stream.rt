@@ -1,9 +1,10 @@
 //! Streams that must give something within a limit.
 
 ghost use Rattle.std.specs.Prelude.{◌≡◌, ◌<◌, ◌^◌, None};
-ghost use Rattle.dns_requests.specs.Polls.{PollsOnce, is_late, pending_by};
+ghost use Rattle.dns_requests.specs.Polls.{PollsOnce, pending_by};
 
 use crate::poll_stream::PollStream;
+use dns_server_core::is_within;
 use dns_transport::Poll;
 use std::marker::Model;
 
@@ -76,20 +77,12 @@ impl<S: PollStream> TimeoutStream<S> {
 fn pending<T, F>(base: u64, timeout: u64, now: u64) -> Poll<Option<Result<T, TimeoutFault<F>>>>
     ensures { result ≡ pending_by base timeout now }
 {
-    if is_late(base, timeout, now) {
-        Poll::Ready(Some(Err(TimeoutFault::TimedOut {
-            since: base,
-            limit: timeout,
-            at: now,
-        })))
-    } else {
-        Poll::Pending
+    if is_within(timeout, base, now) {
+        return Poll::Pending;
     }
-}
-
-/// Whether a moment is past a base and a limit; a limit of 0 is none.
-fn is_late(base: u64, limit: u64, now: u64) -> bool
-    ensures { result ≡ is_late base limit now }
-{
-    limit > 0 && now.saturating_sub(base) > limit
+    Poll::Ready(Some(Err(TimeoutFault::TimedOut {
+        since: base,
+        limit: timeout,
+        at: now,
+    })))
 }

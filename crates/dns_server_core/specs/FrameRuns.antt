@@ -1,9 +1,8 @@
 -- Runs of a handler over the messages of a connection, and the bytes of their replies.
 use Rattle.std.specs.Prelude.{◌≡◌, ◌⊎◌, ℕ, ◌+◌, List, [], ◌∷◌, ◌++◌, length, map, take, drop, Option, Some, None}
-use Rattle.std.specs.Int.{w16, to_be_bytes}
 use Rattle.dns_book.specs.declared.ask.Ask.{Ask}
 use Rattle.dns_book.specs.declared.ask.Settled.{Settled}
-use Rattle.dns_frames.specs.Frames.{frames}
+use Rattle.dns_frames.specs.Frames.{frame_of, frames}
 
 -- the whole messages at the front of a stream, at most so many
 abbrev pub first_messages : ℕ → List ℕ → List (List ℕ)
@@ -21,10 +20,6 @@ behind_first most bytes = drop (framed_size (first_messages most bytes)) bytes
 -- the first messages of a stream, at most so many, each asked as this one
 abbrev pub first_asks : Ask → ℕ → List ℕ → List Ask
 first_asks ask most bytes = map (λ m. record ask { bytes = m }) (first_messages most bytes)
-
--- a message behind its length (RFC 1035 4.2.2)
-abbrev pub frame_of : List ℕ → List ℕ
-frame_of bytes = to_be_bytes w16 (length bytes) ++ bytes
 
 -- what is sent on a stream for a reply, where one is owed
 abbrev pub frame_for : Option (List ℕ) → List ℕ

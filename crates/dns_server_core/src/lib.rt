@@ -21,4 +21,4 @@ pub use event::{Event, Out, Receiver};
 pub use fault::RunFault;
 pub use handler::{Answered, RequestHandler, bytes_of, message_in, next_frame};
 pub use server::Server;
-pub use session::{Heard, MOST_MESSAGES, Session};
+pub use session::{Heard, MOST_MESSAGES, Session, is_within};

@@ -113,7 +113,7 @@ impl Session {
     pub fn is_within(&self, at: u64) -> bool
         ensures { result ≡ is_within self.now.limit self.now.base at }
     {
-        self.limit == 0 || at.saturating_sub(self.base) <= self.limit
+        is_within(self.limit, self.base, at)
     }
 
     /// A piece of its bytes came at a moment: in time it is added to the unread ones, and else dropped. Where memory runs out, nothing
@@ -158,4 +158,11 @@ fn keep_last(alloc: Global, bytes: &mut Vec<u8>, count: usize)
     }
     let start = bytes.len() - count;
     bytes.drain(..start);
+}
+
+/// Whether a moment is not past a base and a limit, in milliseconds; a limit of 0 is none.
+pub fn is_within(limit: u64, base: u64, at: u64) -> bool
+    ensures { result ≡ is_within limit base at }
+{
+    limit == 0 || at.saturating_sub(base) <= limit
 }

@@ -1,12 +1,12 @@
 -- Bytes behind their length, as messages go over a connection (RFC 1035 4.2.2).
 use Rattle.std.specs.Prelude.{◌≡◌, ℕ, ◌+◌, ◌*◌, ◌<◌, ◌≤◌, List, [], ◌∷◌, ◌++◌, length, Option}
-use Rattle.std.specs.Int.{w16, to_be_bytes}
 use Rattle.std.specs.List.{flat_map}
 use Rattle.dns_io.specs.Told.{Told}
+use Rattle.dns_frames.specs.Frames.{frame_of}
 
--- a message behind its length
+-- a message behind its length, as proofs here do not look into it
 unfoldable pub frame : List ℕ → List ℕ
-frame bytes = to_be_bytes w16 (length bytes) ++ bytes
+frame bytes = frame_of bytes
 
 -- the frames of messages, one behind another
 abbrev pub frames_of : List (List ℕ) → List ℕ

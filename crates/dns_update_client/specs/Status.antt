@@ -3,8 +3,7 @@ use Rattle.std.specs.Prelude.{ℕ, ◌++◌, List, [], Bool, true, false, codes}
 use Rattle.std.specs.Fmt.{decimal}
 use Rattle.dns_edges.specs.declared.to_end.ReadFault.{ReadFault}
 use Rattle.dns_edges.specs.declared.to_end.ReadFault.TheVariants as read
-use Rattle.dns_zone.specs.declared.zone_text.ZoneTextKind.{ZoneTextKind}
-use Rattle.dns_zone.specs.declared.zone_text.ZoneTextKind.TheVariants as entry
+use Rattle.dns_zone.specs.ZoneText.{kind_text}
 use Rattle.dns_update_script.specs.declared.fault.ScriptKind.{ScriptKind}
 use Rattle.dns_update_script.specs.declared.fault.ScriptKind.TheVariants as kind
 use Rattle.dns_update_script.specs.declared.fault.ScriptFault.{ScriptFault}
@@ -28,25 +27,12 @@ status_number status.Mismatch = 22
 status_number status.NotReply = 23
 status_number status.Proto = 24
 
--- what is wrong with an entry in a line of the script
-abbrev pub entry_kind_text : ZoneTextKind → List ℕ
-entry_kind_text entry.Paren = codes "Paren"
-entry_kind_text entry.Quote = codes "Quote"
-entry_kind_text entry.Directive = codes "Directive"
-entry_kind_text entry.Name = codes "Name"
-entry_kind_text entry.Ttl = codes "Ttl"
-entry_kind_text entry.RecordType = codes "Type"
-entry_kind_text entry.Data = codes "Data"
-entry_kind_text entry.OutOfZone = codes "OutOfZone"
-entry_kind_text entry.NotOneSoa = codes "NotOneSoa"
-entry_kind_text entry.AliasBesideOther = codes "AliasBesideOther"
-
 -- what is wrong with a line of the script
 abbrev pub script_kind_text : ScriptKind → List ℕ
 script_kind_text kind.Word = codes "Word"
 script_kind_text kind.Name = codes "Name"
 script_kind_text kind.RecordType = codes "Type"
-script_kind_text (kind.Entry wrong) = entry_kind_text wrong
+script_kind_text (kind.Entry wrong) = kind_text wrong
 script_kind_text kind.NoZone = codes "NoZone"
 script_kind_text kind.Unsent = codes "Unsent"
 

@@ -1,18 +1,15 @@
 -- Writing the output, and how the program ends by it.
-use Rattle.std.specs.Prelude.{◌≡◌, ℕ, List, true, false, Result, Ok, Err}
+use Rattle.std.specs.Prelude.{◌≡◌, ℕ, List, true, false, Result}
 use Rattle.dns_io.specs.declared.io_fault.IoFault.{IoFault}
-use Rattle.dns_io.specs.declared.io_fault.IoFault.TheVariants.{Failed, OutOfMemory}
 use Rattle.dns_edges.specs.Edges.{Around, SinkTold}
-use Rattle.dns_words.specs.Writing.{IsUntouched, WritesWhole}
+use Rattle.dns_words.specs.Writing.{IsUntouched, WritesWhole, ended}
 use Rattle.dns_update_client.specs.declared.status.UpdateStatus.{UpdateStatus}
 use Rattle.dns_update_client.specs.declared.status.UpdateStatus.TheVariants as status
 use Rattle.dns_update_client.specs.Status.{refusal_line, has_line}
 
 -- a status that was meant, where the text was written to its end
 abbrev pub after_writing : UpdateStatus → Result (Unit {0}) IoFault → UpdateStatus
-after_writing meant (Ok done) = meant
-after_writing meant (Err Failed) = status.WriteFault
-after_writing meant (Err OutOfMemory) = status.OutOfMemory
+after_writing meant result = ended meant status.WriteFault status.OutOfMemory result
 
 -- the end of a call that writes a text and means to end with a status
 pub record EndsWriting (output : Around SinkTold) (text : List ℕ) (meant s : UpdateStatus) : Type 0 where

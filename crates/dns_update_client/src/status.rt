@@ -2,14 +2,15 @@
 
 ghost use Rattle.std.specs.Prelude.{◌≡◌, IfOk, string_bytes};
 ghost use Rattle.std.specs.Process.{exit_status};
-ghost use Rattle.dns_update_client.specs.Status.{status_number, entry_kind_text, script_kind_text, refusal_line, read_status, script_status, submit_status};
+ghost use Rattle.dns_update_client.specs.Status.{status_number, script_kind_text, refusal_line, read_status, script_status, submit_status};
 ghost use Rattle.dns_update_client.specs.Writing.{after_writing};
 
 use crate::submit_fault::SubmitFault;
 use dns_edges::ReadFault;
 use dns_io::{IoFault, OutOfMemory};
 use dns_update_script::{ScriptFault, ScriptKind};
-use dns_zone::ZoneTextKind;
+use dns_words::ended;
+use dns_zone::kind_text;
 use std::alloc::Global;
 use std::process::ExitCode;
 
@@ -117,11 +118,12 @@ impl From<SubmitFault> for UpdateStatus {
 pub fn after_writing(meant: UpdateStatus, outcome: Result<(), IoFault>) -> UpdateStatus
     ensures { result ≡ after_writing meant outcome }
 {
-    match outcome {
-        Ok(()) => meant,
-        Err(IoFault::Failed) => UpdateStatus::WriteFault,
-        Err(IoFault::OutOfMemory) => UpdateStatus::OutOfMemory,
-    }
+    ended(
+        meant,
+        UpdateStatus::WriteFault,
+        UpdateStatus::OutOfMemory,
+        outcome,
+    )
 }
 
 /// The line that a refusal writes, with its line end. It is empty where the run was not refused, where writing failed, and
@@ -155,25 +157,8 @@ fn script_kind_text(kind: ScriptKind) -> &'static str
         ScriptKind::Word => "Word",
         ScriptKind::Name => "Name",
         ScriptKind::RecordType => "Type",
-        ScriptKind::Entry(kind) => entry_kind_text(kind),
+        ScriptKind::Entry(kind) => kind_text(kind),
         ScriptKind::NoZone => "NoZone",
         ScriptKind::Unsent => "Unsent",
-    }
-}
-
-fn entry_kind_text(kind: ZoneTextKind) -> &'static str
-    ensures { result.now ≡ entry_kind_text kind }
-{
-    match kind {
-        ZoneTextKind::Paren => "Paren",
-        ZoneTextKind::Quote => "Quote",
-        ZoneTextKind::Directive => "Directive",
-        ZoneTextKind::Name => "Name",
-        ZoneTextKind::Ttl => "Ttl",
-        ZoneTextKind::RecordType => "Type",
-        ZoneTextKind::Data => "Data",
-        ZoneTextKind::OutOfZone => "OutOfZone",
-        ZoneTextKind::NotOneSoa => "NotOneSoa",
-        ZoneTextKind::AliasBesideOther => "AliasBesideOther",
     }
 }

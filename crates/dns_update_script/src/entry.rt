@@ -2,7 +2,6 @@
 
 ghost use Rattle.std.specs.Prelude.{◌≡◌, Ok, IfOk, IfErr};
 ghost use Rattle.dns_name.specs.Name.{fold_of};
-ghost use Rattle.dns_zone.specs.ZoneText.{kind_of};
 ghost use Rattle.dns_presentation.specs.Entries.{ReadsAs};
 ghost use Rattle.dns_update_script.specs.Entry.{alone, broken, begins_directive, states_none, lacks_ttl, timed, first_wrong, line_entry, text_entry, entry_in, TellsEntry};
 
@@ -12,7 +11,7 @@ use dns_presentation::{
     Context, Entry, EntryFault, EntryKind, LogicalLine, Word, entry_of, is_directive, stated_ttl,
 };
 use dns_wire::Record;
-use dns_zone::{ZoneTextFault, ZoneTextKind};
+use dns_zone::{ZoneTextFault, ZoneTextKind, kind_of};
 use std::alloc::Global;
 
 /// Reads the record that a text stands for, which is one entry of a zone's text on one logical line, with an owner
@@ -180,19 +179,5 @@ fn first_wrong(directive: bool, lacks: bool, kind: EntryKind) -> EntryKind
             EntryKind::Data
         }
         EntryKind::Paren | EntryKind::Quote | EntryKind::Directive | EntryKind::RecordType => kind,
-    }
-}
-
-fn kind_of(kind: EntryKind) -> ZoneTextKind
-    ensures { result ≡ kind_of kind }
-{
-    match kind {
-        EntryKind::Paren => ZoneTextKind::Paren,
-        EntryKind::Quote => ZoneTextKind::Quote,
-        EntryKind::Directive => ZoneTextKind::Directive,
-        EntryKind::Name => ZoneTextKind::Name,
-        EntryKind::Ttl => ZoneTextKind::Ttl,
-        EntryKind::RecordType => ZoneTextKind::RecordType,
-        EntryKind::Data => ZoneTextKind::Data,
     }
 }

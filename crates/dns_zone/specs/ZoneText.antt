@@ -1,5 +1,5 @@
 -- The records of a zone's text, or the first fault in it (RFC 1035 5).
-use Rattle.std.specs.Prelude.{◌≡◌, ℕ, not, ◌&&◌, ◌||◌, if◌then◌else◌, List, [], ◌∷◌, Result, Ok, Err}
+use Rattle.std.specs.Prelude.{◌≡◌, ℕ, not, ◌&&◌, ◌||◌, if◌then◌else◌, List, [], ◌∷◌, Result, Ok, Err, codes}
 use Rattle.std.specs.List.{list_any}
 use Rattle.dns_wire.specs.declared.record.Record.{Record}
 use Rattle.dns_name.specs.Name.{is_same_name, is_at_or_below}
@@ -42,6 +42,19 @@ kind_of kind.Name = Name
 kind_of kind.Ttl = Ttl
 kind_of kind.RecordType = RecordType
 kind_of kind.Data = Data
+
+-- the word for it
+abbrev pub kind_text : ZoneTextKind → List ℕ
+kind_text Paren = codes "Paren"
+kind_text Quote = codes "Quote"
+kind_text Directive = codes "Directive"
+kind_text Name = codes "Name"
+kind_text Ttl = codes "Ttl"
+kind_text RecordType = codes "Type"
+kind_text Data = codes "Data"
+kind_text OutOfZone = codes "OutOfZone"
+kind_text NotOneSoa = codes "NotOneSoa"
+kind_text AliasBesideOther = codes "AliasBesideOther"
 
 -- the records with that of one more entry, if it is a record, or why it is refused
 abbrev pub entered : List (List ℕ) → List Record → Entry → Result (List Record) ZoneTextKind

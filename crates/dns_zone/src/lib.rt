@@ -22,4 +22,4 @@ pub use growing::Growing;
 pub use lookup::Looked;
 pub use replaying::{ReplayFault, Replaying, replay};
 pub use zone::Zone;
-pub use zone_text::{ZoneTextFault, ZoneTextKind, read_zone};
+pub use zone_text::{ZoneTextFault, ZoneTextKind, kind_of, kind_text, read_zone};

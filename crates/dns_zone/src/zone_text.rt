@@ -6,7 +6,7 @@ ghost use Rattle.dns_zone.specs.declared.zone_text.LineFault.TheVariants.{Kind, 
 ghost use Rattle.dns_zone.specs.declared.zone_text.ZoneTextFault.TheVariants as fault;
 ghost use Rattle.dns_zone_map.specs.Zone.{IsSoFar};
 ghost use Rattle.dns_presentation.specs.Entries.{entry_of};
-ghost use Rattle.dns_zone.specs.ZoneText.{kind_of, placed_entry, context_behind, finished, zone_of, TellsKind, Tells};
+ghost use Rattle.dns_zone.specs.ZoneText.{kind_of, kind_text, placed_entry, context_behind, finished, zone_of, TellsKind, Tells};
 ghost use Rattle.dns_zone.specs.Contexts.{IsSound};
 
 use crate::placement::{has_soa, place};
@@ -197,7 +197,8 @@ fn take_line(
     }
 }
 
-fn kind_of(kind: EntryKind) -> ZoneTextKind
+/// What is wrong with an entry, as a fault of a zone's text.
+pub fn kind_of(kind: EntryKind) -> ZoneTextKind
     ensures { result ≡ kind_of kind }
 {
     match kind {
@@ -208,5 +209,23 @@ fn kind_of(kind: EntryKind) -> ZoneTextKind
         EntryKind::Ttl => ZoneTextKind::Ttl,
         EntryKind::RecordType => ZoneTextKind::RecordType,
         EntryKind::Data => ZoneTextKind::Data,
+    }
+}
+
+/// The word for what is wrong with an entry, as a refusal's line has it.
+pub fn kind_text(kind: ZoneTextKind) -> &'static str
+    ensures { result.now ≡ kind_text kind }
+{
+    match kind {
+        ZoneTextKind::Paren => "Paren",
+        ZoneTextKind::Quote => "Quote",
+        ZoneTextKind::Directive => "Directive",
+        ZoneTextKind::Name => "Name",
+        ZoneTextKind::Ttl => "Ttl",
+        ZoneTextKind::RecordType => "Type",
+        ZoneTextKind::Data => "Data",
+        ZoneTextKind::OutOfZone => "OutOfZone",
+        ZoneTextKind::NotOneSoa => "NotOneSoa",
+        ZoneTextKind::AliasBesideOther => "AliasBesideOther",
     }
 }
