@@ -11,6 +11,7 @@ pub mod Law
 pub mod Started
 pub mod Answered
 pub mod Storing
+pub mod BatchEnded
 pub mod Pushed
 pub mod Faults
 pub mod RefusalLines

@@ -4,6 +4,7 @@ pub mod Seen
 pub mod Growing
 pub mod Opening
 pub mod Leaving
+pub mod BatchEnds
 pub mod Behind
 pub mod Followed
 pub mod FeedFaults

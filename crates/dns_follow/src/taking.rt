@@ -1,6 +1,6 @@
 //! How a follower takes a frame that carries a row.
 
-ghost use Rattle.std.specs.Prelude.{◌≡◌, ◌<◌, ◌^◌, ◌++◌, ◌∷◌, [], ℕ, List, Some, OnOk, OnErr};
+ghost use Rattle.std.specs.Prelude.{◌≡◌, ◌<◌, ◌^◌, ◌++◌, ◌∷◌, [], ℕ, List, Some, Err, OnOk, OnErr};
 ghost use Rattle.dns_wire.specs.declared.record.Record.{Record as OneRecord};
 ghost use Rattle.dns_keeper.specs.declared.row.Row.{Row as JournalRow};
 ghost use Rattle.dns_wire.specs.WireFormat.{AreShort};
@@ -10,6 +10,7 @@ ghost use Rattle.dns_follow.specs.Following.{IsRow, Fits, TakesFrame};
 ghost use Rattle.dns_follow.specs.Seen.{state_of, IsWritable};
 ghost use Rattle.dns_follow.specs.Growing.{next_of, before_of, IsKeepable};
 ghost use Rattle.dns_follow.specs.Leaving.{LeavesFrame};
+ghost use Rattle.dns_follow.specs.BatchEnds.{stored_as, refused_as, LeavesHeld};
 
 use crate::answer::{FollowFault, Taken};
 use crate::carrying::{goes_on, row_of};
@@ -94,7 +95,7 @@ impl<K: Keeper> Follower<K> {
         let zone = mem::replace(&mut self.zone, None);
         match make_ready(alloc, &self.origin, zone, &self.held, self.count) {
             Ok(ready) => {
-                let (zone, result) = append_batch(
+                let (zone, done) = append_batch(
                     alloc,
                     &mut self.keeper,
                     ready,
@@ -104,43 +105,11 @@ impl<K: Keeper> Follower<K> {
                     &mut self.records,
                 );
                 self.zone = zone;
-                match result {
-                    Ok(()) => {
-                        self.count = id;
-                        let_go(&mut self.held, &mut self.records);
-                        Ok(Taken::Stored { length: id })
-                    }
-                    Err(fault) => match fault {
-                        KeepFault::Failed => {
-                            let_go(&mut self.held, &mut self.records);
-                            Err(FollowFault::KeeperFault)
-                        }
-                        KeepFault::OutOfMemory => {
-                            pop_row(&mut self.held, &mut self.records);
-                            Err(FollowFault::OutOfMemory)
-                        }
-                    },
-                }
+                end_batch(&mut self.held, &mut self.records, &mut self.count, id, done)
             }
-            Err(
-                Unready {
-                    fault: ReplayFault::Refused { row, kind },
-                    zone,
-                },
-            ) => {
+            Err(Unready { fault, zone }) => {
                 self.zone = zone;
-                let_go(&mut self.held, &mut self.records);
-                Err(FollowFault::Refused { row, kind })
-            }
-            Err(
-                Unready {
-                    fault: ReplayFault::OutOfMemory,
-                    zone,
-                },
-            ) => {
-                self.zone = zone;
-                pop_row(&mut self.held, &mut self.records);
-                Err(FollowFault::OutOfMemory)
+                Err(refuse_batch(&mut self.held, &mut self.records, fault))
             }
         }
     }
@@ -170,6 +139,56 @@ fn append_batch<K: Keeper>(
     match result {
         Ok(()) => (Some(ready.keep()), Ok(())),
         Err(fault) => (ready.undo(), Err(fault)),
+    }
+}
+
+/// Ends a batch that was handed to the keeper: where it was stored its rows are counted, the last of which has this id, and let go; where
+/// the keeper failed they are let go; where memory ran out the last one is held no more.
+fn end_batch(
+    held: &mut Vec<Row>,
+    records: &mut Vec<Record>,
+    count: &mut u64,
+    id: u64,
+    appended: Result<(), KeepFault>,
+) -> Result<Taken, FollowFault>
+    ensures answer { result ≡ stored_as id appended }
+    ensures counted { OnOk appended (count.new ≡ id) }
+    ensures uncounted { OnErr appended (count.new ≡ count.old) }
+    ensures held { LeavesHeld (stored_as id appended) held.old.items held.new.items }
+    ensures records { LeavesHeld (stored_as id appended) records.old.items records.new.items }
+{
+    match appended {
+        Ok(()) => {
+            *count = id;
+            let_go(held, records);
+            Ok(Taken::Stored { length: id })
+        }
+        Err(KeepFault::Failed) => {
+            let_go(held, records);
+            Err(FollowFault::KeeperFault)
+        }
+        Err(KeepFault::OutOfMemory) => {
+            pop_row(held, records);
+            Err(FollowFault::OutOfMemory)
+        }
+    }
+}
+
+/// Ends a batch that makes no zone: its rows are let go; where memory ran out the last one is held no more.
+fn refuse_batch(held: &mut Vec<Row>, records: &mut Vec<Record>, fault: ReplayFault) -> FollowFault
+    ensures answer { result ≡ refused_as fault }
+    ensures held { LeavesHeld (Err (refused_as fault)) held.old.items held.new.items }
+    ensures records { LeavesHeld (Err (refused_as fault)) records.old.items records.new.items }
+{
+    match fault {
+        ReplayFault::Refused { row, kind } => {
+            let_go(held, records);
+            FollowFault::Refused { row, kind }
+        }
+        ReplayFault::OutOfMemory => {
+            pop_row(held, records);
+            FollowFault::OutOfMemory
+        }
     }
 }
 

@@ -8,27 +8,47 @@ use dns_edges::{MemoryClock, Sink, Source};
 use dns_io::{IoFault, Octets, OutOfMemory};
 use dns_ports::{Accepted, TcpPort};
 use std::alloc::Global;
-use std::sync::Arc;
-use std::sync::atomic::{AtomicU64, Ordering};
+use std::sync::{Arc, Mutex, MutexGuard};
 use std::thread;
 
 /// How often a read looks at the gate before it fails.
 const TURNS: u32 = 1_000_000;
 
-/// How many replies a connection got.
-pub type Gate = Arc<AtomicU64, Global>;
+/// How many replies a connection got, under a lock.
+pub type Gate = Arc<Mutex<u64>, Global>;
 
 /// A gate of a connection that got no reply yet.
 pub fn gate(alloc: Global) -> Result<Gate, OutOfMemory> {
-    Ok(Arc::new(alloc, AtomicU64::new(0))?)
+    Ok(Arc::new(alloc, Mutex::new(0))?)
 }
 
-/// How many replies its connection got.
+/// Takes the gate's lock as soon as it is free, unless it is held for many tries.
+fn taken(gate: &Gate) -> Option<MutexGuard<'_, u64>> {
+    for _ in 0..TURNS {
+        if let Some(replies) = gate.try_lock() {
+            return Some(replies);
+        }
+        thread::yield_now();
+    }
+    None
+}
+
+/// How many replies its connection got. It takes the gate's lock and gives it back.
 pub fn replies(gate: &Gate) -> u64 {
-    gate.load(Ordering::SeqCst)
+    match taken(gate) {
+        Some(replies) => *replies,
+        None => 0,
+    }
 }
 
-/// Whether the connection of a gate gets a reply before many turns have gone by.
+/// Counts a reply. It takes the gate's lock and gives it back.
+fn count(gate: &Gate) {
+    if let Some(mut replies) = taken(gate) {
+        *replies = replies.saturating_add(1);
+    }
+}
+
+/// Whether the connection of a gate gets a reply before many turns have gone by, each of which takes the lock and gives it back.
 fn opens(gate: &Gate) -> bool {
     for _ in 0..TURNS {
         if replies(gate) > 0 {
@@ -89,7 +109,7 @@ impl Sink for GatedOutput {
     ghost sink = { record { told = λ s. record { taken = None; flushed = None; faults = 0 }; writes = λ before bytes result after. Unit {0} } };
 
     fn write(&mut self, bytes: &[u8]) -> Result<usize, IoFault> {
-        self.own.fetch_add(1, Ordering::SeqCst);
+        count(&self.own);
         Ok(bytes.len())
     }
 

@@ -1,20 +1,20 @@
-use Rattle.std.proofs.Common.{◌≡◌, ◌∙◌, [], ◌∷◌, ◌++◌, List, Option, Some, Result, Ok, Err, ap, sym, subst}
+use Rattle.std.proofs.Common.{◌≡◌, ◌∙◌, [], ◌∷◌, ◌++◌, List, Option, Result, Ok, Err, ap, sym, subst}
 use Rattle.dns_wire.specs.declared.record.Record.{Record}
 use Rattle.dns_wire.specs.WireFormat.{AreShort}
 use Rattle.dns_keeper.specs.declared.row.Row.{Row}
 use Rattle.dns_keeper.specs.declared.keeper.KeepFault.{KeepFault}
-use Rattle.dns_keeper.specs.declared.keeper.KeepFault.TheVariants.{Failed, OutOfMemory}
 use Rattle.dns_keeper.specs.Calls.{Appends}
 use Rattle.dns_zone_map.specs.Zone.{Contents}
-use Rattle.dns_follow.specs.declared.answer.Taken.TheVariants.{Stored}
-use Rattle.dns_follow.specs.declared.answer.FollowFault.TheVariants as fault
+use Rattle.dns_follow.specs.declared.answer.Taken.{Taken}
+use Rattle.dns_follow.specs.declared.answer.FollowFault.{FollowFault}
 use Rattle.dns_follow.specs.Feed.{row_of}
-use Rattle.dns_follow.specs.Following.{Fits, TakesFrame}
+use Rattle.dns_follow.specs.Following.{Fits, State, TakesFrame}
 use Rattle.dns_follow.specs.Seen.{SeenOf, state_of}
-use Rattle.dns_follow.specs.Growing.{next_of, before_of, EndBehind}
-use Rattle.dns_follow.specs.Leaving.{LeavesBatch}
+use Rattle.dns_follow.specs.Growing.{next_of, EndBehind}
+use Rattle.dns_follow.specs.Leaving.{LeavesFrame}
+use Rattle.dns_follow.specs.BatchEnds.{stored_as, refused_as, LeavesHeld}
 use Rattle.dns_follow.proofs.Sound.{GoesOn, short_now}
-use Rattle.dns_follow.proofs.Storing.{on_ok, on_err, stored_sound, stored_takes, stored_leaves, refused_sound, dropped_sound, failed_takes, refused_leaves}
+use Rattle.dns_follow.proofs.BatchEnded.{unchanged_on_err, ended_sound, ended_takes, ended_leaves, refusal_sound}
 use Rattle.dns_follow.proofs.follower.Follower.store.Goals as goal
 
 pub append_batch-zone-requires-clause-short : goal.append_batch-zone-requires-clause-short
@@ -26,8 +26,8 @@ append_batch-zone-requires-clause-short g c =
     let goes : GoesOn in_.count in_.held.items c.args.frame c.args.one = record { row = c.requires.row; good = c.requires.good; wanted = fits.wanted; on = fits.on } in
     subst AreShort (sym c.in-Ok.ensures.records) (short_now in_.origin in_.zone in_.count in_.held.items in_.records.items c.args.frame c.args.one (keeper.told in_.keeper) c.self.invariant goes)
 
-pub invariant_of-self-in-Ok-result : goal.invariant_of-self-in-Ok-result
-invariant_of-self-in-Ok-result g c =
+pub invariant_of-self-in-Ok-make_ready : goal.invariant_of-self-in-Ok-make_ready
+invariant_of-self-in-Ok-make_ready g c =
     let in_ = c.self.inside in
     let keeper = g.K.Keeper.keeper in
     let view : SeenOf g.row.K.Denot = record { keeper = in_.keeper; origin = in_.origin; zone = in_.zone; count = in_.count; held = in_.held.items } in
@@ -39,15 +39,19 @@ invariant_of-self-in-Ok-result g c =
     let ends : EndBehind in_.origin in_.zone in_.count (in_.held.items ++ row_of c.args.frame ∷ []) (Ok next.records) =
     subst (λ (l : List Row). EndBehind in_.origin in_.zone in_.count l (Ok next.records)) held
     (subst (λ (z : Option Contents). EndBehind in_.origin z in_.count c.push_row.new.held.items (Ok next.records)) c.replace-zone.ensures.value c.in-Ok-make_ready.ensures.stands) in
-    let before : before_of c.in-Ok-make_ready.ready ≡ in_.zone = c.in-Ok-make_ready.ensures.before ∙ c.replace-zone.ensures.value in
-    let appends : Appends keeper in_.keeper c.append_batch-zone.new.keeper c.args.frame.client c.args.frame.serial c.args.moment (in_.records.items ++ c.args.one ∷ []) c.append_batch-zone.result.1 =
-    subst (λ (l : List Record). Appends keeper in_.keeper c.append_batch-zone.new.keeper c.args.frame.client c.args.frame.serial c.args.moment l c.append_batch-zone.result.1) records c.append_batch-zone.ensures.appended in
-    let zone : c.append_batch-zone.result.0 ≡ Some next = on_ok (c.append_batch-zone.result.0 ≡ Some next) c.append_batch-zone.result.1 c.in-Ok-result.field-0 c.in-Ok-result.is c.append_batch-zone.ensures.kept in
-    rw (zone, c.let_go.ensures.held, c.let_go.ensures.records)
-    (stored_sound keeper in_.keeper c.append_batch-zone.new.keeper in_.origin in_.zone in_.count in_.held.items in_.records.items c.args.frame c.args.one c.args.moment c.self.invariant goes c.append_batch-zone.result.1 appends next ends c.in-Ok-result.field-0 c.in-Ok-result.is c.in-Ok-make_ready.ensures.named)
+    let done : Result (Unit {0}) KeepFault = c.append_batch-zone.result.1 in
+    let appends : Appends keeper in_.keeper c.append_batch-zone.new.keeper c.args.frame.client c.args.frame.serial c.args.moment (in_.records.items ++ c.args.one ∷ []) done =
+    subst (λ (l : List Record). Appends keeper in_.keeper c.append_batch-zone.new.keeper c.args.frame.client c.args.frame.serial c.args.moment l done) records c.append_batch-zone.ensures.appended in
+    let left : LeavesHeld (stored_as c.args.frame.id done) (in_.held.items ++ row_of c.args.frame ∷ []) c.end_batch.new.held.items =
+    subst (λ (l : List Row). LeavesHeld (stored_as c.args.frame.id done) l c.end_batch.new.held.items) held c.end_batch.ensures.held in
+    let left_records : LeavesHeld (stored_as c.args.frame.id done) (in_.records.items ++ c.args.one ∷ []) c.end_batch.new.records.items =
+    subst (λ (l : List Record). LeavesHeld (stored_as c.args.frame.id done) l c.end_batch.new.records.items) (c.append_batch-zone.ensures.same ∙ records) c.end_batch.ensures.records in
+    ended_sound keeper in_.keeper in_.origin in_.zone in_.count in_.held.items in_.records.items c.args.frame c.args.one c.args.moment c.self.invariant goes c.requires.mark c.append_batch-zone.new.keeper next ends done appends c.in-Ok-make_ready.ensures.named c.append_batch-zone.result.0 c.end_batch.new.count c.end_batch.new.held.items
+    c.end_batch.new.records.items c.append_batch-zone.ensures.kept (unchanged_on_err done _ _ _ c.append_batch-zone.ensures.undone (c.in-Ok-make_ready.ensures.before ∙ c.replace-zone.ensures.value))
+    c.end_batch.ensures.counted c.end_batch.ensures.uncounted left left_records
 
-pub returns-in-Ok-result-clause-takes : goal.returns-in-Ok-result-clause-takes
-returns-in-Ok-result-clause-takes g c =
+pub returns-in-Ok-make_ready-clause-takes : goal.returns-in-Ok-make_ready-clause-takes
+returns-in-Ok-make_ready-clause-takes g c =
     let in_ = c.self.inside in
     let keeper = g.K.Keeper.keeper in
     let view : SeenOf g.row.K.Denot = record { keeper = in_.keeper; origin = in_.origin; zone = in_.zone; count = in_.count; held = in_.held.items } in
@@ -59,15 +63,19 @@ returns-in-Ok-result-clause-takes g c =
     let ends : EndBehind in_.origin in_.zone in_.count (in_.held.items ++ row_of c.args.frame ∷ []) (Ok next.records) =
     subst (λ (l : List Row). EndBehind in_.origin in_.zone in_.count l (Ok next.records)) held
     (subst (λ (z : Option Contents). EndBehind in_.origin z in_.count c.push_row.new.held.items (Ok next.records)) c.replace-zone.ensures.value c.in-Ok-make_ready.ensures.stands) in
-    let before : before_of c.in-Ok-make_ready.ready ≡ in_.zone = c.in-Ok-make_ready.ensures.before ∙ c.replace-zone.ensures.value in
-    let appends : Appends keeper in_.keeper c.append_batch-zone.new.keeper c.args.frame.client c.args.frame.serial c.args.moment (in_.records.items ++ c.args.one ∷ []) c.append_batch-zone.result.1 =
-    subst (λ (l : List Record). Appends keeper in_.keeper c.append_batch-zone.new.keeper c.args.frame.client c.args.frame.serial c.args.moment l c.append_batch-zone.result.1) records c.append_batch-zone.ensures.appended in
-    subst (λ (v : SeenOf g.row.K.Denot). TakesFrame v.origin (state_of keeper v) c.args.frame c.args.moment (Ok (Stored c.args.frame.id))
-    (record { count = c.args.frame.id; told = keeper.told c.append_batch-zone.new.keeper; held = c.let_go.new.held.items })) c.self.view_is
-    (stored_takes keeper in_.keeper c.append_batch-zone.new.keeper in_.origin in_.zone in_.count in_.held.items in_.records.items c.args.frame c.args.one c.args.moment c.self.invariant goes c.append_batch-zone.result.1 appends next ends c.in-Ok-result.field-0 c.let_go.new.held.items c.in-Ok-result.is c.let_go.ensures.held c.requires.mark)
+    let done : Result (Unit {0}) KeepFault = c.append_batch-zone.result.1 in
+    let appends : Appends keeper in_.keeper c.append_batch-zone.new.keeper c.args.frame.client c.args.frame.serial c.args.moment (in_.records.items ++ c.args.one ∷ []) done =
+    subst (λ (l : List Record). Appends keeper in_.keeper c.append_batch-zone.new.keeper c.args.frame.client c.args.frame.serial c.args.moment l done) records c.append_batch-zone.ensures.appended in
+    let left : LeavesHeld (stored_as c.args.frame.id done) (in_.held.items ++ row_of c.args.frame ∷ []) c.end_batch.new.held.items =
+    subst (λ (l : List Row). LeavesHeld (stored_as c.args.frame.id done) l c.end_batch.new.held.items) held c.end_batch.ensures.held in
+    let after : State = record { count = c.end_batch.new.count; told = keeper.told c.append_batch-zone.new.keeper; held = c.end_batch.new.held.items } in
+    subst (λ (v : SeenOf g.row.K.Denot). TakesFrame v.origin (state_of keeper v) c.args.frame c.args.moment c.end_batch.result after) c.self.view_is
+    (subst (λ (x : Result Taken FollowFault). TakesFrame in_.origin (state_of keeper view) c.args.frame c.args.moment x after) (sym c.end_batch.ensures.answer)
+    (ended_takes keeper in_.keeper in_.origin in_.zone in_.count in_.held.items in_.records.items c.args.frame c.args.one c.args.moment c.self.invariant goes c.requires.mark c.append_batch-zone.new.keeper next ends done appends c.end_batch.new.count c.end_batch.new.held.items
+    c.end_batch.ensures.counted c.end_batch.ensures.uncounted left))
 
-pub returns-in-Ok-result-clause-left : goal.returns-in-Ok-result-clause-left
-returns-in-Ok-result-clause-left g c =
+pub returns-in-Ok-make_ready-clause-left : goal.returns-in-Ok-make_ready-clause-left
+returns-in-Ok-make_ready-clause-left g c =
     let in_ = c.self.inside in
     let keeper = g.K.Keeper.keeper in
     let view : SeenOf g.row.K.Denot = record { keeper = in_.keeper; origin = in_.origin; zone = in_.zone; count = in_.count; held = in_.held.items } in
@@ -79,13 +87,18 @@ returns-in-Ok-result-clause-left g c =
     let ends : EndBehind in_.origin in_.zone in_.count (in_.held.items ++ row_of c.args.frame ∷ []) (Ok next.records) =
     subst (λ (l : List Row). EndBehind in_.origin in_.zone in_.count l (Ok next.records)) held
     (subst (λ (z : Option Contents). EndBehind in_.origin z in_.count c.push_row.new.held.items (Ok next.records)) c.replace-zone.ensures.value c.in-Ok-make_ready.ensures.stands) in
-    let before : before_of c.in-Ok-make_ready.ready ≡ in_.zone = c.in-Ok-make_ready.ensures.before ∙ c.replace-zone.ensures.value in
-    let appends : Appends keeper in_.keeper c.append_batch-zone.new.keeper c.args.frame.client c.args.frame.serial c.args.moment (in_.records.items ++ c.args.one ∷ []) c.append_batch-zone.result.1 =
-    subst (λ (l : List Record). Appends keeper in_.keeper c.append_batch-zone.new.keeper c.args.frame.client c.args.frame.serial c.args.moment l c.append_batch-zone.result.1) records c.append_batch-zone.ensures.appended in
-    stored_leaves keeper in_.keeper c.append_batch-zone.new.keeper in_.origin in_.zone in_.count in_.held.items in_.records.items c.args.frame c.args.one c.args.moment c.self.invariant goes c.append_batch-zone.result.1 appends next ends c.in-Ok-result.field-0 c.in-Ok-result.is
+    let done : Result (Unit {0}) KeepFault = c.append_batch-zone.result.1 in
+    let appends : Appends keeper in_.keeper c.append_batch-zone.new.keeper c.args.frame.client c.args.frame.serial c.args.moment (in_.records.items ++ c.args.one ∷ []) done =
+    subst (λ (l : List Record). Appends keeper in_.keeper c.append_batch-zone.new.keeper c.args.frame.client c.args.frame.serial c.args.moment l done) records c.append_batch-zone.ensures.appended in
+    let left : LeavesHeld (stored_as c.args.frame.id done) (in_.held.items ++ row_of c.args.frame ∷ []) c.end_batch.new.held.items =
+    subst (λ (l : List Row). LeavesHeld (stored_as c.args.frame.id done) l c.end_batch.new.held.items) held c.end_batch.ensures.held in
+    let after : SeenOf g.row.K.Denot = record { keeper = c.append_batch-zone.new.keeper; origin = in_.origin; zone = c.append_batch-zone.result.0; count = c.end_batch.new.count; held = c.end_batch.new.held.items } in
+    subst (λ (v : SeenOf g.row.K.Denot). LeavesFrame keeper v c.args.frame c.args.moment after c.end_batch.result) c.self.view_is
+    (subst (λ (x : Result Taken FollowFault). LeavesFrame keeper view c.args.frame c.args.moment after x) (sym c.end_batch.ensures.answer)
+    (ended_leaves keeper in_.keeper in_.origin in_.zone in_.count in_.held.items in_.records.items c.args.frame c.args.one c.args.moment c.self.invariant goes c.requires.mark c.append_batch-zone.new.keeper next ends done appends c.append_batch-zone.result.0 c.end_batch.new.count c.end_batch.new.held.items))
 
-pub invariant_of-self-in-Failed : goal.invariant_of-self-in-Failed
-invariant_of-self-in-Failed g c =
+pub invariant_of-self-in-Err-make_ready : goal.invariant_of-self-in-Err-make_ready
+invariant_of-self-in-Err-make_ready g c =
     let in_ = c.self.inside in
     let keeper = g.K.Keeper.keeper in
     let view : SeenOf g.row.K.Denot = record { keeper = in_.keeper; origin = in_.origin; zone = in_.zone; count = in_.count; held = in_.held.items } in
@@ -93,100 +106,8 @@ invariant_of-self-in-Failed g c =
     let goes : GoesOn in_.count in_.held.items c.args.frame c.args.one = record { row = c.requires.row; good = c.requires.good; wanted = fits.wanted; on = fits.on } in
     let held : c.push_row.new.held.items ≡ in_.held.items ++ row_of c.args.frame ∷ [] = c.in-Ok.ensures.held ∙ ap (λ (x : Row). in_.held.items ++ x ∷ []) c.row_of-row.ensures in
     let records : c.push_row.new.records.items ≡ in_.records.items ++ c.args.one ∷ [] = c.in-Ok.ensures.records in
-    let next : Contents = next_of c.in-Ok-make_ready.ready in
-    let ends : EndBehind in_.origin in_.zone in_.count (in_.held.items ++ row_of c.args.frame ∷ []) (Ok next.records) =
-    subst (λ (l : List Row). EndBehind in_.origin in_.zone in_.count l (Ok next.records)) held
-    (subst (λ (z : Option Contents). EndBehind in_.origin z in_.count c.push_row.new.held.items (Ok next.records)) c.replace-zone.ensures.value c.in-Ok-make_ready.ensures.stands) in
-    let before : before_of c.in-Ok-make_ready.ready ≡ in_.zone = c.in-Ok-make_ready.ensures.before ∙ c.replace-zone.ensures.value in
-    let appends : Appends keeper in_.keeper c.append_batch-zone.new.keeper c.args.frame.client c.args.frame.serial c.args.moment (in_.records.items ++ c.args.one ∷ []) c.append_batch-zone.result.1 =
-    subst (λ (l : List Record). Appends keeper in_.keeper c.append_batch-zone.new.keeper c.args.frame.client c.args.frame.serial c.args.moment l c.append_batch-zone.result.1) records c.append_batch-zone.ensures.appended in
-    let is : c.append_batch-zone.result.1 ≡ Err Failed = c.in-Err-result.is ∙ ap (λ (e : KeepFault). let x : Result (Unit {0}) KeepFault = Err e in x) c.in-Failed.is in
-    let zone : c.append_batch-zone.result.0 ≡ in_.zone =
-    on_err (c.append_batch-zone.result.0 ≡ before_of c.in-Ok-make_ready.ready) c.append_batch-zone.result.1 Failed is c.append_batch-zone.ensures.undone ∙ before in
-    rw (zone, c.let_go-in-Failed.ensures.held, c.let_go-in-Failed.ensures.records) (dropped_sound keeper in_.keeper c.append_batch-zone.new.keeper in_.origin in_.zone in_.count in_.held.items in_.records.items c.args.frame c.args.one c.args.moment c.self.invariant goes c.append_batch-zone.result.1 appends next ends Failed is)
-
-pub invariant_of-self-in-OutOfMemory : goal.invariant_of-self-in-OutOfMemory
-invariant_of-self-in-OutOfMemory g c =
-    let in_ = c.self.inside in
-    let keeper = g.K.Keeper.keeper in
-    let view : SeenOf g.row.K.Denot = record { keeper = in_.keeper; origin = in_.origin; zone = in_.zone; count = in_.count; held = in_.held.items } in
-    let fits : Fits (state_of keeper view) c.args.frame = subst (λ (v : SeenOf g.row.K.Denot). Fits (state_of keeper v) c.args.frame) (sym c.self.view_is) c.requires.fits in
-    let goes : GoesOn in_.count in_.held.items c.args.frame c.args.one = record { row = c.requires.row; good = c.requires.good; wanted = fits.wanted; on = fits.on } in
-    let held : c.push_row.new.held.items ≡ in_.held.items ++ row_of c.args.frame ∷ [] = c.in-Ok.ensures.held ∙ ap (λ (x : Row). in_.held.items ++ x ∷ []) c.row_of-row.ensures in
-    let records : c.push_row.new.records.items ≡ in_.records.items ++ c.args.one ∷ [] = c.in-Ok.ensures.records in
-    let next : Contents = next_of c.in-Ok-make_ready.ready in
-    let ends : EndBehind in_.origin in_.zone in_.count (in_.held.items ++ row_of c.args.frame ∷ []) (Ok next.records) =
-    subst (λ (l : List Row). EndBehind in_.origin in_.zone in_.count l (Ok next.records)) held
-    (subst (λ (z : Option Contents). EndBehind in_.origin z in_.count c.push_row.new.held.items (Ok next.records)) c.replace-zone.ensures.value c.in-Ok-make_ready.ensures.stands) in
-    let before : before_of c.in-Ok-make_ready.ready ≡ in_.zone = c.in-Ok-make_ready.ensures.before ∙ c.replace-zone.ensures.value in
-    let appends : Appends keeper in_.keeper c.append_batch-zone.new.keeper c.args.frame.client c.args.frame.serial c.args.moment (in_.records.items ++ c.args.one ∷ []) c.append_batch-zone.result.1 =
-    subst (λ (l : List Record). Appends keeper in_.keeper c.append_batch-zone.new.keeper c.args.frame.client c.args.frame.serial c.args.moment l c.append_batch-zone.result.1) records c.append_batch-zone.ensures.appended in
-    let is : c.append_batch-zone.result.1 ≡ Err OutOfMemory = c.in-Err-result.is ∙ ap (λ (e : KeepFault). let x : Result (Unit {0}) KeepFault = Err e in x) c.in-OutOfMemory.is in
-    let zone : c.append_batch-zone.result.0 ≡ in_.zone =
-    on_err (c.append_batch-zone.result.0 ≡ before_of c.in-Ok-make_ready.ready) c.append_batch-zone.result.1 OutOfMemory is c.append_batch-zone.ensures.undone ∙ before in
-    rw (zone, c.pop_row.ensures.held in_.held.items (row_of c.args.frame) held, c.pop_row.ensures.records in_.records.items c.args.one (c.append_batch-zone.ensures.same ∙ records))
-    (refused_sound keeper in_.keeper c.append_batch-zone.new.keeper in_.origin in_.zone in_.count in_.held.items in_.records.items c.args.frame c.args.one c.args.moment c.self.invariant goes c.append_batch-zone.result.1 appends next ends OutOfMemory is)
-
-pub returns-in-Failed-clause-takes : goal.returns-in-Failed-clause-takes
-returns-in-Failed-clause-takes g c =
-    let in_ = c.self.inside in
-    let keeper = g.K.Keeper.keeper in
-    let view : SeenOf g.row.K.Denot = record { keeper = in_.keeper; origin = in_.origin; zone = in_.zone; count = in_.count; held = in_.held.items } in
-    let fits : Fits (state_of keeper view) c.args.frame = subst (λ (v : SeenOf g.row.K.Denot). Fits (state_of keeper v) c.args.frame) (sym c.self.view_is) c.requires.fits in
-    let goes : GoesOn in_.count in_.held.items c.args.frame c.args.one = record { row = c.requires.row; good = c.requires.good; wanted = fits.wanted; on = fits.on } in
-    let held : c.push_row.new.held.items ≡ in_.held.items ++ row_of c.args.frame ∷ [] = c.in-Ok.ensures.held ∙ ap (λ (x : Row). in_.held.items ++ x ∷ []) c.row_of-row.ensures in
-    let records : c.push_row.new.records.items ≡ in_.records.items ++ c.args.one ∷ [] = c.in-Ok.ensures.records in
-    let next : Contents = next_of c.in-Ok-make_ready.ready in
-    let ends : EndBehind in_.origin in_.zone in_.count (in_.held.items ++ row_of c.args.frame ∷ []) (Ok next.records) =
-    subst (λ (l : List Row). EndBehind in_.origin in_.zone in_.count l (Ok next.records)) held
-    (subst (λ (z : Option Contents). EndBehind in_.origin z in_.count c.push_row.new.held.items (Ok next.records)) c.replace-zone.ensures.value c.in-Ok-make_ready.ensures.stands) in
-    let before : before_of c.in-Ok-make_ready.ready ≡ in_.zone = c.in-Ok-make_ready.ensures.before ∙ c.replace-zone.ensures.value in
-    let appends : Appends keeper in_.keeper c.append_batch-zone.new.keeper c.args.frame.client c.args.frame.serial c.args.moment (in_.records.items ++ c.args.one ∷ []) c.append_batch-zone.result.1 =
-    subst (λ (l : List Record). Appends keeper in_.keeper c.append_batch-zone.new.keeper c.args.frame.client c.args.frame.serial c.args.moment l c.append_batch-zone.result.1) records c.append_batch-zone.ensures.appended in
-    subst (λ (v : SeenOf g.row.K.Denot). TakesFrame v.origin (state_of keeper v) c.args.frame c.args.moment (Err fault.KeeperFault)
-    (record { count = in_.count; told = keeper.told c.append_batch-zone.new.keeper; held = c.let_go-in-Failed.new.held.items })) c.self.view_is
-    (failed_takes keeper in_.keeper c.append_batch-zone.new.keeper in_.origin in_.zone in_.count in_.held.items in_.records.items c.args.frame c.args.one c.args.moment c.self.invariant goes c.append_batch-zone.result.1 appends next ends c.let_go-in-Failed.new.held.items (c.in-Err-result.is ∙ ap (λ (e : KeepFault). let x : Result (Unit {0}) KeepFault = Err e in x) c.in-Failed.is) c.let_go-in-Failed.ensures.held c.requires.mark)
-
-pub returns-in-Failed-clause-left : goal.returns-in-Failed-clause-left
-returns-in-Failed-clause-left g c =
-    let in_ = c.self.inside in
-    let keeper = g.K.Keeper.keeper in
-    let view : SeenOf g.row.K.Denot = record { keeper = in_.keeper; origin = in_.origin; zone = in_.zone; count = in_.count; held = in_.held.items } in
-    let fits : Fits (state_of keeper view) c.args.frame = subst (λ (v : SeenOf g.row.K.Denot). Fits (state_of keeper v) c.args.frame) (sym c.self.view_is) c.requires.fits in
-    let goes : GoesOn in_.count in_.held.items c.args.frame c.args.one = record { row = c.requires.row; good = c.requires.good; wanted = fits.wanted; on = fits.on } in
-    let held : c.push_row.new.held.items ≡ in_.held.items ++ row_of c.args.frame ∷ [] = c.in-Ok.ensures.held ∙ ap (λ (x : Row). in_.held.items ++ x ∷ []) c.row_of-row.ensures in
-    let records : c.push_row.new.records.items ≡ in_.records.items ++ c.args.one ∷ [] = c.in-Ok.ensures.records in
-    let next : Contents = next_of c.in-Ok-make_ready.ready in
-    let ends : EndBehind in_.origin in_.zone in_.count (in_.held.items ++ row_of c.args.frame ∷ []) (Ok next.records) =
-    subst (λ (l : List Row). EndBehind in_.origin in_.zone in_.count l (Ok next.records)) held
-    (subst (λ (z : Option Contents). EndBehind in_.origin z in_.count c.push_row.new.held.items (Ok next.records)) c.replace-zone.ensures.value c.in-Ok-make_ready.ensures.stands) in
-    let before : before_of c.in-Ok-make_ready.ready ≡ in_.zone = c.in-Ok-make_ready.ensures.before ∙ c.replace-zone.ensures.value in
-    let appends : Appends keeper in_.keeper c.append_batch-zone.new.keeper c.args.frame.client c.args.frame.serial c.args.moment (in_.records.items ++ c.args.one ∷ []) c.append_batch-zone.result.1 =
-    subst (λ (l : List Record). Appends keeper in_.keeper c.append_batch-zone.new.keeper c.args.frame.client c.args.frame.serial c.args.moment l c.append_batch-zone.result.1) records c.append_batch-zone.ensures.appended in
-    subst (λ (v : SeenOf g.row.K.Denot). LeavesBatch keeper v c.args.frame c.args.moment
-    (record { keeper = c.append_batch-zone.new.keeper; origin = in_.origin; zone = in_.zone; count = in_.count; held = in_.held.items }))
-    c.self.view_is (refused_leaves keeper in_.keeper c.append_batch-zone.new.keeper in_.origin in_.zone in_.count in_.held.items
-    in_.records.items c.args.frame c.args.one c.args.moment c.self.invariant goes c.append_batch-zone.result.1 appends next ends
-    c.requires.mark)
-
-pub returns-in-OutOfMemory-clause-left : goal.returns-in-OutOfMemory-clause-left
-returns-in-OutOfMemory-clause-left g c =
-    let in_ = c.self.inside in
-    let keeper = g.K.Keeper.keeper in
-    let view : SeenOf g.row.K.Denot = record { keeper = in_.keeper; origin = in_.origin; zone = in_.zone; count = in_.count; held = in_.held.items } in
-    let fits : Fits (state_of keeper view) c.args.frame = subst (λ (v : SeenOf g.row.K.Denot). Fits (state_of keeper v) c.args.frame) (sym c.self.view_is) c.requires.fits in
-    let goes : GoesOn in_.count in_.held.items c.args.frame c.args.one = record { row = c.requires.row; good = c.requires.good; wanted = fits.wanted; on = fits.on } in
-    let held : c.push_row.new.held.items ≡ in_.held.items ++ row_of c.args.frame ∷ [] = c.in-Ok.ensures.held ∙ ap (λ (x : Row). in_.held.items ++ x ∷ []) c.row_of-row.ensures in
-    let records : c.push_row.new.records.items ≡ in_.records.items ++ c.args.one ∷ [] = c.in-Ok.ensures.records in
-    let next : Contents = next_of c.in-Ok-make_ready.ready in
-    let ends : EndBehind in_.origin in_.zone in_.count (in_.held.items ++ row_of c.args.frame ∷ []) (Ok next.records) =
-    subst (λ (l : List Row). EndBehind in_.origin in_.zone in_.count l (Ok next.records)) held
-    (subst (λ (z : Option Contents). EndBehind in_.origin z in_.count c.push_row.new.held.items (Ok next.records)) c.replace-zone.ensures.value c.in-Ok-make_ready.ensures.stands) in
-    let before : before_of c.in-Ok-make_ready.ready ≡ in_.zone = c.in-Ok-make_ready.ensures.before ∙ c.replace-zone.ensures.value in
-    let appends : Appends keeper in_.keeper c.append_batch-zone.new.keeper c.args.frame.client c.args.frame.serial c.args.moment (in_.records.items ++ c.args.one ∷ []) c.append_batch-zone.result.1 =
-    subst (λ (l : List Record). Appends keeper in_.keeper c.append_batch-zone.new.keeper c.args.frame.client c.args.frame.serial c.args.moment l c.append_batch-zone.result.1) records c.append_batch-zone.ensures.appended in
-    subst (λ (v : SeenOf g.row.K.Denot). LeavesBatch keeper v c.args.frame c.args.moment
-    (record { keeper = c.append_batch-zone.new.keeper; origin = in_.origin; zone = in_.zone; count = in_.count; held = in_.held.items }))
-    c.self.view_is (refused_leaves keeper in_.keeper c.append_batch-zone.new.keeper in_.origin in_.zone in_.count in_.held.items
-    in_.records.items c.args.frame c.args.one c.args.moment c.self.invariant goes c.append_batch-zone.result.1 appends next ends
-    c.requires.mark)
+    let left : LeavesHeld (Err (refused_as c.in-Err-make_ready.field-0.fault)) (in_.held.items ++ row_of c.args.frame ∷ []) c.refuse_batch.new.held.items =
+    subst (λ (l : List Row). LeavesHeld (Err (refused_as c.in-Err-make_ready.field-0.fault)) l c.refuse_batch.new.held.items) held c.refuse_batch.ensures.held in
+    let left_records : LeavesHeld (Err (refused_as c.in-Err-make_ready.field-0.fault)) (in_.records.items ++ c.args.one ∷ []) c.refuse_batch.new.records.items =
+    subst (λ (l : List Record). LeavesHeld (Err (refused_as c.in-Err-make_ready.field-0.fault)) l c.refuse_batch.new.records.items) records c.refuse_batch.ensures.records in
+    refusal_sound keeper in_.keeper in_.origin in_.zone in_.count in_.held.items in_.records.items c.args.frame c.args.one c.args.moment c.self.invariant goes c.requires.mark c.in-Err-make_ready.field-0.fault c.in-Err-make_ready.field-0.zone c.refuse_batch.new.held.items c.refuse_batch.new.records.items (c.in-Err-make_ready.ensures.back ∙ c.replace-zone.ensures.value) left left_records
