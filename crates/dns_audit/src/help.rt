@@ -17,7 +17,8 @@ zone writes the zone that the first LENGTH rows of the journal stand for, as a m
 LENGTH is what dns told as journal_len: the zone is the one on which it answered while its journal had so many rows.
 
 list writes a line for each batch, which is the zone's beginning or an update that changed it:
-  batch FIRST COUNT serial S client C    the id of its first row, how many rows, the serial behind it, and who sent it
+  batch FIRST COUNT serial S client C    the id of its first row, how many rows, the serial behind it, and the number
+                                         of the worker that settled it (0 for the beginning and a list of events)
 A journal without rows and batches has no line.
 
 compact writes the zone of all rows as the beginning of another journal, which has no row yet, and then the line
