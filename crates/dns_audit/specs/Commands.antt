@@ -33,7 +33,9 @@ length_of word = decimal_of (2 ^ 64) word
 abbrev pub zone_by : List ℕ → List (List ℕ) → Option Command
 zone_by origin [] = None
 zone_by origin (count ∷ words) =
-    if names_journal words then option_and_then (λ name. option_map (λ number. PrintZone name number) (length_of count)) (origin_of origin) else None
+    if names_journal words
+    then option_and_then (λ name. option_map (λ number. PrintZone name number) (length_of count)) (origin_of origin)
+    else None
 
 -- what they ask `list` for
 abbrev pub list_by : List ℕ → List (List ℕ) → Option Command

@@ -110,7 +110,8 @@ pub record CompactsNot (origin : List (List ℕ)) (journal other : Around Keeper
 
 -- what a crash may leave of a journal that was to get the zone of all rows of another one: what it might leave before; or, once the append
 -- began, that or the whole opening of this zone
-pub data LeavesCompacted {L : Type 0} (into : KeeperOf L) (origin : List (List ℕ)) (moment : ℕ) (rows : Option (List Row)) (before after : L) : Type 0 where
+pub data LeavesCompacted {L : Type 0} (into : KeeperOf L) (origin : List (List ℕ)) (moment : ℕ) (rows : Option (List Row))
+    (before after : L) : Type 0 where
   unwritten : LeavesNoOther (into.may_leave before) (into.may_leave after) → LeavesCompacted into origin moment rows before after
   in_append : (zone : Contents) → IsWholeZone origin rows zone
       → LeavesWhole (into.told before) 0 (serial_of zone.records) moment (opening_of zone) (into.may_leave before) (into.may_leave after)
@@ -118,7 +119,8 @@ pub data LeavesCompacted {L : Type 0} (into : KeeperOf L) (origin : List (List �
 
 -- what a crash may leave of the other journal, by the words and the clock's last reading: what it might leave before; or, where the words
 -- ask to compact, that or what compacting at this moment may leave
-pub data LeavesInto {L : Type 0} (into : KeeperOf L) (words : List (List ℕ)) (moment : ℕ) (rows : Option (List Row)) (before after : L) : Type 0 where
+pub data LeavesInto {L : Type 0} (into : KeeperOf L) (words : List (List ℕ)) (moment : ℕ) (rows : Option (List Row))
+    (before after : L) : Type 0 where
   unused : LeavesNoOther (into.may_leave before) (into.may_leave after) → LeavesInto into words moment rows before after
   by_compact : (origin : List (List ℕ)) → command_of words ≡ Some (Compact origin) → LeavesCompacted into origin moment rows before after
       → LeavesInto into words moment rows before after

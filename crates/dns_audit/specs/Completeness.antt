@@ -17,12 +17,13 @@ use Rattle.dns_audit.specs.declared.commands.Command.TheVariants.{PrintZone, Lis
 use Rattle.dns_audit.specs.Commands.{command_of}
 use Rattle.dns_audit.specs.World.{World}
 
--- the status that is due to the first rows, so many: there are fewer; they are no zone's; they are, and a name owns an alias and a record of
--- another type in it; or none does
+-- the status that is due to the first rows, so many: there are fewer; they are no zone's; they are, and a name owns an alias and a record
+-- of another type in it; or none does
 pub data ZoneDue (origin : List (List ℕ)) (count : ℕ) (rows : List Row) : AuditStatus → Type 0 where
   short : length rows < count → ZoneDue origin count rows (status.Short (length rows))
   refused : (row : ℤ) (kind : ReplayKind) → count ≤ length rows
-      → Replays (fold_of origin) (take count rows) (Err (record { row = row; kind = kind })) → ZoneDue origin count rows (status.Recovery row kind)
+      → Replays (fold_of origin) (take count rows) (Err (record { row = row; kind = kind }))
+      → ZoneDue origin count rows (status.Recovery row kind)
   alias : (records : List Record) → count ≤ length rows → Replays (fold_of origin) (take count rows) (Ok records)
       → has_alias_beside_other records ≡ true → ZoneDue origin count rows status.AliasBesideOther
   printed : (records : List Record) → count ≤ length rows → Replays (fold_of origin) (take count rows) (Ok records)

@@ -22,8 +22,10 @@ use Rattle.dns_audit.specs.Counts.{Counts}
 
 -- a call wrote the output of what it did, or the line of a refusal; where this is that of a journal that failed, it gave way to want of
 -- memory only where the output wanted it for the line
-pub data Finishes {S : Type 0} (sink : SinkOf S) (before after : S) (Does : List ℕ → Type 0) (Refuses : AuditStatus → Type 0) (s : AuditStatus) : Type 0 where
-  did : (text : List ℕ) → Does text → EndsWriting (around sink.told before after) text status.Ok s → Finishes sink before after Does Refuses s
+pub data Finishes {S : Type 0} (sink : SinkOf S) (before after : S) (Does : List ℕ → Type 0) (Refuses : AuditStatus → Type 0)
+    (s : AuditStatus) : Type 0 where
+  did : (text : List ℕ) → Does text → EndsWriting (around sink.told before after) text status.Ok s
+      → Finishes sink before after Does Refuses s
   refused : (meant : AuditStatus) → Refuses meant → EndsRefusing (around sink.told before after) meant s
       → (meant ≡ status.KeeperFault → s ≡ status.OutOfMemory → WantedMemory sink before (refusal_line status.KeeperFault) after)
       → Finishes sink before after Does Refuses s

@@ -28,7 +28,8 @@ pub record FindsZone (journal : Around KeeperTold) (origin : List (List ℕ)) (c
 pub data FindsNoZone (journal : Around KeeperTold) (origin : List (List ℕ)) (count : ℕ) : AuditFault → Type 0 where
   no_zone : {f : AuditFault} → HasNoZoneAt origin count journal.after.rows f → CountsByFault journal.before.faults journal.after.faults f
       → FindsNoZone journal origin count f
-  no_text : {f : AuditFault} → (zone : Contents) → IfSome journal.after.rows (IsZoneAt origin count zone) → TellsPrint zone f → IsStill journal
+  no_text : {f : AuditFault} → (zone : Contents)
+      → IfSome journal.after.rows (IsZoneAt origin count zone) → TellsPrint zone f → IsStill journal
       → FindsNoZone journal origin count f
 
 -- only the journal that is read was used, and the clock was not asked
@@ -53,5 +54,6 @@ pub data IsRefused (w : World) : AuditStatus → Type 0 where
       → FindsNoZone w.journal origin count f → UsesJournal w → IsRefused w (status_of f)
   at_list : {f : AuditFault} → (origin : List (List ℕ)) → command_of w.words ≡ Some (ListBatches origin)
       → ListsNot w.journal origin f → UsesJournal w → IsRefused w (status_of f)
-  at_compact : {f : AuditFault} → (origin : List (List ℕ)) (moment : ℕ) → command_of w.words ≡ Some (Compact origin) → w.moment ≡ Some moment
+  at_compact : {f : AuditFault} → (origin : List (List ℕ)) (moment : ℕ)
+      → command_of w.words ≡ Some (Compact origin) → w.moment ≡ Some moment
       → CompactsNot origin w.journal w.into f → IsRefused w (status_of f)

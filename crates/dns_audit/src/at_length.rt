@@ -12,8 +12,8 @@ use std::alloc::Global;
 
 /// The zone of this origin, in whatever case, that the first rows of a journal stand for, so many.
 ///
-/// Where a row is refused, those behind it are still counted: a journal with fewer rows is `Short`, whatever its rows are. No row behind the
-/// length is read, and batches are not looked at. The journal stays as it is.
+/// Where a row is refused, those behind it are still counted: a journal with fewer rows is `Short`, whatever its rows are. No row behind
+/// the length is read, and batches are not looked at. The journal stays as it is.
 pub fn zone_at<K: Keeper>(
     alloc: Global,
     origin: &Name,

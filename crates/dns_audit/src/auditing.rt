@@ -24,11 +24,11 @@ use dns_zone::Zone;
 use std::alloc::Global;
 
 /// Does what the words of the command line say, and ends with a status. `zone ORIGIN LENGTH` prints the zone that the first rows of the
-/// journal stand for, so many, and its length and serial behind it; `list ORIGIN` a line for each batch; `compact ORIGIN` writes the zone of
-/// all rows into another journal, which has no row, at the moment of the clock, and prints how many rows it has then.
+/// journal stand for, so many, and its length and serial behind it; `list ORIGIN` a line for each batch; `compact ORIGIN` writes the zone
+/// of all rows into another journal, which has no row, at the moment of the clock, and prints how many rows it has then.
 ///
-/// Nothing is read of a journal before it is known that the words are a command, the other journal is used by `compact` alone, and nothing is
-/// written before all that is asked for is known.
+/// Nothing is read of a journal before it is known that the words are a command, the other journal is used by `compact` alone, and nothing
+/// is written before all that is asked for is known.
 pub fn audit<K: Keeper, L: Keeper, C: Clock, W: Sink>(
     alloc: Global,
     words: &Vec<String>,

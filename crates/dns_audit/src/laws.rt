@@ -25,7 +25,8 @@ pub fn answered_zones<K: Keeper>()
     // The zone at that length is the book's zone after the answer, and no other.
     ensures at { (access : Access) (before after : SeenOf K) (ask : Asked) (settled : Done) (origin : List (List ℕ))
         (rows more : List JournalRow)
-        → Settles K.keeper access before ask settled after → after.zone.origin ≡ fold_of origin → (K.keeper.told after.keeper).rows ≡ Some rows
+        → Settles K.keeper access before ask settled after
+        → after.zone.origin ≡ fold_of origin → (K.keeper.told after.keeper).rows ≡ Some rows
         → IsZoneAt origin settled.length after.zone (rows ++ more) }
     ensures one { (origin : List (List ℕ)) (count : ℕ) (a b : Contents) (rows : List JournalRow)
         → IsZoneAt origin count a rows → IsZoneAt origin count b rows → a ≡ b }

@@ -1,5 +1,5 @@
-//! An auditor of journals: the zone at any length of its journal, as text; the batches that made it; and a new journal of one batch. What the
-//! words of its command line ask for, the lines that it writes, and the top call [`audit()`].
+//! An auditor of journals: the zone at any length of its journal, as text; the batches that made it; and a new journal of one batch. What
+//! the words of its command line ask for, the lines that it writes, and the top call [`audit()`].
 #![tactic(auto)]
 
 mod at_length;

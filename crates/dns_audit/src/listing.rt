@@ -11,9 +11,9 @@ use dns_name::Name;
 use dns_store::{ListedBatch, list_batches};
 use std::alloc::Global;
 
-/// The batches of a journal, by ascending first id, each with the serial and the client of its first row, once it is seen that its rows stand
-/// for a zone of this origin, in whatever case, and that its batches cover them. A journal without rows may have no batch. The journal stays
-/// as it is.
+/// The batches of a journal, by ascending first id, each with the serial and the client of its first row, once it is seen that its rows
+/// stand for a zone of this origin, in whatever case, and that its batches cover them. A journal without rows may have no batch. The
+/// journal stays as it is.
 pub fn list<K: Keeper>(
     alloc: Global,
     origin: &Name,

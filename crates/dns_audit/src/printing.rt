@@ -18,8 +18,8 @@ use dns_words::put_line;
 use dns_zone::Zone;
 use std::alloc::Global;
 
-/// The text of a zone: a line for each record, in their order, all names absolute. It is read as that zone. Where a name owns an alias and a
-/// record of another type there is none.
+/// The text of a zone: a line for each record, in their order, all names absolute. It is read as that zone. Where a name owns an alias and
+/// a record of another type there is none.
 pub fn zone_text(alloc: Global, zone: &Zone) -> Result<Octets, AuditFault>
     ensures text { IfOk result (λ text. text ≡ zone_text zone.now.records) }
     ensures printable { IfOk result (λ text. IsPrintable zone.now) }

@@ -11,8 +11,8 @@ use dns_words::ended;
 use dns_zone::ReplayKind;
 use std::process::ExitCode;
 
-/// How a run ended. Of several causes the first in the order of the work is told: the words, the journal that is written, the journal that is
-/// read, the zone, the output.
+/// How a run ended. Of several causes the first in the order of the work is told: the words, the journal that is written, the journal that
+/// is read, the zone, the output.
 #[derive(Clone, Copy, Debug, PartialEq, Eq)]
 pub enum AuditStatus {
     /// The output was written, and handed on.

@@ -6,28 +6,38 @@ use Rattle.std.specs.declared.io.Error.{Error}
 use Rattle.dns_io.specs.declared.io_fault.IoFault.{IoFault}
 use Rattle.dns_io.specs.Told.{counted}
 use Rattle.dns_io.specs.Faults.{fault_of}
-use Rattle.dns_edges.specs.Edges.{SourceTold, SinkTold}
+use Rattle.dns_edges.specs.Edges.{SourceTold, SinkTold, wanted}
 use Rattle.dns_edges.specs.declared.adapters.Opened.{Opened}
 use Rattle.dns_edges.specs.declared.adapters.Opened.TheVariants.{Reader, Empty, Refused}
 
--- a reader or a writer, and how many of the calls over it failed
+-- a reader, and how many of the calls over it failed
 pub record Counting (R : Type 0) : Type 0 where
   pub inner : R
   pub faults : ℕ
+
+-- a writer, and how many of the calls over it failed, and how many wanted memory
+pub record CountingBoth (W : Type 0) : Type 0 where
+  pub inner : W
+  pub faults : ℕ
+  pub wants : ℕ
 
 -- what is told of one whose bytes are not told
 abbrev pub untold_source : {R : Type 0} → Counting R → SourceTold
 untold_source s = record { left = None; faults = s.faults }
 
-abbrev pub untold_sink : {W : Type 0} → Counting W → SinkTold
+abbrev pub untold_sink : {W : Type 0} → CountingBoth W → SinkTold
 untold_sink s = record { taken = None; flushed = None; faults = s.faults }
 
--- a read, or a write, raises the count by one where it fails, and else not
+-- a read raises the count by one where it fails, and else not
 abbrev pub ReadsCounting : {R : Type 0} → Counting R → ℕ → Result (List ℕ) IoFault → Counting R → Type 0
 ReadsCounting before room given after = after.faults ≡ counted before.faults given
 
-abbrev pub WritesCounting : {W : Type 0} → (W → Option (List ℕ)) → Counting W → List ℕ → Result ℕ IoFault → Counting W → Type 0
-WritesCounting contents before bytes result after = WriteAppends (contents before.inner) (contents after.inner) result bytes × (after.faults ≡ counted before.faults result)
+-- so does a write, and one that wants memory the other count
+abbrev pub WritesCounting : {W : Type 0} → (W → Option (List ℕ)) → CountingBoth W → List ℕ → Result ℕ IoFault → CountingBoth W → Type 0
+WritesCounting contents before bytes result after =
+    WriteAppends (contents before.inner) (contents after.inner) result bytes
+    × (after.faults ≡ counted before.faults result)
+    × (after.wants ≡ wanted before.wants result)
 
 -- a reading of a clock that is its last reading, and the clock after it
 abbrev pub RisesTo : ℕ → ℕ → ℕ → Type 0

@@ -2,7 +2,7 @@
 use Rattle.std.specs.Prelude.{◌≡◌, ℕ, ◌≤◌, ◌<◌, ◌-◌, ◌^◌, min, max, List, length, take, Option, Result, Ok, Err, IfOk, OnOk, OnErr}
 use Rattle.dns_io.specs.declared.io_fault.IoFault.{IoFault}
 use Rattle.dns_io.specs.declared.io_fault.IoFault.TheVariants.{Failed, OutOfMemory}
-use Rattle.dns_io.specs.Told.{Rose, NeverBegins, Keeps, Takes, EndsAt, Grows, IsHandedOn}
+use Rattle.dns_io.specs.Told.{one_more, Rose, NeverBegins, Keeps, Takes, EndsAt, Grows, IsHandedOn}
 
 -- what a call did to a count of faults, by its answer: it rose where the call failed, and stood still where it did not
 abbrev pub CountsBy : {T : Type 0} → ℕ → ℕ → Result T IoFault → Type 0
@@ -14,6 +14,12 @@ CountsBy before now (Err OutOfMemory) = now ≡ before
 pub record HasCause {T : Type 0} (before now : ℕ) (result : Result T IoFault) : Type 0 where
   pub later : before ≤ now
   pub counts : CountsBy before now result
+
+-- the count of wants of memory after a call, where a call that wants memory is counted once, and no other
+abbrev pub wanted : {T : Type 0} → ℕ → Result T IoFault → ℕ
+wanted before (Ok value) = before
+wanted before (Err Failed) = before
+wanted before (Err OutOfMemory) = one_more before
 
 -- what an object told before a call, and after it
 pub record Around (T : Type 0) : Type 0 where
@@ -54,10 +60,12 @@ pub record SinkTold : Type 0 where
   pub flushed : Option (List ℕ)
   pub faults : ℕ
 
--- what is known of a sink: what it tells, and what one write that is handed these bytes may answer, and how it may leave the sink
+-- what is known of a sink: what it tells, what one write that is handed these bytes may answer, and how it may leave the sink, and how
+-- many of its calls wanted memory
 pub record SinkOf (S : Type 0) : Type 1 where
   pub told : S → SinkTold
   pub writes : S → List ℕ → Result ℕ IoFault → S → Type 0
+  pub wants : S → ℕ
 
 -- one write of these bytes: it took some from their front, and flushed nothing; after an error none was taken
 pub record Writes (before after : SinkTold) (bytes : List ℕ) (result : Result ℕ IoFault) : Type 0 where

@@ -43,7 +43,8 @@ ReadsNext before room result after =
     ((result ≡ Ok (take (read_count before room) before.left)) × (after ≡ read_of before (read_count before room)))
 
 -- a sink in memory: the bytes that it took, those of them that were flushed, the most that one write takes, the numbers
--- of the writes and of the flushes that fail, how many writes and how many flushes there were, and how many of both failed
+-- of the writes and of the flushes that fail, how many writes and how many flushes there were, how many of both failed, and how many
+-- writes wanted memory
 pub record SinkState : Type 0 where
   pub taken : List ℕ
   pub flushed : List ℕ
@@ -53,6 +54,21 @@ pub record SinkState : Type 0 where
   pub writes : ℕ
   pub flushes : ℕ
   pub faults : ℕ
+  pub wants : ℕ
+
+-- one that took nothing
+abbrev pub empty_sink : ℕ → List ℕ → List ℕ → SinkState
+empty_sink step failing_writes failing_flushes = record {
+  taken = [];
+  flushed = [];
+  step = step;
+  failing_writes = failing_writes;
+  failing_flushes = failing_flushes;
+  writes = 0;
+  flushes = 0;
+  faults = 0;
+  wants = 0;
+}
 
 -- what it tells
 abbrev pub sink_told : SinkState → SinkTold
@@ -66,6 +82,10 @@ failed_write s = record s { writes = one_more s.writes; faults = one_more s.faul
 abbrev pub write_of : SinkState → List ℕ → SinkState
 write_of s bytes = record s { taken = s.taken ++ bytes; writes = one_more s.writes }
 
+-- the sink after a write that wanted memory
+abbrev pub wanting_write : SinkState → SinkState
+wanting_write s = record s { writes = one_more s.writes; wants = one_more s.wants }
+
 -- what a write of these bytes answers, and leaves
 abbrev pub WritesNext : SinkState → List ℕ → Result ℕ IoFault → SinkState → Type 0
 WritesNext before bytes result after =
@@ -73,7 +93,7 @@ WritesNext before bytes result after =
     ((result ≡ Err Failed) × (after ≡ failed_write before))
     (MatchResult result
     (λ count. (count ≡ min (length bytes) before.step) × (after ≡ write_of before (take count bytes)))
-    (λ fault. (fault ≡ OutOfMemory) × (after ≡ write_of before [])))
+    (λ fault. (fault ≡ OutOfMemory) × (after ≡ wanting_write before)))
 
 -- the sink after a flush that failed: what was flushed before stays so
 abbrev pub failed_flush : SinkState → SinkState

@@ -6,10 +6,11 @@ ghost use Rattle.std.specs.Io.{ReadsAtMost, WritesAtMost};
 ghost use Rattle.std.specs.Io.KnownBytes.{Keeps as KeepsKnown, ReadConsumes, WriteAppends};
 ghost use Rattle.std.specs.IoError.{error_kind};
 ghost use Rattle.dns_io.specs.Told.{counted};
-ghost use Rattle.dns_edges.specs.Edges.{Reads, Writes, Flushes, HasCause, given_by};
+ghost use Rattle.dns_edges.specs.Edges.{Reads, Writes, Flushes, HasCause, given_by, wanted};
 ghost use Rattle.dns_edges.specs.Adapters.{opened_of, file_told, untold_source, untold_sink, ReadsCounting, WritesCounting, ReadsOpened, RisesTo};
 
 use crate::clock::{Clock, moment_from};
+use crate::counting::{count, count_wants};
 use crate::sink::Sink;
 use crate::source::Source;
 use dns_io::IoFault;
@@ -58,44 +59,52 @@ impl<R: Read> Source for Reading<R> {
 
 /// A sink over a writer of std, as a file, a standard stream or a socket.
 ///
-/// An interrupted write or flush is tried again. A write that takes nothing is a fault. A call that fails is counted once,
-/// up to `u64::MAX`.
+/// An interrupted write or flush is tried again. A write that takes nothing is a fault. A call that fails is counted once, and so is one
+/// that wants memory, each up to `u64::MAX`.
 #[derive(Drop)]
 pub struct Writing<W> {
     writer: W,
     faults: u64,
+    wants: u64,
 }
 
 impl<W> Model for Writing<W> {
-    ghost use Rattle.dns_edges.specs.Adapters.{Counting};
+    ghost use Rattle.dns_edges.specs.Adapters.{CountingBoth};
 
-    ghost Value = { Counting W };
+    ghost Value = { CountingBoth W };
 
-    ghost view = { λ s. record { inner = s.writer; faults = s.faults } };
+    ghost view = { λ s. record { inner = s.writer; faults = s.faults; wants = s.wants } };
 }
 
 impl<W> Writing<W> {
-    /// A sink over this writer, with no fault so far.
+    /// A sink over this writer, with no fault so far, that never wanted memory.
     pub fn new(writer: W) -> Writing<W>
-        ensures { result ≡ record { inner = writer; faults = 0 } }
+        ensures { result ≡ record { inner = writer; faults = 0; wants = 0 } }
     {
-        Writing { writer, faults: 0 }
+        Writing {
+            writer,
+            faults: 0,
+            wants: 0,
+        }
     }
 }
 
 impl<W: Write> Sink for Writing<W> {
-    ghost sink = { record { told = untold_sink; writes = WritesCounting W.contents } };
+    ghost sink = { record { told = untold_sink; writes = WritesCounting W.contents; wants = λ s. s.wants } };
 
     fn write(&mut self, bytes: &[u8]) -> Result<usize, IoFault> {
-        count(write_some(&mut self.writer, bytes), &mut self.faults)
+        let outcome = count(write_some(&mut self.writer, bytes), &mut self.faults);
+        count_wants(outcome, &mut self.wants)
     }
 
     fn flush(&mut self) -> Result<(), IoFault>
         ensures told { Flushes (untold_sink self.old) (untold_sink self.new) result }
         ensures bytes { KeepsKnown (W.contents self.old.inner) (W.contents self.new.inner) }
         ensures faults { self.new.faults ≡ counted self.old.faults result }
+        ensures wanted { self.new.wants ≡ wanted self.old.wants result }
     {
-        count(flush(&mut self.writer), &mut self.faults)
+        let outcome = count(flush(&mut self.writer), &mut self.faults);
+        count_wants(outcome, &mut self.wants)
     }
 }
 
@@ -287,16 +296,4 @@ fn flush_retrying<W: Write>(writer: &mut W) -> io::Result<()>
         }
     }
     Err(ErrorKind::TimedOut.into())
-}
-
-/// Hands the outcome on, and counts it where it is `Failed`.
-fn count<T>(outcome: Result<T, IoFault>, faults: &mut u64) -> Result<T, IoFault>
-    ensures outcome { result ≡ outcome }
-    ensures faults { faults.new ≡ counted faults.old result }
-    ensures cause { HasCause faults.old faults.new result }
-{
-    if let Err(IoFault::Failed) = outcome {
-        *faults = faults.saturating_add(1);
-    }
-    outcome
 }

@@ -3,6 +3,7 @@
 
 mod adapters;
 mod clock;
+mod counting;
 mod memory;
 mod sink;
 mod source;
@@ -10,6 +11,7 @@ mod to_end;
 
 pub use adapters::{FileSource, Opened, Reading, SystemClock, Writing};
 pub use clock::{Clock, moment_from};
+pub use counting::{count, count_wants};
 pub use memory::{MemoryClock, MemorySink, MemorySource};
 pub use sink::{Sink, write_all};
 pub use source::Source;

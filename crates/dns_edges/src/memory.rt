@@ -2,8 +2,8 @@
 //! content, and the calls fail whose numbers they were made with.
 
 ghost use Rattle.std.specs.Prelude.{◌≡◌, ◌<◌, ◌≤◌, ◌^◌, ℕ, [], Some, length, take, drop, All, IsErrOf, IfOk, OnOk, OnErr};
-ghost use Rattle.dns_edges.specs.Edges.{Reads, Writes, Flushes, given_by};
-ghost use Rattle.dns_edges.specs.Memory.{ReadsNext, WritesNext, FlushesNext, IsNextReading, source_told, sink_told};
+ghost use Rattle.dns_edges.specs.Edges.{Reads, Writes, Flushes, given_by, wanted};
+ghost use Rattle.dns_edges.specs.Memory.{ReadsNext, WritesNext, FlushesNext, IsNextReading, empty_sink, source_told, sink_told};
 
 use crate::clock::Clock;
 use crate::sink::Sink;
@@ -90,6 +90,7 @@ pub struct MemorySink {
     writes: u64,
     flushes: u64,
     faults: u64,
+    wants: u64,
 }
 
 impl Model for MemorySink {
@@ -98,7 +99,17 @@ impl Model for MemorySink {
 
     ghost Value = { SinkState };
 
-    ghost view = { λ s. record { taken = s.bytes; flushed = take s.flushed s.bytes; step = s.step; failing_writes = s.failing_writes.items; failing_flushes = s.failing_flushes.items; writes = s.writes; flushes = s.flushes; faults = s.faults } };
+    ghost view = { λ s. record {
+      taken = s.bytes;
+      flushed = take s.flushed s.bytes;
+      step = s.step;
+      failing_writes = s.failing_writes.items;
+      failing_flushes = s.failing_flushes.items;
+      writes = s.writes;
+      flushes = s.flushes;
+      faults = s.faults;
+      wants = s.wants;
+    } };
 
     ghost invariant = { λ s. (s.flushed ≤ length s.bytes) × (0 < s.step) };
 }
@@ -107,15 +118,14 @@ impl MemorySink {
     /// A sink that took nothing, and of which no flush fails; else as `with_failing_flushes`.
     pub fn new(alloc: Global, step: usize, failing_writes: Vec<u64>) -> MemorySink
         requires { 0 < step }
-        ensures { result ≡ record
-            { taken = []; flushed = []; step = step; failing_writes = failing_writes.items; failing_flushes = []; writes = 0; flushes = 0; faults = 0 } }
+        ensures { result ≡ empty_sink step failing_writes.items [] }
     {
         MemorySink::with_failing_flushes(alloc, step, failing_writes, Vec::new(alloc))
     }
 
     /// A sink that took nothing. A write takes at most `step` bytes. Its writes are counted from 1, and its flushes
     /// apart from them, from 1 too; those whose numbers stand in `failing_writes` or `failing_flushes` fail. The count of
-    /// faults rises by one at each of them, and nowhere else.
+    /// faults rises by one at each of them, and nowhere else; that of wants of memory at each write that answers it.
     pub fn with_failing_flushes(
         alloc: Global,
         step: usize,
@@ -123,8 +133,7 @@ impl MemorySink {
         failing_flushes: Vec<u64>,
     ) -> MemorySink
         requires { 0 < step }
-        ensures { result ≡ record
-            { taken = []; flushed = []; step = step; failing_writes = failing_writes.items; failing_flushes = failing_flushes.items; writes = 0; flushes = 0; faults = 0 } }
+        ensures { result ≡ empty_sink step failing_writes.items failing_flushes.items }
     {
         MemorySink {
             bytes: Octets::new(alloc),
@@ -135,6 +144,7 @@ impl MemorySink {
             writes: 0,
             flushes: 0,
             faults: 0,
+            wants: 0,
         }
     }
 
@@ -155,7 +165,7 @@ impl MemorySink {
 }
 
 impl Sink for MemorySink {
-    ghost sink = { record { told = sink_told; writes = WritesNext } };
+    ghost sink = { record { told = sink_told; writes = WritesNext; wants = λ s. s.wants } };
 
     fn write(&mut self, bytes: &[u8]) -> Result<usize, IoFault> {
         self.writes = self.writes.saturating_add(1);
@@ -165,13 +175,17 @@ impl Sink for MemorySink {
         }
         let count = bytes.len().min(self.step);
         let (front, _) = bytes.split_at(count);
-        self.bytes.append(front)?;
+        if self.bytes.append(front).is_err() {
+            self.wants = self.wants.saturating_add(1);
+            return Err(IoFault::OutOfMemory);
+        }
         Ok(count)
     }
 
     fn flush(&mut self) -> Result<(), IoFault>
         ensures told { Flushes (sink_told self.old) (sink_told self.new) result }
         ensures next { FlushesNext self.old result self.new }
+        ensures wanted { self.new.wants ≡ wanted self.old.wants result }
     {
         self.flushes = self.flushes.saturating_add(1);
         if self.failing_flushes.contains(&self.flushes) {

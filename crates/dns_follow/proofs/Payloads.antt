@@ -14,10 +14,11 @@ same f g i c s m b = λ j. record { id = i j; client = c j; serial = s j; mark =
 at_back : (f : Frame) → IsInRange f → frame_at (payload_of f) ≡ f
 at_back f fits = same (frame_at (payload_of f)) f (from_be_bytes-to_be_bytes_8 f.id fits.id) (from_be_bytes-to_be_bytes_4 f.client fits.client) (from_be_bytes-to_be_bytes_4 f.serial fits.serial) refl refl
 
+pub payload_size : (f : Frame) → length (payload_of f) ≡ 17 + length f.bytes
+payload_size f = omega arith
+
 long : (f : Frame) → nat_lt (length (payload_of f)) 17 ≡ false
-long f =
-    let size : length (payload_of f) ≡ 17 + length f.bytes = omega arith in
-    grind (arith, nat_tests, size)
+long f = grind (arith, nat_tests, payload_size f)
 
 pub read_back : (f : Frame) → IsInRange f → frame_in (payload_of f) ≡ Some f
 read_back f fits = rw (long f) (ap Some (at_back f fits))

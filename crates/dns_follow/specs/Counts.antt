@@ -29,8 +29,10 @@ module _ {K S C O : Type 0} (keeper : KeeperOf K) (source : SourceOf S) (clock :
   -- The counts of all objects, by the status. So where it is 0 none rose, and where memory ran out none but one whose line the output
   -- wanted memory for.
   pub record Counts (s : FollowStatus) : Type 0 where
-    pub journal : CountsFailing sink w.output.before w.output.after (keeper.told w.journal.before).faults (keeper.told w.journal.after).faults status.KeeperFault s
-    pub input : CountsFailing sink w.output.before w.output.after (source.told w.input.before).faults (source.told w.input.after).faults status.ReadFault s
+    pub journal : CountsFailing sink w.output.before w.output.after
+        (keeper.told w.journal.before).faults (keeper.told w.journal.after).faults status.KeeperFault s
+    pub input : CountsFailing sink w.output.before w.output.after
+        (source.told w.input.before).faults (source.told w.input.after).faults status.ReadFault s
     pub output : CountsWriting (sink.told w.output.before) (sink.told w.output.after) s
 
   -- a status tells of a fault only where a call of the object that it names failed

@@ -17,7 +17,8 @@ module _ {K S C O : Type 0} (keeper : KeeperOf K) (source : SourceOf S) (clock :
 
   -- some of the bytes were not written, or not handed on: of the line of a refusal or what stands before it, or of the output
   pub data IsCut : Type 0 where
-    in_refusal : (s : FollowStatus) (text : List ℕ) → has_line s ≡ true → IsRefused keeper source clock w s text → TookFront (text ++ refusal_line s) → IsCut
+    in_refusal : (s : FollowStatus) (text : List ℕ) → has_line s ≡ true
+        → IsRefused keeper source clock w s text → TookFront (text ++ refusal_line s) → IsCut
     in_output : (text : List ℕ) → IsDone keeper source clock w text → TookFront text → IsCut
 
   -- What each status means. Status 0 and each status with a line say that the output took all the bytes, and handed on all that it took.

@@ -1,8 +1,9 @@
 -- What a feed has: the rows of a journal in order, each with a mark where its batch ends with it.
-use Rattle.std.specs.Prelude.{◌≡◌, ℕ, ℤ, pos, nat_abs, nat_lt, ◌+ℤ◌, ◌+◌, ◌<◌, ◌≤◌, ◌^◌, List, [], ◌∷◌, ◌++◌, length, map, take, drop, slice_index, Bool, if◌then◌else◌, Option, Some, None}
+use Rattle.std.specs.Prelude.{◌≡◌, ℕ, ℤ, pos, nat_abs, nat_lt, ◌+ℤ◌, ◌<◌, ◌≤◌, ◌^◌, List, [], ◌∷◌, ◌++◌, length, map, take, drop, slice_index, Bool, if◌then◌else◌, Option, Some, None}
 use Rattle.std.specs.Ordering.{int_eq}
 use Rattle.std.specs.List.{list_any, Contains}
-use Rattle.std.specs.Int.{w16, w32, w64, to_be_bytes, from_be_bytes}
+use Rattle.std.specs.Int.{w32, w64, to_be_bytes, from_be_bytes}
+use Rattle.dns_frames.specs.Frames.{frame_of as message_frame}
 use Rattle.dns_keeper.specs.declared.row.Row.{Row}
 use Rattle.dns_keeper.specs.declared.batch_row.BatchRow.{BatchRow}
 use Rattle.dns_follow.specs.declared.frame.Frame.{Frame}
@@ -25,7 +26,8 @@ mark_of batches id = if ends_batch batches id then 1 else 0
 
 -- the frame of a row with this mark
 abbrev pub frame_with : ℕ → Row → Frame
-frame_with mark row = record { id = nat_abs row.id; client = nat_abs row.client; serial = nat_abs row.serial; mark = mark; bytes = row.bytes }
+frame_with mark row =
+    record { id = nat_abs row.id; client = nat_abs row.client; serial = nat_abs row.serial; mark = mark; bytes = row.bytes }
 
 -- the frame of a row
 abbrev pub frame_of : List BatchRow → Row → Frame
@@ -58,7 +60,7 @@ frame_in p = if nat_lt (length p) 17 then None else Some (frame_at p)
 
 -- behind the two bytes of its length
 abbrev pub framed : Frame → List ℕ
-framed f = to_be_bytes w16 (17 + length f.bytes) ++ payload_of f
+framed f = message_frame (payload_of f)
 
 -- its numbers have the bytes that they are written in
 pub record IsInRange (f : Frame) : Type 0 where

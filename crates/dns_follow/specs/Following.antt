@@ -122,9 +122,11 @@ pub record HasFailed (s t : State) : Type 0 where
 abbrev pub TakesFrame : List (List ℕ) → State → Frame → ℕ → Result Taken FollowFault → State → Type 0
 TakesFrame origin s f moment (Ok Known) t = (f.id < want s) × (t ≡ s)
 TakesFrame origin s f moment (Ok (Ahead w got)) t = (want s < f.id) × (w ≡ want s) × (got ≡ f.id) × (t ≡ s)
-TakesFrame origin s f moment (Err (Mixed row)) t = (f.id ≡ want s) × (joins (last_of s.held) (row_of f) ≡ false) × (row ≡ pos f.id) × (t ≡ dropped s)
+TakesFrame origin s f moment (Err (Mixed row)) t =
+    (f.id ≡ want s) × (joins (last_of s.held) (row_of f) ≡ false) × (row ≡ pos f.id) × (t ≡ dropped s)
 TakesFrame origin s f moment (Ok Held) t = Fits s f × (f.mark ≡ 0) × (t ≡ record s { held = batch_with s f })
-TakesFrame origin s f moment (Err (Refused row kind)) t = EndsBatch s f × WouldEnd origin s f (Err (record { row = row; kind = kind })) × (t ≡ dropped s)
+TakesFrame origin s f moment (Err (Refused row kind)) t =
+    EndsBatch s f × WouldEnd origin s f (Err (record { row = row; kind = kind })) × (t ≡ dropped s)
 TakesFrame origin s f moment (Err KeeperFault) t = EndsBatch s f × WouldReplay origin s f × HasFailed (dropped s) t
 TakesFrame origin s f moment (Ok (Stored n)) t = EndsBatch s f × WouldReplay origin s f × (n ≡ f.id) × Stores s f moment t
 TakesFrame origin s f moment (Err OutOfMemory) t = IsWithout s t

@@ -20,7 +20,8 @@ abbrev pub LeavesBatch : {K : Type 0} → KeeperOf K → SeenOf K → Frame → 
 LeavesBatch keeper before f moment after =
     LeavesSame keeper before after
     ⊎ ((records : List Record) × EndsBatch (state_of keeper before) f × AreOf (batch_with (state_of keeper before) f) records
-    × LeavesWhole (keeper.told before.keeper) f.client f.serial moment records (keeper.may_leave before.keeper) (keeper.may_leave after.keeper))
+    × LeavesWhole (keeper.told before.keeper) f.client f.serial moment records
+    (keeper.may_leave before.keeper) (keeper.may_leave after.keeper))
 
 -- by what was answered to a frame that carries a row and was taken at a moment: once its batch was stored just what there is; where the
 -- keeper was refused that, what might be left before or with the whole batch; else what might be left before
@@ -33,7 +34,8 @@ LeavesFrame keeper before f moment after _ = LeavesSame keeper before after
 -- so it is for a payload; where memory ran out before it was known what it carries, what might be left before
 abbrev pub LeavesTaken : {K : Type 0} → KeeperOf K → SeenOf K → List ℕ → ℕ → SeenOf K → Result Taken FollowFault → Type 0
 LeavesTaken keeper before payload moment after (Ok (Stored n)) = LeavesTold (keeper.told after.keeper) (keeper.may_leave after.keeper)
-LeavesTaken keeper before payload moment after (Err KeeperFault) = (f : Frame) × Carries payload f × LeavesBatch keeper before f moment after
+LeavesTaken keeper before payload moment after (Err KeeperFault) =
+    (f : Frame) × Carries payload f × LeavesBatch keeper before f moment after
 LeavesTaken keeper before payload moment after (Err OutOfMemory) =
     LeavesSame keeper before after ⊎ ((f : Frame) × Carries payload f × LeavesBatch keeper before f moment after)
 LeavesTaken keeper before payload moment after _ = LeavesSame keeper before after

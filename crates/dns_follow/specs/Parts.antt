@@ -13,7 +13,8 @@ use Rattle.dns_follow.specs.Writing.{EndsWriting, EndsRefusing}
 use Rattle.dns_follow.specs.Steps.{sent_status}
 
 -- the frames of a journal were sent, up to one whose row is too long, of which a line then tells; or it was not read, of which one tells
-pub data PrintsFeed {K O : Type 0} (keeper : KeeperOf K) (sink : SinkOf O) (from : ℕ) (k l : K) (before after : O) (s : FollowStatus) : Type 0 where
+pub data PrintsFeed {K O : Type 0} (keeper : KeeperOf K) (sink : SinkOf O) (from : ℕ) (k l : K) (before after : O)
+    (s : FollowStatus) : Type 0 where
   sent : (frames : List Frame) → ReadsFed from (keeper.told l) frames → (keeper.told l).faults ≡ (keeper.told k).faults
       → EndsWriting (around sink.told before after) (sent_of frames ++ refusal_line (sent_status frames)) (sent_status frames) s
       → PrintsFeed keeper sink from k l before after s

@@ -37,7 +37,8 @@ pub record GoesOn (front : List Row) (next : Option Row) (rows : List Row) : Typ
   pub ascending : AreAscending rows
 
 -- a front of the rows was seen, up to the one at this place, which is the next one, if there is one
-pub record IsScannedUpTo (from : ℕ) (runs : RunsSoFar) (kept : List Row) (wrong : Option ℤ) (place : ℕ) (next : Option Row) (told : Option (List Row)) : Type 0 where
+pub record IsScannedUpTo (from : ℕ) (runs : RunsSoFar) (kept : List Row) (wrong : Option ℤ) (place : ℕ) (next : Option Row)
+    (told : Option (List Row)) : Type 0 where
   pub front : List Row
   pub seen : AreScanned from runs kept wrong front
   pub number : length front + 1 ≡ place
@@ -99,7 +100,8 @@ abbrev pub AreMarked : KeeperTold → List Row → List Frame → Type 0
 AreMarked told rows frames = IfSome told.rows (λ all. IsMarkedBy told.batches rows frames)
 
 -- so many of the last rows were marked, and the end of the batch of the next one is known, if it has one of these
-pub record IsMarkedUpTo (kept : List Row) (last : ℤ) (count : ℕ) (frames : List Frame) (end : ℤ) (batches : List BatchRow) (rows : List Row) : Type 0 where
+pub record IsMarkedUpTo (kept : List Row) (last : ℤ) (count : ℕ) (frames : List Frame) (end : ℤ) (batches : List BatchRow)
+    (rows : List Row) : Type 0 where
   pub placed : AreLast kept last batches rows
   pub are : IsMarkedBy batches (take count kept) frames
   pub known : IsKnownEnd batches (pos (placed.before + 1 + count)) end

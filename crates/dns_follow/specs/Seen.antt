@@ -52,7 +52,8 @@ pub record AreStored (origin : List (List ℕ)) (zone : Option Contents) (count 
   pub stands : StandsFor origin zone rows
 
 -- what always holds of a follower; there are ids for all rows
-pub record IsSound (told : KeeperTold) (origin : List (List ℕ)) (zone : Option Contents) (count : ℕ) (held : List Row) (records : List Record) : Type 0 where
+pub record IsSound (told : KeeperTold) (origin : List (List ℕ)) (zone : Option Contents) (count : ℕ) (held : List Row)
+    (records : List Record) : Type 0 where
   pub folded : fold_of origin ≡ origin
   pub named : IfSome zone (λ z. z.origin ≡ origin)
   pub few : count + length held < 2 ^ 63

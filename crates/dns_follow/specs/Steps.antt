@@ -88,7 +88,8 @@ module _ {K S C O : Type 0} (keeper : KeeperOf K) (source : SourceOf S) (clock :
     without_memory : IsStill → IsRefused status.OutOfMemory []
     at_journal : (origin : List (List ℕ)) (from : ℕ) (f : FeedFault) → command_of w.words ≡ Some (Feed origin from)
         → ReadsNoFed (keeper.told w.journal.before) (keeper.told w.journal.after) f
-        → CountsByFault (keeper.told w.journal.before).faults (keeper.told w.journal.after).faults f → IsOnlyRead keeper w.journal.before w.journal.after → IsIdle
+        → CountsByFault (keeper.told w.journal.before).faults (keeper.told w.journal.after).faults f
+        → IsOnlyRead keeper w.journal.before w.journal.after → IsIdle
         → IsRefused (feed_status f) []
     at_row : (frames : List Frame) (row : ℕ) → ReadsFeed frames → too_long frames ≡ Some row → IsRefused status.TooLong (sent_of frames)
     at_opening : (origin : List (List ℕ)) (kind : FollowOpenKind) → command_of w.words ≡ Some (Follow origin)

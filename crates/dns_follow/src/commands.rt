@@ -26,8 +26,8 @@ pub enum Command {
 }
 
 /// What the words ask for: `feed ORIGIN FROM` or `follow ORIGIN`, each with at most one `--journal=PATH` behind it. ORIGIN is a name's text
-/// (RFC 1035 5.1), FROM a decimal number from 1 to 2^64 - 1 that begins with no zero, and PATH is not empty. Any other words are no command,
-/// and give None.
+/// (RFC 1035 5.1), FROM a decimal number from 1 to 2^64 - 1 that begins with no zero, and PATH is not empty. Any other words are no
+/// command, and give None.
 #[tactic(auto, unfolding(crate::specs::Commands::command_of))]
 pub fn command_of(alloc: Global, words: &[String]) -> Result<Option<Command>, OutOfMemory>
     ensures is { IfOk result (λ command. command ≡ command_of (map string_bytes words.now)) }

@@ -181,9 +181,9 @@ impl<K: Keeper> Follower<K> {
     ///
     /// One that carries no row is `BadFrame`. One whose row came before is `Known`, and one whose row comes later than the wanted one is
     /// `Ahead`: nothing changes. A row that does not go on with the held ones, by client and serial, is `Mixed`, and these are let go. One
-    /// without a mark is held. With a mark the held rows and this one are a batch: where all rows with it stand for no zone it is `Refused`,
-    /// else it is stored by one append; where the keeper fails it is `KeeperFault`; both let the held rows go. Where memory runs out, nothing
-    /// has changed.
+    /// without a mark is held. With a mark the held rows and this one are a batch: where all rows with it stand for no zone it is
+    /// `Refused`, else it is stored by one append; where the keeper fails it is `KeeperFault`; both let the held rows go. Where memory runs
+    /// out, nothing has changed.
     pub fn take(&mut self, payload: &[u8], moment: u64) -> Result<Taken, FollowFault>
         requires moment { moment < 2 ^ 47 }
         ensures takes { Takes self.old.origin (state_of K.keeper self.old) payload.now moment result (state_of K.keeper self.new) }

@@ -13,8 +13,8 @@ pub enum FollowOpenKind {
     KeeperFault,
     /// The rows are no zone's: they end at this one. Or its batches do not cover the rows: they cease to at this one.
     Recovery {
-        /// The id of the first row that is refused; where no SOA is left at the end, of the last row. Of batches that do not cover the rows,
-        /// the id at which the next one should begin.
+        /// The id of the first row that is refused; where no SOA is left at the end, of the last row. Of batches that do not cover the
+        /// rows, the id at which the next one should begin.
         row: i64,
         /// Why it is refused.
         kind: ReplayKind,

@@ -60,7 +60,8 @@ pub(crate) fn make_ready(
     }
 }
 
-/// What the rows of a batch make of a zone, behind so many rows that stand for it (`done`): in place, where there is no snapshot among them.
+/// What the rows of a batch make of a zone, behind so many rows that stand for it (`done`): in place, where there is no snapshot among
+/// them.
 fn grow(alloc: Global, zone: Zone, rows: &Vec<Row>, done: u64) -> Result<Ready, Unready>
     ensures named { IfOk result (λ ready. (next_of ready).origin ≡ zone.origin) }
     ensures before { IfOk result (λ ready. before_of ready ≡ Some zone) }

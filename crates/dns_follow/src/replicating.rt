@@ -35,9 +35,9 @@ pub struct Replicated<K: Keeper> {
     pub keeper: K,
 }
 
-/// Does what the words of the command line say, and ends with a status. `feed ORIGIN FROM` writes the frames of the rows of the journal from
-/// this id on; `follow ORIGIN` takes the frames of the input to its end, stores each batch once it is whole, and prints how many rows the
-/// journal then has and the serial of their zone.
+/// Does what the words of the command line say, and ends with a status. `feed ORIGIN FROM` writes the frames of the rows of the journal
+/// from this id on; `follow ORIGIN` takes the frames of the input to its end, stores each batch once it is whole, and prints how many rows
+/// the journal then has and the serial of their zone.
 ///
 /// Nothing is read of the journal or the input before it is known that the words are a command, and the input and the clock are used by
 /// `follow` alone.
@@ -50,7 +50,8 @@ pub fn replicate<K: Keeper, R: Source, C: Clock, W: Sink>(
     out: &mut W,
 ) -> Replicated<K>
     ensures { Tells K.keeper R.source C.clock W.sink
-        (world_of (map string_bytes words.now.items) keeper result.keeper input.old input.new clock.old clock.new out.old out.new) result.status }
+        (world_of (map string_bytes words.now.items)
+        keeper result.keeper input.old input.new clock.old clock.new out.old out.new) result.status }
 {
     match command_of(alloc, words.as_slice()) {
         Ok(Some(Command::Feed { origin: _, from })) => {

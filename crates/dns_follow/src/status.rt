@@ -28,8 +28,8 @@ pub enum FollowStatus {
         /// Why it is.
         kind: ReplayKind,
     },
-    /// The rows of the journal that is fed are out of place, or its batches do not cover them, or one has a client or serial of more than 32
-    /// bits.
+    /// The rows of the journal that is fed are out of place, or its batches do not cover them, or one has a client or serial of more than
+    /// 32 bits.
     OutOfPlace {
         /// Where.
         row: i64,

@@ -105,6 +105,7 @@ impl Sink for MemoryConnection {
     ghost sink = { record {
       told = λ c. sink_told c.sink;
       writes = λ before bytes result after. WritesNext before.sink bytes result after.sink;
+      wants = λ c. c.sink.wants;
     } };
 
     fn write(&mut self, bytes: &[u8]) -> Result<usize, IoFault> {

@@ -1,6 +1,6 @@
 //! Scripts of updates, the messages that they mean, and their exchange with a server that is in memory (RFC 2136 2).
 
-use dns_edges::{MemorySink, MemorySource, Sink, Source, read_to_end};
+use dns_edges::{MemorySink, MemorySource, Sink, Source, count_wants, read_to_end};
 use dns_io::{IoFault, Octets};
 use dns_name::Name;
 use dns_rows::{
@@ -139,10 +139,10 @@ pub fn wanted(alloc: Global, given: &str) -> Result<String, Fail> {
     let (place, given) = two(given);
     if place == "write" {
         let mut input = MemorySource::new(Octets::new(alloc), 1, Vec::new(alloc));
-        return exchanged(alloc, given, &mut input, &mut Wanting {});
+        return exchanged(alloc, given, &mut input, &mut Wanting { wants: 0 });
     }
     let mut output = MemorySink::new(alloc, 512, Vec::new(alloc));
-    exchanged(alloc, given, &mut Wanting {}, &mut output)
+    exchanged(alloc, given, &mut Wanting { wants: 0 }, &mut output)
 }
 
 /// What comes of sending one message that adds a record so many times, where no reply comes, and how many bytes were taken to be sent.
@@ -168,7 +168,7 @@ pub fn client(alloc: Global, given: &str) -> Result<String, Fail> {
 
 /// How it ends where each write of its output wants memory.
 pub fn wanting_client(alloc: Global, given: &str) -> Result<String, Fail> {
-    let status = status_of(alloc, given, &mut Wanting {})?;
+    let status = status_of(alloc, given, &mut Wanting { wants: 0 })?;
     Ok(status.to_string(alloc)?)
 }
 
@@ -190,7 +190,9 @@ fn status_of<O: Sink>(alloc: Global, given: &str, out: &mut O) -> Result<u8, Fai
 
 /// A source and a sink that want memory for each read and each write.
 #[derive(Drop)]
-struct Wanting {}
+struct Wanting {
+    wants: u64,
+}
 
 impl Source for Wanting {
     ghost use Rattle.std.specs.Prelude.{None};
@@ -211,10 +213,11 @@ impl Sink for Wanting {
     ghost sink = { record {
       told = λ w. record { taken = None; flushed = None; faults = 0 };
       writes = λ before bytes result after. Unit {0};
+      wants = λ w. w.wants;
     } };
 
     fn write(&mut self, _bytes: &[u8]) -> Result<usize, IoFault> {
-        Err(IoFault::OutOfMemory)
+        count_wants(Err(IoFault::OutOfMemory), &mut self.wants)
     }
 
     fn flush(&mut self) -> Result<(), IoFault> {

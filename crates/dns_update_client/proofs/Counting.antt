@@ -1,11 +1,10 @@
 -- Which counts of faults rose, by how the program ended.
 use Rattle.std.proofs.Common.{◌≡◌, ◌⊎◌, inl, inr, ℕ, List, true, false, Result, Ok, Err, refl, sym, ap, subst, ◌∙◌}
-use Rattle.std.specs.Result.{IsErrOf}
 use Rattle.dns_io.specs.declared.io_fault.IoFault.{IoFault}
 use Rattle.dns_io.specs.declared.io_fault.IoFault.TheVariants.{Failed, OutOfMemory}
-use Rattle.dns_io.specs.Told.{Rose, BreaksOff}
+use Rattle.dns_io.specs.Told.{Rose}
 use Rattle.dns_edges.specs.Edges.{Around, around, SourceTold, SinkOf, SinkTold}
-use Rattle.dns_words.specs.Writing.{WritesWhole}
+use Rattle.dns_words.specs.Writing.{WritesWhole, WantedMemory}
 use Rattle.dns_update_client.specs.declared.submit_fault.SubmitFault.{SubmitFault}
 use Rattle.dns_update_client.specs.declared.submit_fault.SubmitFault.TheVariants as submit
 use Rattle.dns_update_client.specs.declared.status.UpdateStatus.{UpdateStatus}
@@ -15,7 +14,7 @@ use Rattle.dns_update_client.specs.Status.{refusal_line, has_line, submit_status
 use Rattle.dns_update_client.specs.World.{World, IsCalm, IsSinkCalm}
 use Rattle.dns_update_client.specs.Steps.{LoadsNoScript, script_unread, script_too_long, script_refused, script_without_memory, Converses, IsRefused, at_words, at_script, at_messages, at_submit}
 use Rattle.dns_update_client.specs.Writing.{after_writing, EndsWriting, EndsRefusing, silent, by_line}
-use Rattle.dns_update_client.specs.Counts.{WantedMemory, in_write, TellsUnread, with_line, cut_by_fault, cut_for_memory, CountsWriting, Counts}
+use Rattle.dns_update_client.specs.Counts.{TellsUnread, with_line, cut_by_fault, cut_for_memory, CountsWriting, Counts}
 use Rattle.dns_update_client.specs.Completeness.{Completes}
 use Rattle.dns_update_client.specs.Ends.{Ends, Refuses}
 use Rattle.dns_update_client.proofs.Completing.{completes}
@@ -135,12 +134,6 @@ module _ {O : Type 0} (sink : SinkOf O) (before after : O) where
   -- how it ends, that it does its work, and which counts rose
   pub ends_so : (w : World) (s : UpdateStatus) → Ends w s → Counts sink before after w s → Ends w s × Completes w s × Counts sink before after w s
   ends_so w s ends counts = (ends, completes w s ends, counts)
-
--- a write that wanted memory
-pub wanted_write : {O : Type 0} (sink : SinkOf O) (before : O) (text : List ℕ) (f : IoFault) (after : O) → BreaksOff sink.writes before text f after
-    → IsErrOf {T = Unit {0}} (Err f) OutOfMemory → WantedMemory sink before text after
-wanted_write sink before text Failed after broke is = absurd cc
-wanted_write sink before text OutOfMemory after broke is = in_write broke
 
 -- the line of a read fault gives way to want of memory only where the output wanted it
 pub wanted_line : (r : Result (Unit {0}) IoFault) → after_writing status.ReadFault r ≡ status.OutOfMemory → r ≡ Err OutOfMemory

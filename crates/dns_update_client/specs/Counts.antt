@@ -1,18 +1,12 @@
 -- Which counts of faults rose in the top call: those alone of which its status tells.
 use Rattle.std.specs.Prelude.{◌≡◌, ◌⊎◌, ℕ, List}
-use Rattle.dns_io.specs.declared.io_fault.IoFault.TheVariants.{OutOfMemory}
-use Rattle.dns_io.specs.Told.{Grows, Rose, BreaksOff}
+use Rattle.dns_io.specs.Told.{Rose}
 use Rattle.dns_edges.specs.Edges.{Around, SourceTold, SinkOf, SinkTold}
+use Rattle.dns_words.specs.Writing.{WantedMemory}
 use Rattle.dns_update_client.specs.declared.status.UpdateStatus.{UpdateStatus}
 use Rattle.dns_update_client.specs.declared.status.UpdateStatus.TheVariants as status
 use Rattle.dns_update_client.specs.Status.{refusal_line}
 use Rattle.dns_update_client.specs.World.{World, IsCalm, IsSinkCalm}
-
--- a text was cut by a sink for want of memory: a write that was handed all bytes of it that were not taken yet wanted memory; or it was
--- taken whole, and not handed on
-pub data WantedMemory {S : Type 0} (sink : SinkOf S) (before : S) (text : List ℕ) (after : S) : Type 0 where
-  in_write : BreaksOff sink.writes before text OutOfMemory after → WantedMemory sink before text after
-  in_flush : Grows (sink.told before).taken (sink.told after).taken text → WantedMemory sink before text after
 
 -- it is told that an object could not be read: by the status and its line; or that line could not be written, or the output wanted
 -- memory for it

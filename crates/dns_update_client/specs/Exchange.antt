@@ -67,7 +67,8 @@ pub record Answers (messages : List Message) (codes : List ℕ) (left rest taken
 -- why a message was not sent, and how much of its frame was
 pub data StopsSending (message : Message) (sent : List ℕ) : SubmitFault → Type 0 where
   -- it cannot be written
-  unwritable : {error : ProtoError} → TellsTooLong message error → error ≢ proto.OutOfMemory → sent ≡ [] → StopsSending message sent (Proto error)
+  unwritable : {error : ProtoError} → TellsTooLong message error
+      → error ≢ proto.OutOfMemory → sent ≡ [] → StopsSending message sent (Proto error)
   -- the output failed behind a front of it
   unsent : (unsent : List ℕ) → message_frame message ≡ sent ++ unsent → StopsSending message sent Write
   no_memory : (unsent : List ℕ) → message_frame message ≡ sent ++ unsent → StopsSending message sent OutOfMemory
@@ -93,7 +94,8 @@ pub data StopsReading (id : ℕ) (bytes : List ℕ) : SubmitFault → Type 0 whe
   -- a message of another id
   mismatched : (reply : Message) → MessageAt bytes reply → reply.header.id ≢ id → StopsReading id bytes (Mismatch id reply.header.id)
   -- not the reply to an update
-  no_reply : (reply : Message) → MessageAt bytes reply → reply.header.id ≡ id → (IsUpdateReply reply → ⊥) → StopsReading id bytes (NotReply id)
+  no_reply : (reply : Message) → MessageAt bytes reply → reply.header.id ≡ id
+      → (IsUpdateReply reply → ⊥) → StopsReading id bytes (NotReply id)
   no_memory : StopsReading id bytes OutOfMemory
 
 -- why a message was not answered: these bytes were sent for it, and these received

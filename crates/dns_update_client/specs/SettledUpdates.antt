@@ -24,7 +24,8 @@ pub record IsUpdate (m : Message) : Type 0 where
 
 -- a book settles an update that came in its written form by a protocol other than QUIC; these are the bytes of its reply, and
 -- this is the code of the reply that it is owed. From a source that is not safe no reply is owed.
-pub record SettlesUpdate {K : Type 0} (keeper : KeeperOf K) (access : Access) (before : SeenOf K) (m : Message) (bytes : List ℕ) (code : ℕ) (after : SeenOf K) : Type 0 where
+pub record SettlesUpdate {K : Type 0} (keeper : KeeperOf K) (access : Access) (before : SeenOf K) (m : Message) (bytes : List ℕ)
+    (code : ℕ) (after : SeenOf K) : Type 0 where
   pub update : IsUpdate m
   pub ask : Ask
   pub asked : ask.bytes ≡ message_bytes m
@@ -44,4 +45,5 @@ SettlesUpdates keeper access before [] (b ∷ replies) codes after = ⊥
 SettlesUpdates keeper access before (m ∷ messages) [] codes after = ⊥
 SettlesUpdates keeper access before (m ∷ messages) (b ∷ replies) [] after = ⊥
 SettlesUpdates {K} keeper access before (m ∷ messages) (b ∷ replies) (c ∷ codes) after =
-    (between : SeenOf K) × SettlesUpdate keeper access before m b c between × SettlesUpdates keeper access between messages replies codes after
+    (between : SeenOf K) × SettlesUpdate keeper access before m b c between
+    × SettlesUpdates keeper access between messages replies codes after

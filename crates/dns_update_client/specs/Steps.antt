@@ -62,7 +62,8 @@ pub record SubmitsNot (messages : List Message) (input : Around SourceTold) (out
   pub written : WriteCounts output.before.faults output.after.faults fault
 
 -- the words are legal, the script was read, and the messages that it means were sent and answered
-pub record Converses (words : List (List ℕ)) (script input : Around SourceTold) (output : Around SinkTold) (first_id : ℕ) (codes : List ℕ) : Type 0 where
+pub record Converses (words : List (List ℕ)) (script input : Around SourceTold) (output : Around SinkTold) (first_id : ℕ)
+    (codes : List ℕ) : Type 0 where
   pub settings : Settings
   pub sendings : List Sending
   pub legal : settings_of words ≡ Some settings

@@ -1,22 +1,18 @@
 //! Writing the output: each line is handed over whole, and at the end all is handed on.
 
-ghost use Rattle.std.specs.Prelude.{◌≡◌, ◌≤◌, string_bytes, IsErrOf};
+ghost use Rattle.std.specs.Prelude.{◌≡◌, ◌≤◌, string_bytes};
 ghost use Rattle.dns_edges.specs.Edges.{around};
-ghost use Rattle.dns_words.specs.Writing.{Writes, WritesWhole};
-ghost use Rattle.dns_update_client.specs.Counts.{WantedMemory};
+ghost use Rattle.dns_words.specs.Writing.{Writes, WritesWhole, WantedMemory};
 ghost use Rattle.dns_update_client.specs.Lines.{code_line, code_lines};
 ghost use Rattle.dns_update_client.specs.Status.{refusal_line};
 ghost use Rattle.dns_update_client.specs.Writing.{EndsRefusing, after_writing};
 
 use crate::lines::code_line;
-use crate::status::{UpdateStatus, after_writing, refusal_line};
-use dns_edges::{Sink, write_all};
+use crate::status::{READ_FAULT, UpdateStatus, after_writing, refusal_line};
+use dns_edges::Sink;
 use dns_io::IoFault;
-use dns_words::{put_line, put_text};
+use dns_words::{put_line, put_text, put_whole};
 use std::alloc::Global;
-
-/// The line of a run that could not read: no memory is taken for it, so that want of memory does not hide the fault.
-const READ_FAULT: &str = "read fault\n";
 
 /// Writes the one line of a refusal, where it has one, and tells how the program ends.
 pub(crate) fn refuse<O: Sink>(alloc: Global, status: UpdateStatus, out: &mut O) -> UpdateStatus
@@ -35,15 +31,6 @@ pub(crate) fn refuse<O: Sink>(alloc: Global, status: UpdateStatus, out: &mut O) 
         ),
         status => after_writing(status, put_refusal(alloc, &status, out)),
     }
-}
-
-/// Writes a text that is the whole output, and hands it on; where memory is wanted, the output wanted it.
-fn put_whole<O: Sink>(text: &str, out: &mut O) -> Result<(), IoFault>
-    ensures written { WritesWhole (around O.sink.told out.old out.new) text.now result }
-    ensures wanted { IsErrOf result IoFault.OutOfMemory → WantedMemory O.sink out.old text.now out.new }
-{
-    write_all(out, text.as_bytes())?;
-    out.flush()
 }
 
 /// Writes the line of a refusal, and hands it on.

@@ -21,7 +21,8 @@ pub struct Settings {
     pub first_id: u16,
 }
 
-/// What the words ask for: `--server=IP:PORT` and then `--id=N`. IP has 8 (IPv4) or 32 (IPv6) hex digits, and PORT and N are decimal numbers below 65,536 with no zero before another digit. Any other words give None.
+/// What the words ask for: `--server=IP:PORT` and then `--id=N`. IP has 8 (IPv4) or 32 (IPv6) hex digits, and PORT and N are decimal
+/// numbers below 65,536 with no zero before another digit. Any other words give None.
 #[tactic(auto, unfolding(crate::specs::Settings::settings_of))]
 pub fn settings_of(words: &[String]) -> Option<Settings>
     ensures { result ≡ settings_of (map string_bytes words.now) }

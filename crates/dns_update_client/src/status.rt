@@ -14,6 +14,9 @@ use dns_zone::kind_text;
 use std::alloc::Global;
 use std::process::ExitCode;
 
+/// The line of a run that could not read: no memory is taken for it, so that want of memory does not hide the fault.
+pub(crate) const READ_FAULT: &str = "read fault\n";
+
 /// How a run ended. Of several causes the first in the order of the work is told: the words, the script, the messages in their
 /// order, the output.
 #[derive(Clone, Copy, Debug, PartialEq, Eq)]
@@ -136,7 +139,7 @@ pub(crate) fn refusal_line(alloc: Global, status: &UpdateStatus) -> Result<Strin
             String::new(alloc)
         }
         UpdateStatus::Usage => String::from_str(alloc, "usage\n")?,
-        UpdateStatus::ReadFault => String::from_str(alloc, "read fault\n")?,
+        UpdateStatus::ReadFault => String::from_str(alloc, READ_FAULT)?,
         UpdateStatus::TooLong => String::from_str(alloc, "too long\n")?,
         UpdateStatus::Script { line, kind } => {
             let kind = script_kind_text(*kind);

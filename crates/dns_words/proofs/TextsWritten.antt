@@ -3,10 +3,10 @@ use Rattle.std.proofs.Common.{◌≡◌, ℕ, List, [], ◌++◌, Result, Ok, Er
 use Rattle.dns_io.specs.declared.io_fault.IoFault.{IoFault}
 use Rattle.dns_io.specs.declared.io_fault.IoFault.TheVariants.{Failed, OutOfMemory}
 use Rattle.std.specs.Result.{IsErrOf}
-use Rattle.dns_io.specs.Told.{Keeps, IsHandedOn, BreaksOff}
+use Rattle.dns_io.specs.Told.{one_more, Grows, Keeps, IsHandedOn, WritesUpTo, BreaksOff}
 use Rattle.dns_io.proofs.ToldContents.{Grows-nothing, Grows-more, Grows-Keeps, Grows-GrowsByPrefix}
-use Rattle.dns_edges.specs.Edges.{Around, HasCause, SinkOf, SinkTold}
-use Rattle.dns_words.specs.Writing.{Writes, WritesWhole, WantedMemory, in_write}
+use Rattle.dns_edges.specs.Edges.{Around, HasCause, SinkOf, SinkTold, Flushes, wanted}
+use Rattle.dns_words.specs.Writing.{Writes, WritesWhole, WantedMemory, in_write, in_flush}
 
 -- a sink before and after
 abbrev pub sink_of : SinkTold → SinkTold → Around SinkTold
@@ -82,6 +82,18 @@ Whole-flush a b c text (Err fault) first kept all cause = record {
 
 -- a write that broke off for want of memory wanted it
 pub wanted_write : {O : Type 0} (sink : SinkOf O) (before : O) (text : List ℕ) (f : IoFault) (after : O) → BreaksOff sink.writes before text f after
-    → IsErrOf {T = Unit {0}} (Err f) OutOfMemory → WantedMemory sink before text after
-wanted_write sink before text Failed after broke is = absurd cc
-wanted_write sink before text OutOfMemory after broke is = in_write broke
+    → sink.wants after ≡ wanted {T = Unit {0}} (sink.wants before) (Err f) → IsErrOf {T = Unit {0}} (Err f) OutOfMemory → WantedMemory sink before text after
+wanted_write sink before text Failed after broke counts is = absurd cc
+wanted_write sink before text OutOfMemory after broke counts is = record { counted = counts; cut = in_write broke }
+
+-- and so did a flush, where the writes before it did not
+pub wanted_flush : {O : Type 0} (sink : SinkOf O) (before between after : O) (text : List ℕ) (r : Result (Unit {0}) IoFault)
+    → WritesUpTo sink.writes before text between [] → Grows (sink.told before).taken (sink.told between).taken text
+    → sink.wants between ≡ sink.wants before → Flushes (sink.told between) (sink.told after) r → sink.wants after ≡ wanted (sink.wants between) r
+    → IsErrOf r OutOfMemory → WantedMemory sink before text after
+wanted_flush sink before between after text (Ok done) up grown none flushes counts is = absurd cc
+wanted_flush sink before between after text (Err Failed) up grown none flushes counts is = absurd cc
+wanted_flush sink before between after text (Err OutOfMemory) up grown none flushes counts is = record {
+  counted = counts ∙ ap one_more none;
+  cut = in_flush up flushes (Grows-Keeps _ _ _ _ grown flushes.kept);
+}

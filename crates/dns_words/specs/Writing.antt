@@ -1,9 +1,9 @@
 -- What was done to objects that were handed in, and writing texts.
-use Rattle.std.specs.Prelude.{◌≡◌, ℕ, List, Option, Some, None, Result, Ok, Err, OnOk, OnErr}
-use Rattle.dns_io.specs.Told.{Grows, GrowsByPrefix, IsHandedOn, BreaksOff}
+use Rattle.std.specs.Prelude.{◌≡◌, ℕ, List, [], Option, Some, None, Result, Ok, Err, OnOk, OnErr}
+use Rattle.dns_io.specs.Told.{one_more, Grows, GrowsByPrefix, IsHandedOn, WritesUpTo, BreaksOff}
 use Rattle.dns_io.specs.declared.io_fault.IoFault.{IoFault}
 use Rattle.dns_io.specs.declared.io_fault.IoFault.TheVariants.{Failed, OutOfMemory}
-use Rattle.dns_edges.specs.Edges.{Around, HasCause, SinkOf, SinkTold, ClockOf}
+use Rattle.dns_edges.specs.Edges.{Around, HasCause, SinkOf, SinkTold, Flushes, ClockOf}
 
 -- an object was not used: it tells what it told
 abbrev pub IsUntouched : {T : Type 0} → Around T → Type 0
@@ -32,11 +32,18 @@ pub record WritesWhole (output : Around SinkTold) (text : List ℕ) (result : Re
   pub written : Writes output text result
   pub flushed : OnOk result (IsHandedOn output.after.taken output.after.flushed)
 
--- a text was cut by a sink for want of memory: a write that was handed all bytes of it that were not taken yet wanted memory; or it was
--- taken whole, and not handed on
-pub data WantedMemory {S : Type 0} (sink : SinkOf S) (before : S) (text : List ℕ) (after : S) : Type 0 where
-  in_write : BreaksOff sink.writes before text OutOfMemory after → WantedMemory sink before text after
-  in_flush : Grows (sink.told before).taken (sink.told after).taken text → WantedMemory sink before text after
+-- how a text was cut by a sink for want of memory: a write that was handed all bytes of it that were not taken yet wanted memory; or its
+-- writes took it whole, and the flush behind them wanted memory
+pub data CutForMemory {S : Type 0} (sink : SinkOf S) (before : S) (text : List ℕ) (after : S) : Type 0 where
+  in_write : BreaksOff sink.writes before text OutOfMemory after → CutForMemory sink before text after
+  in_flush : {between : S} → WritesUpTo sink.writes before text between [] → Flushes (sink.told between) (sink.told after) (Err OutOfMemory)
+      → Grows (sink.told before).taken (sink.told after).taken text → CutForMemory sink before text after
+
+-- a text was cut by a sink for want of memory, and the sink tells it: one of its calls more wanted memory than before. It tells that of
+-- whatever it writes to, standard output too
+pub record WantedMemory {S : Type 0} (sink : SinkOf S) (before : S) (text : List ℕ) (after : S) : Type 0 where
+  pub counted : sink.wants after ≡ one_more (sink.wants before)
+  pub cut : CutForMemory sink before text after
 
 -- the status that was meant, where a text was written to its end; else that of a failed output, or that of want of memory
 abbrev pub ended : {S : Type 0} → S → S → S → Result (Unit {0}) IoFault → S

@@ -14,7 +14,8 @@ pub fn put_text<W: Sink>(text: &str, out: &mut W) -> Result<(), IoFault>
     put_whole(text, out)
 }
 
-/// Writes a text that is the whole output, and hands it on, as [`put_text`] does; where memory is wanted, the output wanted it.
+/// Writes a text that is the whole output, and hands it on, as [`put_text`] does; where memory is wanted, the output wanted it, and counts
+/// that.
 pub fn put_whole<W: Sink>(text: &str, out: &mut W) -> Result<(), IoFault>
     ensures written { WritesWhole (around W.sink.told out.old out.new) text.now result }
     ensures wanted { IsErrOf result IoFault.OutOfMemory → WantedMemory W.sink out.old text.now out.new }

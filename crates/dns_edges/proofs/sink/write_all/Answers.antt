@@ -10,6 +10,7 @@ loop-rest-init g c =
       unflushed = Keeps-same _;
       written = begun;
       calm = refl;
+      none_wanted = refl;
     }
 
 pub loop-rest-preserved : goal.loop-rest-preserved
@@ -19,4 +20,5 @@ loop-rest-preserved g c =
       unflushed = Keeps-more _ _ _ c.loop-rest.invariant.unflushed c.write.ensures.told.unflushed;
       written = rw c.split_at.ensures.back (went_on c.loop-rest.invariant.written c.in_ok-count.ensures.told.some c.in_ok-count.ensures.told.count c.in_ok-count.ensures.next);
       calm = c.in_ok-count.ensures.told.cause.counts ∙ c.loop-rest.invariant.calm;
+      none_wanted = c.in_ok-count.ensures.wanted ∙ c.loop-rest.invariant.none_wanted;
     }

@@ -11,6 +11,7 @@ invariant-loop-rest g l =
       unflushed : Keeps before.flushed now.flushed;
       written : WritesUpTo g.W.Sink.sink.writes l.fn.sink l.bytes l.sink l.rest;
       calm : now.faults ≡ before.faults;
+      none_wanted : g.W.Sink.sink.wants l.sink ≡ g.W.Sink.sink.wants l.fn.sink;
     }
 
 abbrev pub decreases-loop-rest : goal.decreases-loop-rest

@@ -1,9 +1,8 @@
 use Rattle.std.proofs.Common.{Ok, Err}
 use Rattle.std.proofs.lemmas.Result.{err_from_is_err_and}
-use Rattle.dns_io.proofs.ToldContents.{Grows-Keeps}
 use Rattle.dns_edges.specs.Edges.{around}
-use Rattle.dns_words.specs.Writing.{Writes, in_flush}
-use Rattle.dns_words.proofs.TextsWritten.{Whole-stop, Whole-flush, wanted_write}
+use Rattle.dns_words.specs.Writing.{Writes}
+use Rattle.dns_words.proofs.TextsWritten.{Whole-stop, Whole-flush, wanted_write, wanted_flush}
 use Rattle.dns_words.proofs.texts.put_whole.Goals as goal
 
 pub returns-in_err-write_all-clause-written : goal.returns-in_err-write_all-clause-written
@@ -20,7 +19,8 @@ returns-in_err-write_all-clause-written g c =
 pub returns-in_err-write_all-clause-wanted : goal.returns-in_err-write_all-clause-wanted
 returns-in_err-write_all-clause-wanted g c =
     let p = err_from_is_err_and c.from_residual.result c.from_residual.ensures.1 in
-    rw (p.1, p.2) (wanted_write g.W.Sink.sink _ c.args.text.now _ _ (rw c.as_bytes.ensures.value at c.in_err-write_all.ensures.broke))
+    let broke = rw c.as_bytes.ensures.value at c.in_err-write_all.ensures.broke in
+    rw (p.1, p.2) (wanted_write g.W.Sink.sink _ c.args.text.now _ _ broke c.in_err-write_all.ensures.wanted)
 
 pub returns-clause-written : goal.returns-clause-written
 returns-clause-written g c =
@@ -35,4 +35,7 @@ returns-clause-written g c =
     c.flush.ensures.told.kept c.flush.ensures.told.all c.flush.ensures.told.cause
 
 pub returns-clause-wanted : goal.returns-clause-wanted
-returns-clause-wanted g c = λ is. in_flush (Grows-Keeps _ _ _ _ (rw c.as_bytes.ensures.value at c.in_ok-write_all.ensures.ok) c.flush.ensures.told.kept)
+returns-clause-wanted g c =
+    let up = rw c.as_bytes.ensures.value at c.in_ok-write_all.ensures.written in
+    let grown = rw c.as_bytes.ensures.value at c.in_ok-write_all.ensures.ok in
+    wanted_flush g.W.Sink.sink _ _ _ c.args.text.now c.flush.result up grown c.in_ok-write_all.ensures.wanted c.flush.ensures.told c.flush.ensures.wanted
