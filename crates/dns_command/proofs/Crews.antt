@@ -1,7 +1,7 @@
 -- Workers that are taken on, and ports that are opened and handed back.
 use Rattle.std.proofs.Common.{◌≡◌, ◌⊎◌, ℕ, suc, ◌+◌, ◌≤◌, List, [], ◌∷◌, ◌++◌, inl, inr, length, Option, Some, None, Result, Ok, Err, OnOk, refl, sym, ap, subst, ◌∙◌, append-nil, append_assoc, length-append, arith}
 use Rattle.std.specs.List.{AllByRecursion}
-use Rattle.dns_io.specs.Told.{Rose, Keeps, Grows}
+use Rattle.dns_io.specs.Told.{Rose, Keeps, Grows, one_more}
 use Rattle.dns_io.proofs.ToldContents.{Keeps-same, Keeps-more, Grows-more}
 use Rattle.dns_edges.specs.Edges.{Around}
 use Rattle.dns_ports.specs.declared.hub.Opening.{Opening}
@@ -10,7 +10,7 @@ use Rattle.dns_ticket_lock.specs.declared.view.Terms.{Terms}
 use Rattle.dns_ticket_lock.specs.Passes.{BookSeen, PassSeen, InOrder, AreNew}
 use Rattle.dns_server.specs.declared.worker.Worker.{Worker}
 use Rattle.dns_server.specs.Servers.{ServerSeen, TakesOn, Matches, MatchesOnce, RoseAt, their_passes, their_ports}
-use Rattle.dns_command.specs.Hubs.{EndsWith, AnyFault}
+use Rattle.dns_command.specs.Hubs.{EndsWith, AnyFault, one_more_each}
 use Rattle.dns_command.specs.Serving.{IsNewWorker}
 use Rattle.dns_command.specs.ServingParts.{IsManned, IsSameServer, Registers, OpensAll, IsCalm}
 
@@ -138,6 +138,14 @@ module _ {A : Type 0} where
   EndsWith-still None (Some y) (Some z) items ends kept = absurd ends.told
   EndsWith-still (Some x) (Some y) (Some z) items ends kept = record { told = (ends.told.0, kept ∙ ends.told.1) }
 
+-- the openings of both are counted, first those of the one
+one_more_each-append : {A : Type 0} (count : ℕ) (xs ys : List A) → one_more_each count (xs ++ ys) ≡ one_more_each (one_more_each count xs) ys
+one_more_each-append count [] ys = refl
+one_more_each-append count (x ∷ xs) ys = one_more_each-append (one_more count) xs ys
+
+one_more_each-then : {A : Type 0} (a b c : ℕ) (xs ys : List A) → b ≡ one_more_each a xs → c ≡ one_more_each b ys → c ≡ one_more_each a (xs ++ ys)
+one_more_each-then a b c xs ys p q = q ∙ ap (λ (n : ℕ). one_more_each n ys) p ∙ sym (one_more_each-append a xs ys)
+
 -- a hub before a call and after it
 abbrev pub over : {U T : Type 0} → HubTold U T → HubTold U T → Around (HubTold U T)
 over a b = record { before = a; after = b }
@@ -155,6 +163,8 @@ Registers-more a b c s t u p q = record {
 pub OpensAll-more : {U T : Type 0} (a b c : HubTold U T) (xs ys : List Opening) → OpensAll (over a b) xs → OpensAll (over b c) ys → OpensAll (over a c) (xs ++ ys)
 OpensAll-more a b c xs ys p q = record {
   opened = Grows-more a.openings b.openings c.openings xs ys p.opened q.opened;
+  calls = one_more_each-then a.opened_calls b.opened_calls c.opened_calls xs ys p.calls q.calls;
+  unfailed = q.unfailed ∙ p.unfailed;
   sockets = Keeps-more a.closed_udp b.closed_udp c.closed_udp p.sockets q.sockets;
   listeners = Keeps-more a.closed_tcp b.closed_tcp c.closed_tcp p.listeners q.listeners;
   faults = q.faults ∙ p.faults;
@@ -172,6 +182,8 @@ IsCalm-closed a b listener faults none closed = record {
   listeners = EndsWith-grown a.closed_tcp b.closed_tcp (listener ∷ []) closed.grows;
   sockets_out = closed.udp_lent;
   faults = closed.cause.calm none;
+  calls = closed.none_made;
+  unfailed = closed.none_failed;
 }
 
 pub IsCalm-nothing : {U T : Type 0} (a : HubTold U T) → IsCalm (over a a)
@@ -181,6 +193,8 @@ IsCalm-nothing a = record {
   listeners = EndsWith-kept a.closed_tcp a.closed_tcp (Keeps-same a.closed_tcp);
   sockets_out = refl;
   faults = refl;
+  calls = refl;
+  unfailed = refl;
 }
 
 pub IsCalm-more : {U T : Type 0} (a b c : HubTold U T) → IsCalm (over a b) → IsCalm (over b c) → IsCalm (over a c)
@@ -190,6 +204,8 @@ IsCalm-more a b c p q = record {
   listeners = EndsWith-more a.closed_tcp b.closed_tcp c.closed_tcp p.listeners q.listeners;
   sockets_out = q.sockets_out ∙ p.sockets_out;
   faults = q.faults ∙ p.faults;
+  calls = q.calls ∙ p.calls;
+  unfailed = q.unfailed ∙ p.unfailed;
 }
 
 -- a socket was opened, and taken back before it was used

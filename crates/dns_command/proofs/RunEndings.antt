@@ -40,6 +40,7 @@ module _ {K U T R W C : Type 0} (m : Meanings K U T R W C) (w : World) (hub : Ar
       events = inl tells.counts.events;
       output = tells.counts.output;
       ports = inl (ap (λ (h : HubTold U T). h.faults) unused);
+      openings = inl (ap (λ (h : HubTold U T). h.failed_calls) unused);
       journal = of_list tells.counts.journal;
     };
   }

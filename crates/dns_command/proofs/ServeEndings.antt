@@ -19,7 +19,7 @@ use Rattle.dns_command.specs.ListeningWords.{service_of}
 use Rattle.dns_command.specs.CommandLine.{access_of}
 use Rattle.dns_command.specs.Status.{refusal_line, is_fault}
 use Rattle.dns_command.specs.Lines.{serve_lines}
-use Rattle.dns_command.specs.Hubs.{Meanings}
+use Rattle.dns_command.specs.Hubs.{Meanings, FailsOpening, FailsNoOpening}
 use Rattle.dns_words.specs.Writing.{IsUntouched, IsWritten}
 use Rattle.dns_command.specs.World.{World, IsStill, IsStillJournal}
 use Rattle.dns_command.specs.Steps.{Finds, OpensNot}
@@ -92,19 +92,19 @@ module _ {K U T R W C : Type 0} (m : Meanings K U T R W C) (w : World) (hub : Ar
   Refusing s = RefusesServing m w hub s
 
   -- nothing is at fault
-  of_port : (us : List U) (ts : List T) (s : Status) → (Rose hub.before.faults hub.after.faults → ⊥) → IsPortCause m hub us ts s → s ≡ status.OutOfMemory
-  of_port us ts status.PortFault none rose = absurd (none rose)
-  of_port us ts status.OutOfMemory none cause = refl
-  of_port us ts status.Ok none cause = absurd cause
-  of_port us ts status.Usage none cause = absurd cause
-  of_port us ts (status.ZoneText line kind) none cause = absurd cause
-  of_port us ts (status.EventLine line) none cause = absurd cause
-  of_port us ts status.NotValid none cause = absurd cause
-  of_port us ts (status.Recovery row kind) none cause = absurd cause
-  of_port us ts status.ReadFault none cause = absurd cause
-  of_port us ts status.WriteFault none cause = absurd cause
-  of_port us ts status.KeeperFault none cause = absurd cause
-  of_port us ts status.TooLong none cause = absurd cause
+  of_port : (l : Listening) (us : List U) (ts : List T) (s : Status) → (Rose hub.before.faults hub.after.faults → ⊥) → IsPortCause m hub l us ts s → s ≡ status.OutOfMemory
+  of_port l us ts status.PortFault none cause = absurd (none cause.0)
+  of_port l us ts status.OutOfMemory none cause = refl
+  of_port l us ts status.Ok none cause = absurd cause
+  of_port l us ts status.Usage none cause = absurd cause
+  of_port l us ts (status.ZoneText line kind) none cause = absurd cause
+  of_port l us ts (status.EventLine line) none cause = absurd cause
+  of_port l us ts status.NotValid none cause = absurd cause
+  of_port l us ts (status.Recovery row kind) none cause = absurd cause
+  of_port l us ts status.ReadFault none cause = absurd cause
+  of_port l us ts status.WriteFault none cause = absurd cause
+  of_port l us ts status.KeeperFault none cause = absurd cause
+  of_port l us ts status.TooLong none cause = absurd cause
 
   module _ (x : IsSoundServing w hub) where
     zone_for : (service : Service) → service_of w.words ≡ Some service → HasZone w service.options.origin
@@ -118,7 +118,7 @@ module _ {K U T R W C : Type 0} (m : Meanings K U T R W C) (w : World) (hub : Ar
 
     of_refusal : (s : Status) → Refusing s → s ≡ status.OutOfMemory
     of_refusal s (unserved u a b) = of_unserved s u
-    of_refusal s (stopped r) = of_port (their_ports r.crew.sockets) (their_ports r.crew.listeners) s x.faultless.ports r.cause
+    of_refusal s (stopped r) = of_port r.service.listening (their_ports r.crew.sockets) (their_ports r.crew.listeners) s x.faultless.ports r.cause
 
   pub completes_serving : (s : Status) → Ending s → IsSoundServing w hub → (s ≡ status.Ok) ⊎ (s ≡ status.OutOfMemory)
   completes_serving s (with_closing text serves written) x = inl refl
@@ -135,22 +135,37 @@ module _ {K U T R W C : Type 0} (m : Meanings K U T R W C) (w : World) (hub : Ar
     zone : IsStill w.zone ⊎ (Rose w.zone.before.faults w.zone.after.faults × (s ≡ status.ReadFault))
     events : IsStill w.events ⊎ HasServed w hub
     ports : (hub.after.faults ≡ hub.before.faults) ⊎ ((Rose hub.before.faults hub.after.faults × (s ≡ status.PortFault)) ⊎ TakesSomeFaulty m hub)
+    openings : FailsNoOpening hub ⊎ (FailsOpening hub × (s ≡ status.PortFault))
 
-  of_cause : (us : List U) (ts : List T) (s : Status) → IsPortCause m hub us ts s
+  of_cause : (l : Listening) (us : List U) (ts : List T) (s : Status) → IsPortCause m hub l us ts s
       → (hub.after.faults ≡ hub.before.faults) ⊎ ((Rose hub.before.faults hub.after.faults × (s ≡ status.PortFault)) ⊎ TakesSomeFaulty m hub)
-  of_cause us ts status.PortFault rose = inr (inl (rose, refl))
-  of_cause us ts status.OutOfMemory (inl calm) = inl calm
-  of_cause us ts status.OutOfMemory (inr taken) = inr (inr (record { sockets = us; listeners = ts; taken = taken }))
-  of_cause us ts status.Ok cause = absurd cause
-  of_cause us ts status.Usage cause = absurd cause
-  of_cause us ts (status.ZoneText line kind) cause = absurd cause
-  of_cause us ts (status.EventLine line) cause = absurd cause
-  of_cause us ts status.NotValid cause = absurd cause
-  of_cause us ts (status.Recovery row kind) cause = absurd cause
-  of_cause us ts status.ReadFault cause = absurd cause
-  of_cause us ts status.WriteFault cause = absurd cause
-  of_cause us ts status.KeeperFault cause = absurd cause
-  of_cause us ts status.TooLong cause = absurd cause
+  of_cause l us ts status.PortFault cause = inr (inl (cause.0, refl))
+  of_cause l us ts status.OutOfMemory cause = elim cause.1 [ inl calm ↦ inl calm | inr taken ↦ inr (inr (record { sockets = us; listeners = ts; taken = taken })) ]
+  of_cause l us ts status.Ok cause = absurd cause
+  of_cause l us ts status.Usage cause = absurd cause
+  of_cause l us ts (status.ZoneText line kind) cause = absurd cause
+  of_cause l us ts (status.EventLine line) cause = absurd cause
+  of_cause l us ts status.NotValid cause = absurd cause
+  of_cause l us ts (status.Recovery row kind) cause = absurd cause
+  of_cause l us ts status.ReadFault cause = absurd cause
+  of_cause l us ts status.WriteFault cause = absurd cause
+  of_cause l us ts status.KeeperFault cause = absurd cause
+  of_cause l us ts status.TooLong cause = absurd cause
+
+  -- and that of the openings that failed
+  opening_cause : (l : Listening) (us : List U) (ts : List T) (s : Status) → IsPortCause m hub l us ts s → FailsNoOpening hub ⊎ (FailsOpening hub × (s ≡ status.PortFault))
+  opening_cause l us ts status.PortFault cause = elim cause.1 [ inl failed ↦ inr (failed, refl) | inr taken ↦ inl taken.0 ]
+  opening_cause l us ts status.OutOfMemory cause = inl cause.0
+  opening_cause l us ts status.Ok cause = absurd cause
+  opening_cause l us ts status.Usage cause = absurd cause
+  opening_cause l us ts (status.ZoneText line kind) cause = absurd cause
+  opening_cause l us ts (status.EventLine line) cause = absurd cause
+  opening_cause l us ts status.NotValid cause = absurd cause
+  opening_cause l us ts (status.Recovery row kind) cause = absurd cause
+  opening_cause l us ts status.ReadFault cause = absurd cause
+  opening_cause l us ts status.WriteFault cause = absurd cause
+  opening_cause l us ts status.KeeperFault cause = absurd cause
+  opening_cause l us ts status.TooLong cause = absurd cause
 
   zone_unserved : (s : Status) → IsUnserved m w s → IsStill w.zone ⊎ (Rose w.zone.before.faults w.zone.after.faults × (s ≡ status.ReadFault))
   zone_unserved s (without_memory a b c) = inl (untouched w.zone a)
@@ -187,12 +202,15 @@ module _ {K U T R W C : Type 0} (m : Meanings K U T R W C) (w : World) (hub : Ar
   unused : IsUntouched hub → hub.after.faults ≡ hub.before.faults
   unused same = ap (λ (h : HubTold U T). h.faults) same
 
+  unopened_hub : IsUntouched hub → FailsNoOpening hub
+  unopened_hub same = ap (λ (h : HubTold U T). h.failed_calls) same
+
   read_stopped : (r : (s : Status) × StopsServing m w hub s) → IsStill w.events ⊎ HasServed w hub
   read_stopped (s, r) = of_read r.service r.begun.legal r.read
     where
       of_read : (service : Service) → service_of w.words ≡ Some service → MayBeRead w.events hub service.listening → IsStill w.events ⊎ HasServed w hub
       of_read service legal (inl same) = inl (untouched w.events same)
-      of_read service legal (inr read) = inr (record { service = service; legal = legal; opened = read.0 })
+      of_read service legal (inr read) = inr (record { service = service; legal = legal; opened = read.0; calls = read.1 })
 
   refusing_so_far : (s : Status) → Refusing s → SoFar s
   refusing_so_far s (unserved u same still) = record {
@@ -200,20 +218,23 @@ module _ {K U T R W C : Type 0} (m : Meanings K U T R W C) (w : World) (hub : Ar
     zone = zone_unserved s u;
     events = inl (untouched w.events still);
     ports = inl (unused same);
+    openings = inl (unopened_hub same);
   }
   refusing_so_far s (stopped r) = record {
     journal = journal_stopped s r;
     zone = inl (of_found (opening_journal m.keeper w r.first) w.zone r.service.options.origin r.begun.opening r.begun.found);
     events = read_stopped (s, r);
-    ports = of_cause (their_ports r.crew.sockets) (their_ports r.crew.listeners) s r.cause;
+    ports = of_cause r.service.listening (their_ports r.crew.sockets) (their_ports r.crew.listeners) s r.cause;
+    openings = opening_cause r.service.listening (their_ports r.crew.sockets) (their_ports r.crew.listeners) s r.cause;
   }
 
   served_so_far : (text : List ℕ) → Serves m w hub text → SoFar status.Ok
   served_so_far text a = record {
     journal = journal_served text status.Ok a;
     zone = inl (of_found (opening_journal m.keeper w a.first) w.zone a.service.options.origin a.begun.opening a.begun.found);
-    events = elim a.stopped [ inl end ↦ inl end.1 | inr rose ↦ inr (record { service = a.service; legal = a.begun.legal; opened = a.ports.opened }) ];
+    events = elim a.stopped [ inl end ↦ inl end.1 | inr rose ↦ inr (record { service = a.service; legal = a.begun.legal; opened = a.ports.opened; calls = a.ports.calls }) ];
     ports = elim a.ports.counted [ inl calm ↦ inl calm | inr taken ↦ inr (inr (record { sockets = their_ports a.crew.sockets; listeners = their_ports a.crew.listeners; taken = taken })) ];
+    openings = inl a.ports.unfailed;
   }
 
   -- the same of a status that was told, or behind a line that was cut
@@ -226,6 +247,7 @@ module _ {K U T R W C : Type 0} (m : Meanings K U T R W C) (w : World) (hub : Ar
       | inl calm ↦ inl calm
       | inr more ↦ inr (elim more [ inl p ↦ inl (p.0, subst (λ (x : Status). ComesOf w x t) p.1 (comes (ap is_fault p.1))) | inr taken ↦ inr taken ])
     ];
+    openings = elim so.openings [ inl none ↦ inl none | inr p ↦ inr (p.0, subst (λ (x : Status). ComesOf w x t) p.1 (comes (ap is_fault p.1))) ];
     journal = elim so.journal [
       | inl still ↦ inl still
       | inr more ↦ inr (elim more [ inl p ↦ inl (p.0, subst (λ (x : Status). ComesOf w x t) p.1 (comes (ap is_fault p.1))) | inr fails ↦ inr (inr fails) ])
@@ -242,6 +264,7 @@ module _ {K U T R W C : Type 0} (m : Meanings K U T R W C) (w : World) (hub : Ar
         events = elim so.events [ inl still ↦ inl (inl still) | inr served ↦ inr served ];
         output = output;
         ports = elim so.ports [ inl calm ↦ inl calm | inr more ↦ elim more [ inl p ↦ absurd (let x = p.1 in cc) | inr taken ↦ inr (inr taken) ] ];
+        openings = elim so.openings [ inl none ↦ inl none | inr p ↦ absurd (let x = p.1 in cc) ];
         journal = elim so.journal [ inl still ↦ inl still | inr more ↦ elim more [ inl p ↦ absurd (let x = p.1 in cc) | inr fails ↦ inr (inr (inr fails)) ] ];
       }
 

@@ -123,6 +123,8 @@ module _ {K U T R W C : Type 0} (m : Meanings K U T R W C) where
       → ServesPorts m (over a c) listening s0.book.id s0.book.terms s0.access w.crew (crew_of s2)
   served_ports a b c until listening s0 s2 w back = record {
     opened = Grows-Keeps a.openings b.openings c.openings (openings_of listening) w.opens.opened back.opened;
+    calls = back.calls ∙ w.opens.calls;
+    unfailed = back.unfailed ∙ w.opens.unfailed;
     new = w.new;
     worked = w.worked;
     sockets_back = Keeps-Grows a.closed_udp b.closed_udp c.closed_udp (their_ports s2.sockets) w.opens.sockets back.sockets;
@@ -144,22 +146,26 @@ module _ {K U T R W C : Type 0} (m : Meanings K U T R W C) where
     faulty = faulty;
   }
 
-  -- at the end the hub's count rose, where a port that it took back had a fault, and only there
-  cause_at_end : (a b c : HubTold U T) (s0 s2 : ServerSeen U T) (s : Status) → Registers (over a b) s0 s2 → TakesBack (over b c) s2 (Faulty s2) → IsCauseSoFar a.faults b.faults (Faulty s2) s
-      → IsPortCause m (over a c) (their_ports s2.sockets) (their_ports s2.listeners) s
-  cause_at_end a b c s0 s2 status.PortFault registers back (inl rose) = let k = back.later in omega (arith, k, rose)
-  cause_at_end a b c s0 s2 status.PortFault registers back (inr faulty) = let h = registers.later in let rose = back.raised faulty in omega (arith, h, rose)
-  cause_at_end a b c s0 s2 status.OutOfMemory registers back calm = counted_back a b c s2 (taken_faulty a b c s0 s2 registers back) calm back.calm
-  cause_at_end a b c s0 s2 status.Ok registers back cause = absurd cause
-  cause_at_end a b c s0 s2 status.Usage registers back cause = absurd cause
-  cause_at_end a b c s0 s2 (status.ZoneText line kind) registers back cause = absurd cause
-  cause_at_end a b c s0 s2 (status.EventLine line) registers back cause = absurd cause
-  cause_at_end a b c s0 s2 status.NotValid registers back cause = absurd cause
-  cause_at_end a b c s0 s2 (status.Recovery row kind) registers back cause = absurd cause
-  cause_at_end a b c s0 s2 status.ReadFault registers back cause = absurd cause
-  cause_at_end a b c s0 s2 status.WriteFault registers back cause = absurd cause
-  cause_at_end a b c s0 s2 status.KeeperFault registers back cause = absurd cause
-  cause_at_end a b c s0 s2 status.TooLong registers back cause = absurd cause
+  -- at the end the hub's count rose, where an opening failed, or a port that it took back had a fault, and only there
+  cause_at_end : (a b c : HubTold U T) (listening : Listening) (s0 s2 : ServerSeen U T) (s : Status) → Registers (over a b) s0 s2 → TakesBack (over b c) s2 (Faulty s2) → IsCauseSoFar (over a b) listening (Faulty s2) s
+      → IsPortCause m (over a c) listening (their_ports s2.sockets) (their_ports s2.listeners) s
+  cause_at_end a b c listening s0 s2 status.PortFault registers back (inl failed) = (let k = back.later in let rose = failed.0 in omega (arith, k, rose), inl (back.unfailed ∙ failed.1))
+  cause_at_end a b c listening s0 s2 status.PortFault registers back (inr faulty) = (
+    let h = registers.later in let rose = back.raised faulty.2 in omega (arith, h, rose),
+    inr (back.unfailed ∙ faulty.0, back.calls ∙ faulty.1, taken_faulty a b c s0 s2 registers back faulty.2),
+  )
+  cause_at_end a b c listening s0 s2 status.OutOfMemory registers back calm =
+      (back.unfailed ∙ calm.1, counted_back a b c s2 (taken_faulty a b c s0 s2 registers back) calm.0 back.calm)
+  cause_at_end a b c listening s0 s2 status.Ok registers back cause = absurd cause
+  cause_at_end a b c listening s0 s2 status.Usage registers back cause = absurd cause
+  cause_at_end a b c listening s0 s2 (status.ZoneText line kind) registers back cause = absurd cause
+  cause_at_end a b c listening s0 s2 (status.EventLine line) registers back cause = absurd cause
+  cause_at_end a b c listening s0 s2 status.NotValid registers back cause = absurd cause
+  cause_at_end a b c listening s0 s2 (status.Recovery row kind) registers back cause = absurd cause
+  cause_at_end a b c listening s0 s2 status.ReadFault registers back cause = absurd cause
+  cause_at_end a b c listening s0 s2 status.WriteFault registers back cause = absurd cause
+  cause_at_end a b c listening s0 s2 status.KeeperFault registers back cause = absurd cause
+  cause_at_end a b c listening s0 s2 status.TooLong registers back cause = absurd cause
 
 -- the hub has all back
 pub all_back : {U T : Type 0} (a b c : HubTold U T) (s0 s2 : ServerSeen U T) (IsFaulty : Type 0) → s0.sockets ≡ [] → s0.listeners ≡ [] → Registers (over a b) s0 s2 → TakesBack (over b c) s2 IsFaulty → HasAllBack (over a c)
@@ -174,19 +180,19 @@ passes_back s2 = append-nil ((s2.free ++ their_passes s2.sockets) ++ their_passe
 
 -- ---- why it ended before its time
 
-pub cause_so_far : (before now : ℕ) (F : Type 0) (s : Status) → IsOpenCause before now s → IsCauseSoFar before now F s
-cause_so_far before now F status.PortFault c = inl c
-cause_so_far before now F status.OutOfMemory c = c
-cause_so_far before now F status.Ok c = absurd c
-cause_so_far before now F status.Usage c = absurd c
-cause_so_far before now F (status.ZoneText line kind) c = absurd c
-cause_so_far before now F (status.EventLine line) c = absurd c
-cause_so_far before now F status.NotValid c = absurd c
-cause_so_far before now F (status.Recovery row kind) c = absurd c
-cause_so_far before now F status.ReadFault c = absurd c
-cause_so_far before now F status.WriteFault c = absurd c
-cause_so_far before now F status.KeeperFault c = absurd c
-cause_so_far before now F status.TooLong c = absurd c
+pub cause_so_far : {U T : Type 0} (hub : Around (HubTold U T)) (listening : Listening) (F : Type 0) (s : Status) → IsOpenCause hub s → IsCauseSoFar hub listening F s
+cause_so_far hub listening F status.PortFault c = inl c
+cause_so_far hub listening F status.OutOfMemory c = c
+cause_so_far hub listening F status.Ok c = absurd c
+cause_so_far hub listening F status.Usage c = absurd c
+cause_so_far hub listening F (status.ZoneText line kind) c = absurd c
+cause_so_far hub listening F (status.EventLine line) c = absurd c
+cause_so_far hub listening F status.NotValid c = absurd c
+cause_so_far hub listening F (status.Recovery row kind) c = absurd c
+cause_so_far hub listening F status.ReadFault c = absurd c
+cause_so_far hub listening F status.WriteFault c = absurd c
+cause_so_far hub listening F status.KeeperFault c = absurd c
+cause_so_far hub listening F status.TooLong c = absurd c
 
 -- a count rose at a port that was new
 pub faulty_port : {U T R W C : Type 0} (F : U → UdpTold) (G : T → TcpTold R W C) (limit : ℕ) (s1 s2 : ServerSeen U T) → IsManned F G limit s1
@@ -239,10 +245,10 @@ module _ {K U T R W C : Type 0} (m : Meanings K U T R W C) (a b c : HubTold U T)
   -- the ports of the words are opened still
   may_be_read : MayBeRead until (over a b) service.listening → MayBeRead until (over a c) service.listening
   may_be_read (inl same) = inl same
-  may_be_read (inr read) = inr (Grows-Keeps a.openings b.openings c.openings (openings_of service.listening) read.0 back.opened, read.1, read.2)
+  may_be_read (inr read) = inr (Grows-Keeps a.openings b.openings c.openings (openings_of service.listening) read.0 back.opened, back.calls ∙ read.1, read.2, read.3)
 
   pub leaves_book : (s : Status) → HasCrew m service.listening.limit s0 s2 → MayBeRead until (over a b) service.listening
-      → IsCauseSoFar a.faults b.faults (HasFaultyPort m.socket m.listener.told s2) s → LeavesBook m (over a c) until service first s last
+      → IsCauseSoFar (over a b) service.listening (HasFaultyPort m.socket m.listener.told s2) s → LeavesBook m (over a c) until service first s last
   leaves_book s crew read cause = record {
     book = s0.book.id;
     opened = crew.opened;
@@ -253,5 +259,5 @@ module _ {K U T R W C : Type 0} (m : Meanings K U T R W C) (a b c : HubTold U T)
         (subst (λ (x : Access). SharesPasses m s0.book.id s0.book.terms service.listening.limit x crew.opened (crew_of s2) s2.free) let_in crew.shared);
     read = may_be_read read;
     closed = closed_with _ (passes_back s2);
-    cause = cause_at_end m a b c s0 s2 s registers back cause;
+    cause = cause_at_end m a b c service.listening s0 s2 s registers back cause;
   }

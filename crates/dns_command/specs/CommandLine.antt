@@ -50,12 +50,14 @@ are_options words = list_all is_option words && has_no_double words
 -- the options with the folded name of this text as the origin, where it is a name (RFC 1035 5.1, 2.3.3)
 abbrev pub options_for : Result (List (List ℕ)) ProtoError → Bool → List IpNet → List IpNet → Option Options
 options_for (Err e) allow_update denied allowed = None
-options_for (Ok name) allow_update denied allowed = Some (record { origin = fold_of name; allow_update = allow_update; denied = denied; allowed = allowed; drawn = None })
+options_for (Ok name) allow_update denied allowed =
+    Some (record { origin = fold_of name; allow_update = allow_update; denied = denied; allowed = allowed; drawn = None })
 
 -- what an origin and the options behind it ask for. Updates are let in where `--update` stands.
 abbrev pub options_behind : List ℕ → List (List ℕ) → Option Options
 options_behind origin words =
-    options_for (name_of origin) (list_any is_update_word words) (nets_behind (codes "--deny=") words) (nets_behind (codes "--allow=") words)
+    options_for (name_of origin) (list_any is_update_word words)
+    (nets_behind (codes "--deny=") words) (nets_behind (codes "--allow=") words)
 
 -- a count of messages, from 1 to 100,000
 abbrev pub count_of : List ℕ → Option ℕ

@@ -21,13 +21,16 @@ use Rattle.dns_command.specs.World.{World}
 -- there is a zone of this origin: the journal has no row, and the zone text is a zone's, within its bound; or the journal's rows
 -- stand for one
 pub data HasZone (w : World) (origin : List (List ℕ)) : Type 0 where
-  in_text : (text : List ℕ) (records : List Record) → w.journal.before.rows ≡ Some [] → w.zone.before.left ≡ Some text → length text ≤ zone_bound → zone_of origin text ≡ Ok records → HasZone w origin
-  in_rows : (rows : List Row) (records : List Record) → w.journal.before.rows ≡ Some rows → Replays (fold_of origin) rows (Ok records) → HasZone w origin
+  in_text : (text : List ℕ) (records : List Record) → w.journal.before.rows ≡ Some [] → w.zone.before.left ≡ Some text
+      → length text ≤ zone_bound → zone_of origin text ≡ Ok records → HasZone w origin
+  in_rows : (rows : List Row) (records : List Record) → w.journal.before.rows ≡ Some rows
+      → Replays (fold_of origin) rows (Ok records) → HasZone w origin
 
 -- the journal can be opened for a zone of this origin: it has no row, or its rows stand for one
 pub data HasJournal (w : World) (origin : List (List ℕ)) : Type 0 where
   without_rows : w.journal.before.rows ≡ Some [] → HasJournal w origin
-  with_rows : (rows : List Row) (records : List Record) → w.journal.before.rows ≡ Some rows → Replays (fold_of origin) rows (Ok records) → HasJournal w origin
+  with_rows : (rows : List Row) (records : List Record) → w.journal.before.rows ≡ Some rows
+      → Replays (fold_of origin) rows (Ok records) → HasJournal w origin
 
 -- there is a zone for what the words ask: a drawn list has one of its own
 abbrev pub HasZoneBy : World → Options → Type 0

@@ -17,12 +17,13 @@ use Rattle.dns_command.specs.ListeningWords.{service_of}
 use Rattle.dns_command.specs.Status.{refusal_line}
 use Rattle.dns_command.specs.CommandLine.{access_of}
 use Rattle.dns_command.specs.World.{World, IsStill, IsStillJournal}
-use Rattle.dns_command.specs.Hubs.{Meanings, TakesFaulty}
+use Rattle.dns_command.specs.Hubs.{Meanings, TakesFaulty, FailsOpening, FailsNoOpening, one_more_each}
 use Rattle.dns_command.specs.Ends.{TookFront, Serves}
 use Rattle.dns_command.specs.Serving.{openings_of, failed_updates, failed_so_far, StopsServing}
 use Rattle.dns_command.specs.Serving as serving
 
--- it ended with the status of a refusal; or the line of that refusal was cut, for a fault of the output, or since the output wanted memory for it
+-- it ended with the status of a refusal; or the line of that refusal was cut, for a fault of the output, or since the output wanted memory
+-- for it
 pub data ComesOf (w : World) (cause : Status) : Status → Type 0 where
   with_line : ComesOf w cause cause
   cut_by_fault : TookFront w (refusal_line cause) → ComesOf w cause status.WriteFault
@@ -59,11 +60,12 @@ pub record Counts {K : Type 0} (keeper : KeeperOf K) (w : World) (s : Status) : 
   pub output : CountsWriting w s
   pub journal : CountsJournal w (FailsSome keeper w) s
 
--- the ports of the words of `serve` were all opened
+-- the ports of the words of `serve` were all opened, each of which is counted
 pub record HasServed {U T : Type 0} (w : World) (hub : Around (HubTold U T)) : Type 0 where
   pub service : Service
   pub legal : service_of w.words ≡ Some service
   pub opened : Grows hub.before.openings hub.after.openings (openings_of service.listening)
+  pub calls : hub.after.opened_calls ≡ one_more_each hub.before.opened_calls (openings_of service.listening)
 
 -- the hub took back a port whose own count is above 0
 pub record TakesSomeFaulty {K U T R W C : Type 0} (m : Meanings K U T R W C) (hub : Around (HubTold U T)) : Type 0 where
@@ -79,10 +81,13 @@ pub data FailsServing {K U T R W C : Type 0} (m : Meanings K U T R W C) (w : Wor
       → 0 < failed_so_far m (access_of stopped.service.options) stopped.opened stopped.crew stopped.shared.worked → FailsServing m w hub
 
 -- The counts of all objects. That of the source of the events also rises where it failed while the ports were served,
--- which ends that; and the hub's where a port could not be opened or failed, and where it took one back whose own count is above 0.
+-- which ends that; and the hub's where a port could not be opened or failed, and where it took one back whose own count is above 0. Of the
+-- openings none failed; or one did, and it is told, by its status or by what came of its line.
 pub record RunCounts {K U T R W C : Type 0} (m : Meanings K U T R W C) (w : World) (hub : Around (HubTold U T)) (s : Status) : Type 0 where
   pub zone : CountsReading w w.zone s
   pub events : CountsReading w w.events s ⊎ HasServed w hub
   pub output : CountsWriting w s
-  pub ports : (hub.after.faults ≡ hub.before.faults) ⊎ ((Rose hub.before.faults hub.after.faults × ComesOf w status.PortFault s) ⊎ TakesSomeFaulty m hub)
+  pub ports : (hub.after.faults ≡ hub.before.faults)
+      ⊎ ((Rose hub.before.faults hub.after.faults × ComesOf w status.PortFault s) ⊎ TakesSomeFaulty m hub)
+  pub openings : FailsNoOpening hub ⊎ (FailsOpening hub × ComesOf w status.PortFault s)
   pub journal : CountsJournal w (FailsSome m.keeper w ⊎ FailsServing m w hub) s

@@ -51,7 +51,8 @@ pub record Begins {K : Type 0} (keeper : KeeperOf K) (w : World) (options : Opti
 -- say who is let in and whether updates are; the rows grew by the records of each update that was answered NoError; and no more
 -- updates got ServFail than the journal's count of faults rose, unless that stands at its last value: where none got it that count
 -- stood still.
-pub record Serves {K : Type 0} (keeper : KeeperOf K) (w : World) (picked : List Completed → List Completed) (events : List Event) (outs : List Out) (last : SeenOf K)
+pub record Serves {K : Type 0} (keeper : KeeperOf K) (w : World) (picked : List Completed → List Completed) (events : List Event)
+    (outs : List Out) (last : SeenOf K)
     : Type 0 where
   pub options : Options
   pub first : SeenOf K
@@ -84,7 +85,8 @@ pub record Answers {K : Type 0} (keeper : KeeperOf K) (w : World) (written : Lis
   pub served : Serves keeper w all events outs last
   pub left : keeper.told last.keeper ≡ w.journal.after
   pub kept : IsKept keeper last
-  pub text : written ≡ lines_by served.options.drawn outs (serial_of last.zone.records) last.row_count (length (after new_kept events).connections)
+  pub text : written ≡ lines_by served.options.drawn outs
+      (serial_of last.zone.records) last.row_count (length (after new_kept events).connections)
 
 -- memory ran out among the messages: some of the first ones were settled, and the rows and the journal's count of faults are as the last
 -- of these left them
@@ -124,13 +126,14 @@ IsCutWanted keeper w Wanted (in_rejection rejects took) = Wanted status.NotValid
 IsCutWanted keeper w Wanted (in_answers text answers took) = Unit {0}
 
 -- What each status means. Status 0 and each status with a line say that the output took all the bytes, and handed on all
--- that it took. Status 7 says that the output's count of faults rose, and no other does. Where a fault gives way to status 10, the output wanted
--- memory for the line of that fault.
+-- that it took. Status 7 says that the output's count of faults rose, and no other does. Where a fault gives way to status 10, the output
+-- wanted memory for the line of that fault.
 pub data Ends {K : Type 0} (keeper : KeeperOf K) (w : World) : Status → Type 0 where
   with_answers : (text : List ℕ) → Answers keeper w text → IsWritten w.output text → Ends keeper w status.Ok
   with_refusal : {s : Status} → s ≢ status.OutOfMemory → Refuses w s → IsWritten w.output (refusal_line s) → Ends keeper w s
   with_rejection : Rejects keeper w → IsWritten w.output (refusal_line status.NotValid) → Ends keeper w status.NotValid
   with_write_fault : Rose w.output.before.faults w.output.after.faults → IsCut keeper w → Ends keeper w status.WriteFault
-  cut_for_memory : w.output.after.faults ≡ w.output.before.faults → (cut : IsCut keeper w) → IsCutWanted keeper w (IsWanted w) cut → Ends keeper w status.OutOfMemory
+  cut_for_memory : w.output.after.faults ≡ w.output.before.faults → (cut : IsCut keeper w)
+      → IsCutWanted keeper w (IsWanted w) cut → Ends keeper w status.OutOfMemory
   refused_for_memory : Refuses w status.OutOfMemory → IsUntouched w.output → Ends keeper w status.OutOfMemory
   broken_for_memory : Breaks keeper w → IsUntouched w.output → Ends keeper w status.OutOfMemory

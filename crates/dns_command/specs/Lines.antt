@@ -33,7 +33,8 @@ number_line name n = name ++ (codes " " ++ (decimal n ++ codes "\n"))
 
 -- the closing lines: the zone's serial, how many rows the journal has, and how many connections are open
 abbrev pub closing_lines : ℕ → ℕ → ℕ → List ℕ
-closing_lines serial rows open_ = number_line (codes "serial") serial ++ number_line (codes "journal_len") rows ++ number_line (codes "open") open_
+closing_lines serial rows open_ =
+    number_line (codes "serial") serial ++ number_line (codes "journal_len") rows ++ number_line (codes "open") open_
 
 -- the whole output: a line for each reply, and the closing lines
 abbrev pub output_lines : List Out → ℕ → ℕ → ℕ → List ℕ

@@ -29,7 +29,8 @@ use Rattle.dns_command.specs.Steps.{FindsBy, HearsBy, OpensNot}
 use Rattle.dns_command.specs.Ends.{IsOpened, CountsFailures}
 
 -- the words are legal, and what they name was read
-pub record Prepares (words : List (List ℕ)) (zone_text event_text : Around SourceTold) (journal : Around KeeperTold) (inputs : Inputs) : Type 0 where
+pub record Prepares (words : List (List ℕ)) (zone_text event_text : Around SourceTold) (journal : Around KeeperTold)
+    (inputs : Inputs) : Type 0 where
   pub legal : options_of words ≡ Some inputs.options
   pub found : FindsBy journal zone_text inputs.options inputs.opening
   pub heard : HearsBy event_text inputs.options inputs.events.items
@@ -57,7 +58,8 @@ unkept keep.Failed = status.KeeperFault
 unkept keep.OutOfMemory = status.OutOfMemory
 
 -- a list of events is valid, each of its messages was settled, and the server keeps what it leaves
-pub record SettlesEach {K : Type 0} (keeper : KeeperOf K) (access : Access) (first : SeenOf K) (events : List Event) (outs : List Out) (server : ServerOf (SeenOf K)) : Type 0 where
+pub record SettlesEach {K : Type 0} (keeper : KeeperOf K) (access : Access) (first : SeenOf K) (events : List Event)
+    (outs : List Out) (server : ServerOf (SeenOf K)) : Type 0 where
   pub valid : Valid new_kept events
   pub ran : Run (Settles keeper access) first (done new_kept events) outs server.handler
   pub few : CountsFailures (failures keeper access first (done new_kept events) outs server.handler ran)
@@ -66,7 +68,8 @@ pub record SettlesEach {K : Type 0} (keeper : KeeperOf K) (access : Access) (fir
 
 -- why not every message was settled, and the keeper then: the list of events is not valid, and nothing was done; or memory
 -- ran out, and some of the first messages were settled
-pub data SettlesPart {K : Type 0} (keeper : KeeperOf K) (access : Access) (first : SeenOf K) (events : List Event) : Status → K → Type 0 where
+pub data SettlesPart {K : Type 0} (keeper : KeeperOf K) (access : Access) (first : SeenOf K)
+    (events : List Event) : Status → K → Type 0 where
   of_invalid : {left : K} → (Valid new_kept events → ⊥) → first.keeper ≡ left → SettlesPart keeper access first events status.NotValid left
   of_memory : {left : K} → (count : ℕ) (outs : List Out) (last : SeenOf K) → Valid new_kept events
       → (ran : Run (Settles keeper access) first (take count (done new_kept events)) outs last)
@@ -76,7 +79,8 @@ pub data SettlesPart {K : Type 0} (keeper : KeeperOf K) (access : Access) (first
       → SettlesPart keeper access first events status.OutOfMemory left
 
 -- every message was settled on the journal that was opened
-pub record SettlesAll {K : Type 0} (keeper : KeeperOf K) (held : K) (inputs : Inputs) (moment : ℕ) (outs : List Out) (server : ServerOf (SeenOf K)) : Type 0 where
+pub record SettlesAll {K : Type 0} (keeper : KeeperOf K) (held : K) (inputs : Inputs) (moment : ℕ) (outs : List Out)
+    (server : ServerOf (SeenOf K)) : Type 0 where
   pub first : SeenOf K
   pub begun : OpensBook keeper held inputs.options inputs.opening moment first
   pub settled : SettlesEach keeper (access_of inputs.options) first inputs.events.items outs server
@@ -84,7 +88,8 @@ pub record SettlesAll {K : Type 0} (keeper : KeeperOf K) (held : K) (inputs : In
 -- why not every message was settled, and the keeper then: the journal was not opened, and its rows are as they were; or it
 -- was opened
 pub data SettlesNot {K : Type 0} (keeper : KeeperOf K) (held : K) (inputs : Inputs) (moment : ℕ) : Status → K → Type 0 where
-  not_opened : {s : Status} {left : K} → OpensNot (around keeper.told held left) inputs.options.origin inputs.opening s → Keeps (keeper.told held).rows (keeper.told left).rows
+  not_opened : {s : Status} {left : K} → OpensNot (around keeper.told held left) inputs.options.origin inputs.opening s
+      → Keeps (keeper.told held).rows (keeper.told left).rows
       → SettlesNot keeper held inputs moment s left
   not_settled : {s : Status} {left : K} → (first : SeenOf K) → OpensBook keeper held inputs.options inputs.opening moment first
       → SettlesPart keeper (access_of inputs.options) first inputs.events.items s left

@@ -28,7 +28,7 @@ use Rattle.dns_command.specs.declared.listening_words.Service.{Service}
 use Rattle.dns_command.specs.CommandLine.{access_of}
 use Rattle.dns_command.specs.ListeningWords.{service_of, sockets_of, listeners_of, seats_of}
 use Rattle.dns_command.specs.Lines.{serve_lines}
-use Rattle.dns_command.specs.Hubs.{Meanings, TakesFaulty}
+use Rattle.dns_command.specs.Hubs.{Meanings, TakesFaulty, FailsOpening, FailsNoOpening, one_more_each}
 use Rattle.dns_words.specs.Writing.{IsUntouched}
 use Rattle.dns_command.specs.World.{World}
 use Rattle.dns_command.specs.Steps.{Finds, FindsNot, OpensNot}
@@ -82,19 +82,28 @@ pub record Crew (U T : Type 0) : Type 0 where
 abbrev pub passes_of : {U T : Type 0} → Crew U T → List PassSeen
 passes_of crew = their_passes crew.sockets ++ their_passes crew.listeners
 
--- the source that is read until it ends was not used; or the ports of the words were all opened first, and then it was read: to its end, to a
--- fault, which was counted, or till no memory was found to read on, and then none was counted
+-- the source that is read until it ends was not used; or the ports of the words were all opened first, each of which is counted, and then
+-- it was read: to its end, to a fault, which was counted, or till no memory was found to read on, and then none was counted
 abbrev pub MayBeRead : {U T : Type 0} → Around SourceTold → Around (HubTold U T) → Listening → Type 0
 MayBeRead until hub listening =
-    IsUntouched until ⊎ (Grows hub.before.openings hub.after.openings (openings_of listening) × (reading : Result (Unit {0}) IoFault) × EndsReading until reading)
+    IsUntouched until
+    ⊎ (Grows hub.before.openings hub.after.openings (openings_of listening)
+    × (hub.after.opened_calls ≡ one_more_each hub.before.opened_calls (openings_of listening))
+    × (reading : Result (Unit {0}) IoFault) × EndsReading until reading)
 
 module _ {K U T R W C : Type 0} (m : Meanings K U T R W C) where
-  -- why the serving went no further: a port could not be opened, or failed; or memory ran out, and then the hub's count of faults is
-  -- what it was, but for one of these ports that it took back
-  abbrev pub IsPortCause : Around (HubTold U T) → List U → List T → Status → Type 0
-  IsPortCause hub sockets listeners status.PortFault = Rose hub.before.faults hub.after.faults
-  IsPortCause hub sockets listeners status.OutOfMemory = (hub.after.faults ≡ hub.before.faults) ⊎ TakesFaulty m hub sockets listeners
-  IsPortCause hub sockets listeners _ = ⊥
+  -- why the serving went no further: a port could not be opened, which is counted once; or all were, each of which is counted, and one of
+  -- these failed; or memory ran out, and then no opening failed, and the hub's count of faults is what it was, but for one of these ports
+  -- that it took back
+  abbrev pub IsPortCause : Around (HubTold U T) → Listening → List U → List T → Status → Type 0
+  IsPortCause hub listening sockets listeners status.PortFault =
+      Rose hub.before.faults hub.after.faults
+      × (FailsOpening hub
+      ⊎ (FailsNoOpening hub × (hub.after.opened_calls ≡ one_more_each hub.before.opened_calls (openings_of listening))
+      × TakesFaulty m hub sockets listeners))
+  IsPortCause hub listening sockets listeners status.OutOfMemory =
+      FailsNoOpening hub × ((hub.after.faults ≡ hub.before.faults) ⊎ TakesFaulty m hub sockets listeners)
+  IsPortCause hub listening sockets listeners _ = ⊥
 
   -- as many as the words ask for, and each is new; their passes are of the book, and bear the numbers from 1 on in this order
   pub record IsNewCrew (listening : Listening) (book : BookId) (t : Terms) (crew : Crew U T) : Type 0 where
@@ -139,10 +148,13 @@ module _ {K U T R W C : Type 0} (m : Meanings K U T R W C) where
       added_up (failed_by_socket m.keeper access m.socket) before.sockets after.sockets worked.sockets
       + added_up (failed_by_listener m.keeper access m.listener) before.listeners after.listeners worked.listeners
 
-  -- the openings of the hub are those of the words, and no other; each port had a worker, and the hub has it back. Its count of faults
-  -- is what it was, but for one of these ports
-  pub record ServesPorts (hub : Around (HubTold U T)) (listening : Listening) (book : BookId) (t : Terms) (access : Access) (before after : Crew U T) : Type 0 where
+  -- the openings of the hub are those of the words, and no other, each of which is counted, and none failed; each port had a worker, and
+  -- the hub has it back. Its count of faults is what it was, but for one of these ports
+  pub record ServesPorts (hub : Around (HubTold U T)) (listening : Listening) (book : BookId) (t : Terms) (access : Access)
+      (before after : Crew U T) : Type 0 where
     pub opened : Grows hub.before.openings hub.after.openings (openings_of listening)
+    pub calls : hub.after.opened_calls ≡ one_more_each hub.before.opened_calls (openings_of listening)
+    pub unfailed : FailsNoOpening hub
     pub new : IsNewCrew listening book t before
     pub worked : WorksToItsEnd access before after
     pub sockets_back : Grows hub.before.closed_udp hub.after.closed_udp (their_ports after.sockets)
@@ -152,7 +164,8 @@ module _ {K U T R W C : Type 0} (m : Meanings K U T R W C) where
   -- the workers that were taken on, which were new at first, and the passes of none, which are new still; they are as many as seats. All
   -- these passes are of the book, and bear the numbers from 1 on: first those of the workers, in order, then those of none. The workers did
   -- their work, or were not run
-  pub record SharesPasses (book : BookId) (t : Terms) (limit : ℕ) (access : Access) (before after : Crew U T) (free : List PassSeen) : Type 0 where
+  pub record SharesPasses (book : BookId) (t : Terms) (limit : ℕ) (access : Access) (before after : Crew U T)
+      (free : List PassSeen) : Type 0 where
     pub many : length free + (length before.sockets + length before.listeners) ≡ t.seats
     pub order : InOrder book (passes_of before ++ free)
     pub new_sockets : AllByRecursion (IsNewSocket m.socket t) before.sockets
@@ -177,7 +190,8 @@ module _ {K U T R W C : Type 0} (m : Meanings K U T R W C) where
     pub opened : Crew U T
     pub crew : Crew U T
     pub begun : BeginsServing m.keeper w service first
-    pub ports : ServesPorts hub service.listening book (terms_at m.keeper first (seats_of service.listening)) (access_of service.options) opened crew
+    pub ports : ServesPorts hub service.listening book
+        (terms_at m.keeper first (seats_of service.listening)) (access_of service.options) opened crew
     pub stopped : IsReadOut w.events
     pub closed : ClosedForAll book (terms_at m.keeper first (seats_of service.listening)) (passes_of crew) last
     pub few : CountsFailures (failed_updates (access_of service.options) opened crew ports.worked)
@@ -197,13 +211,14 @@ module _ {K U T R W C : Type 0} (m : Meanings K U T R W C) where
     pub crew : Crew U T
     pub free : List PassSeen
     pub begun : BeginsServing m.keeper w service first
-    pub shared : SharesPasses book (terms_at m.keeper first (seats_of service.listening)) service.listening.limit (access_of service.options) opened crew free
+    pub shared : SharesPasses book (terms_at m.keeper first (seats_of service.listening))
+        service.listening.limit (access_of service.options) opened crew free
     pub read : MayBeRead w.events hub service.listening
     pub closed : ClosedForAll book (terms_at m.keeper first (seats_of service.listening)) (free ++ passes_of crew) last
     pub still : failed_so_far (access_of service.options) opened crew shared.worked ≡ 0
         → (m.keeper.told last.keeper).faults ≡ (m.keeper.told first.keeper).faults
     pub left : m.keeper.told last.keeper ≡ w.journal.after
-    pub cause : IsPortCause hub (their_ports crew.sockets) (their_ports crew.listeners) s
+    pub cause : IsPortCause hub service.listening (their_ports crew.sockets) (their_ports crew.listeners) s
 
   -- why nothing was served, by the first step in the order of the work that was refused: nothing was opened, and the journal has the
   -- rows that it had; or it has the opening ones, and memory ran out before a port was opened. The clock was asked where the journal

@@ -38,7 +38,7 @@ refusal_line status.TooLong = codes "too long\n"
 refusal_line status.OutOfMemory = []
 refusal_line status.PortFault = codes "port fault\n"
 
--- an object failed
+-- a text, the journal or a port failed. An output that failed has no line, and is none of these
 abbrev pub is_fault : Status → Bool
 is_fault status.Ok = false
 is_fault status.Usage = false

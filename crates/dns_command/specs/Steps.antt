@@ -76,7 +76,8 @@ pub record LoadsEvents (source : Around SourceTold) (events : List Event) : Type
 pub data LoadsNoEvents (source : Around SourceTold) : Status → Type 0 where
   events_unread : Rose source.before.faults source.after.faults → LoadsNoEvents source status.ReadFault
   events_too_long : WasLonger source.before.left source.after.left event_bound → IsStill source → LoadsNoEvents source status.TooLong
-  event_faulty : (line : ℕ) → WasRead source.before.left source.after.left (λ text. (length text ≤ event_bound) × (events_of text ≡ Err line))
+  event_faulty : (line : ℕ) → WasRead source.before.left source.after.left
+      (λ text. (length text ≤ event_bound) × (events_of text ≡ Err line))
       → IsStill source → LoadsNoEvents source (status.EventLine line)
   events_without_memory : IsStill source → LoadsNoEvents source status.OutOfMemory
 
@@ -120,9 +121,11 @@ HearsNotBy source options s = MatchOption options.drawn
 pub data OpensNot (journal : Around KeeperTold) (origin : List (List ℕ)) : Opening → Status → Type 0 where
   rows_refused : (row : ℤ) (why : ReplayKind) → AreRefused journal.before.rows journal.after.rows origin row why → IsStillJournal journal
       → OpensNot journal origin Recover (status.Recovery row why)
-  batches_refused : {opening : Opening} (place : ℤ) (why : ReplayKind) → AreUncovered (StandOrNone origin) journal.before journal.after place why
+  batches_refused : {opening : Opening} (place : ℤ) (why : ReplayKind)
+      → AreUncovered (StandOrNone origin) journal.before journal.after place why
       → IsStillJournal journal → OpensNot journal origin opening (status.Recovery place why)
-  journal_failed : {opening : Opening} → Rose journal.before.faults journal.after.faults → OpensNot journal origin opening status.KeeperFault
+  journal_failed : {opening : Opening} → Rose journal.before.faults journal.after.faults
+      → OpensNot journal origin opening status.KeeperFault
   opening_without_memory : {opening : Opening} → IsStillJournal journal → OpensNot journal origin opening status.OutOfMemory
 
 -- A refusal, by the first step in the order of the work that was refused. What comes after that step was not done: the

@@ -4,8 +4,8 @@ use Rattle.dns_keeper.specs.Keeping.{KeeperTold}
 use Rattle.dns_edges.specs.Edges.{Around, SourceTold, SinkTold}
 pub use Rattle.dns_words.specs.Writing.{IsAsked}
 
--- the words of the command line, the zone text, the event text, the journal, the output, what says of a text that the output wanted memory for it,
--- and the clock's reading, where it was asked
+-- the words of the command line, the zone text, the event text, the journal, the output, what says of a text that the output wanted memory
+-- for it, and the clock's reading, where it was asked
 pub record World : Type 1 where
   pub words : List (List ℕ)
   pub zone : Around SourceTold

@@ -17,8 +17,8 @@ pub record EndsWriting (output : Around SinkTold) (text : List ℕ) (meant s : S
   pub written : WritesWhole output text result
   pub status : s ≡ after_writing meant result
 
--- the end of a refusal: want of memory is told by nothing more, any other by its line; the line of a fault gives way to want of memory only where
--- the output wanted it for that line
+-- the end of a refusal: want of memory is told by nothing more, any other by its line; the line of a fault gives way to want of memory only
+-- where the output wanted it for that line
 pub data EndsRefusing (output : Around SinkTold) (wants : List ℕ → Type 0) (meant s : Status) : Type 0 where
   silent : meant ≡ status.OutOfMemory → s ≡ status.OutOfMemory → IsUntouched output → EndsRefusing output wants meant s
   by_line : meant ≢ status.OutOfMemory → EndsWriting output (refusal_line meant) meant s

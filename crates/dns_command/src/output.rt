@@ -10,23 +10,13 @@ ghost use Rattle.dns_command.specs.Writing.{EndsRefusing, after_writing};
 
 use crate::command_line::Drawn;
 use crate::lines::{number_line, out_line};
-use crate::status::{Status, after_writing, refusal_line};
+use crate::status::{KEEPER_FAULT, PORT_FAULT, READ_FAULT, Status, after_writing, refusal_line};
 use dns_edges::Sink;
 use dns_generator::Summary;
 use dns_io::IoFault;
 use dns_server_core::Out;
 use dns_words::{put_line, put_text, put_whole};
 use std::alloc::Global;
-
-/// The line of a run whose texts could not be read. No memory is taken for it, nor for the lines of the other faults, so that want of memory
-/// does not hide what they tell.
-const READ_FAULT: &str = "read fault\n";
-
-/// The line of a run over a journal that failed.
-const KEEPER_FAULT: &str = "keeper fault\n";
-
-/// The line of a run whose ports failed.
-const PORT_FAULT: &str = "port fault\n";
 
 /// Writes the one line of a refusal, and tells how the program ends. A fault gives way to want of memory only where the output wants memory
 /// for the line.
@@ -54,7 +44,7 @@ pub fn refuse<W: Sink>(alloc: Global, status: Status, out: &mut W) -> Status
     }
 }
 
-/// Writes the line of a refusal that is no fault.
+/// Writes the line of a refusal that is no fault of a text, of the journal or of a port; an output that failed has no line.
 fn refuse_by_line<W: Sink>(alloc: Global, meant: Status, out: &mut W) -> Status
     requires calm { is_fault meant ≡ false }
     requires told { is_want meant ≡ false }

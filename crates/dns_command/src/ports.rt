@@ -51,7 +51,7 @@ where
         listening.now.limit server.old server.new }
     ensures read { MayBeRead (around E.source.told until.old until.new) (around H.told hub.old hub.new) listening.now }
     ensures err { IfErr result (IsCauseSoFar
-        (H.told hub.old).faults (H.told hub.new).faults (HasFaultyPort H.Udp.told H.Tcp.told server.new)) }
+        (around H.told hub.old hub.new) listening.now (HasFaultyPort H.Udp.told H.Tcp.told server.new)) }
     ensures registers { Registers (around H.told hub.old hub.new) server.old server.new }
     ensures later { (E.source.told until.old).faults ≤ (E.source.told until.new).faults }
 {
@@ -76,7 +76,7 @@ fn open_ports<K: Keeper, H: Hub>(
     ensures ok { OnOk result (OpensAll (around H.told hub.old hub.new) (openings_of listening.now)) }
     ensures sockets { OnOk result (length server.new.sockets ≡ length server.old.sockets + sockets_of listening.now) }
     ensures listeners { OnOk result (length server.new.listeners ≡ length server.old.listeners + listeners_of listening.now) }
-    ensures err { IfErr result (IsOpenCause (H.told hub.old).faults (H.told hub.new).faults) }
+    ensures err { IfErr result (IsOpenCause (around H.told hub.old hub.new)) }
     ensures registers { Registers (around H.told hub.old hub.new) server.old server.new }
 {
     open_socket(server, listening.udp, listening.limit, hub)?;
@@ -102,7 +102,7 @@ fn open_socket<K: Keeper, H: Hub>(
     ensures ok { OnOk result (OpensAll (around H.told hub.old hub.new) (opening_at at)) }
     ensures sockets { OnOk result (length server.new.sockets ≡ length server.old.sockets + count_at 1 at) }
     ensures listeners { server.new.listeners ≡ server.old.listeners }
-    ensures err { IfErr result (IsOpenCause (H.told hub.old).faults (H.told hub.new).faults) }
+    ensures err { IfErr result (IsOpenCause (around H.told hub.old hub.new)) }
     ensures registers { Registers (around H.told hub.old hub.new) server.old server.new }
 {
     let Some(at) = at else {
@@ -166,7 +166,7 @@ fn open_listeners<K: Keeper, H: Hub>(
     ensures ok { OnOk result (OpensAll (around H.told hub.old hub.new) (listening_at at limit workers)) }
     ensures listeners { OnOk result (length server.new.listeners ≡ length server.old.listeners + count_at workers at) }
     ensures sockets { server.new.sockets ≡ server.old.sockets }
-    ensures err { IfErr result (IsOpenCause (H.told hub.old).faults (H.told hub.new).faults) }
+    ensures err { IfErr result (IsOpenCause (around H.told hub.old hub.new)) }
     ensures registers { Registers (around H.told hub.old hub.new) server.old server.new }
 {
     let Some(at) = at else {
@@ -285,6 +285,8 @@ fn close_sockets<H: Hub>(hub: &mut H, sockets: Vec<H::Udp>)
     ensures opened { Keeps (H.told hub.old).openings (H.told hub.new).openings }
     ensures listeners { Keeps (H.told hub.old).closed_tcp (H.told hub.new).closed_tcp }
     ensures listeners_out { (H.told hub.new).lent_tcp ≡ (H.told hub.old).lent_tcp }
+    ensures calls { (H.told hub.new).opened_calls ≡ (H.told hub.old).opened_calls }
+    ensures unfailed { (H.told hub.new).failed_calls ≡ (H.told hub.old).failed_calls }
     ensures later { (H.told hub.old).faults ≤ (H.told hub.new).faults }
     ensures raised { AnyFault (λ port. (H.Udp.told port).faults) sockets.items → Rose (H.told hub.old).faults (H.told hub.new).faults }
     ensures calm { ((H.told hub.new).faults ≡ (H.told hub.old).faults) ⊎ AnyFault (λ port. (H.Udp.told port).faults) sockets.items }
@@ -302,6 +304,8 @@ fn close_listeners<H: Hub>(hub: &mut H, listeners: Vec<H::Tcp>)
     ensures opened { Keeps (H.told hub.old).openings (H.told hub.new).openings }
     ensures sockets { Keeps (H.told hub.old).closed_udp (H.told hub.new).closed_udp }
     ensures sockets_out { (H.told hub.new).lent_udp ≡ (H.told hub.old).lent_udp }
+    ensures calls { (H.told hub.new).opened_calls ≡ (H.told hub.old).opened_calls }
+    ensures unfailed { (H.told hub.new).failed_calls ≡ (H.told hub.old).failed_calls }
     ensures later { (H.told hub.old).faults ≤ (H.told hub.new).faults }
     ensures raised { AnyFault (λ port. (H.Tcp.told port).faults) listeners.items → Rose (H.told hub.old).faults (H.told hub.new).faults }
     ensures calm { ((H.told hub.new).faults ≡ (H.told hub.old).faults) ⊎ AnyFault (λ port. (H.Tcp.told port).faults) listeners.items }

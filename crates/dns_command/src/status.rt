@@ -13,6 +13,16 @@ use dns_zone::{ReplayKind, ZoneTextKind, kind_text};
 use std::alloc::Global;
 use std::process::ExitCode;
 
+/// The line of a run whose texts could not be read. No memory is taken for it, nor for the lines of the other faults, so that want of memory
+/// does not hide what they tell.
+pub(crate) const READ_FAULT: &str = "read fault\n";
+
+/// The line of a run over a journal that failed.
+pub(crate) const KEEPER_FAULT: &str = "keeper fault\n";
+
+/// The line of a run whose ports failed.
+pub(crate) const PORT_FAULT: &str = "port fault\n";
+
 /// How a run ended. Of several causes the first in the order of the work is told: the words, the first look at the
 /// journal, the zone text, the event text, the opening of the journal, the list of events or the sockets, the output.
 #[derive(Clone, Copy, Debug, PartialEq, Eq)]
@@ -128,10 +138,10 @@ pub fn refusal_line(alloc: Global, status: &Status) -> Result<String, OutOfMemor
         Status::EventLine { line } => format!(in alloc; "event line {line}\n")?,
         Status::NotValid => String::from_str(alloc, "not valid\n")?,
         Status::Recovery { row, kind } => recovery_line(alloc, *row, *kind)?,
-        Status::ReadFault => String::from_str(alloc, "read fault\n")?,
-        Status::KeeperFault => String::from_str(alloc, "keeper fault\n")?,
+        Status::ReadFault => String::from_str(alloc, READ_FAULT)?,
+        Status::KeeperFault => String::from_str(alloc, KEEPER_FAULT)?,
         Status::TooLong => String::from_str(alloc, "too long\n")?,
-        Status::PortFault => String::from_str(alloc, "port fault\n")?,
+        Status::PortFault => String::from_str(alloc, PORT_FAULT)?,
     };
     Ok(line)
 }

@@ -24,10 +24,16 @@ module _ {A K U C : Type 0} (keeper : KeeperOf K) (socket : U → UdpTold) (crow
   pub book_served : (first between last : CrowdHubTold U C) (until : Around SourceTold) (places : Places) (book after : SeenOf K) (t : Terms) (seats : ℕ) (given : A) (result : Result (Unit {0}) IoFault)
       → t ≡ terms_at keeper book seats → seats ≡ seats_of places
       → OpensPlaces first between places (Ok given) → Keeps between.opened last.opened
+      → last.opened_calls ≡ between.opened_calls → last.failed_calls ≡ between.failed_calls
       → ServesPorts keeper socket crowd (record { before = between; after = last }) until places t access after result
       → EndsServing keeper socket crowd (record { before = first; after = last }) until places access book after result
-  book_served first between last until places book after t seats given result is all o kept p =
-      served (Grows-Keeps first.opened between.opened last.opened _ o.grows kept)
+  book_served first between last until places book after t seats given result is all o kept made failing p =
+      served
+      (record {
+        grows = Grows-Keeps first.opened between.opened last.opened _ o.grows kept;
+        made = made ∙ o.made;
+        none_failed = failing ∙ o.failing;
+      })
       (opened_served keeper socket crowd access first (record { before = between; after = last }) until places t (terms_at keeper book (seats_of places)) after result
       o.sockets_kept o.crowds_kept o.cause.counts (is ∙ ap (terms_at keeper book) all) p)
 

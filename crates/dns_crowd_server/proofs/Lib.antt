@@ -1,4 +1,5 @@
 mod SomeFault
+pub mod SocketsOpened
 pub mod SamePasses
 pub mod FailedUpdates
 pub mod AllPasses

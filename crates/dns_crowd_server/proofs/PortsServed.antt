@@ -3,7 +3,7 @@ use Rattle.std.proofs.Common.{◌≡◌, ◌∙◌, ℕ, List, [], length, Resul
 use Rattle.std.specs.List.{AllByRecursion}
 use Rattle.dns_io.specs.declared.io_fault.IoFault.{IoFault}
 use Rattle.dns_io.specs.declared.io_fault.IoFault.TheVariants.{Failed, OutOfMemory}
-use Rattle.dns_io.specs.Told.{Grows, Keeps, Rose}
+use Rattle.dns_io.specs.Told.{Grows, Keeps, Rose, counted}
 use Rattle.dns_io.proofs.ToldContents.{Keeps-Grows}
 use Rattle.dns_edges.specs.Edges.{Around, CountsBy, SourceTold}
 use Rattle.dns_keeper.specs.Keeping.{KeeperOf}
@@ -111,6 +111,11 @@ fault_cause : (A : Type 0) (before now : ℕ) (fault : IoFault) → CountsBy {T 
 fault_cause A before now Failed c = c
 fault_cause A before now OutOfMemory c = c
 
+-- nor does the count of openings that failed
+fault_counted : (A : Type 0) (before now : ℕ) (fault : IoFault) → now ≡ counted {T = A} before (Err fault) → now ≡ counted {T = Unit {0}} before (Err fault)
+fault_counted A before now Failed e = e
+fault_counted A before now OutOfMemory e = e
+
 -- nothing was opened, and the book was closed for passes that have done nothing
 pub none_opened : {A K U C : Type 0} (keeper : KeeperOf K) (socket : U → UdpTold) (crowd : C → CrowdTold) (hub : Around (CrowdHubTold U C)) (places : Places) (book : BookSeen) (passes : List PassSeen)
     (now : Terms) (last : SeenOf K) (fault : IoFault) → ArePasses book passes → OpensPlaces {A = A} hub.before hub.after places (Err fault)
@@ -123,6 +128,8 @@ none_opened {A} keeper socket crowd hub places book passes now last fault are o 
       sockets_kept = o.sockets_kept;
       crowds_kept = o.crowds_kept;
       cause = record { later = o.cause.later; counts = fault_cause A hub.before.faults hub.after.faults fault o.cause.counts };
+      none_made = o.made;
+      failing = fault_counted A hub.before.failed_calls hub.after.failed_calls fault o.failing;
       book = book.id;
       passes = passes;
       order = are.order;

@@ -16,7 +16,8 @@ use Rattle.dns_crowd_server.specs.Crews.{ServedCrowd}
 -- the meaning of a keeper, and who is let in
 module _ {K : Type 0} (keeper : KeeperOf K) (access : Access) where
   -- of messages
-  abbrev pub failed_by_messages : (before : PassSeen) (asks : List Completed) (outs : List Out) (after : PassSeen) → Run (SettledBy keeper access) before asks outs after → ℕ
+  abbrev pub failed_by_messages : (before : PassSeen) (asks : List Completed) (outs : List Out) (after : PassSeen)
+      → Run (SettledBy keeper access) before asks outs after → ℕ
   failed_by_messages before [] outs after run = 0
   failed_by_messages before (c ∷ cs) outs after run =
       failed_by_step keeper access before c.ask run.0 run.1 run.3 + failed_by_messages run.1 cs run.2 after run.5
@@ -29,7 +30,8 @@ module _ {K : Type 0} (keeper : KeeperOf K) (access : Access) where
   failed_by_fate Unsettled before asks outs after run = failed_by_messages before run.0.first run.0.outs run.0.last run.0.run
 
   -- of events, one behind the other
-  abbrev pub failed_by_events : (before : PassSeen) (connections : List Connection) (handled : List Handled) (outs : List Out) (after : PassSeen)
+  abbrev pub failed_by_events : (before : PassSeen) (connections : List Connection)
+      (handled : List Handled) (outs : List Out) (after : PassSeen)
       → SettlesEach (SettledBy keeper access) LeftBy before connections handled outs after → ℕ
   failed_by_events before connections [] outs after run = 0
   failed_by_events before connections (one ∷ others) outs after run =
@@ -37,6 +39,7 @@ module _ {K : Type 0} (keeper : KeeperOf K) (access : Access) where
       + failed_by_events run.0 (open_by one.fate one.event connections) others run.2 after run.5
 
   -- of the worker of a crowd
-  abbrev pub failed_by_crowd : {C : Type 0} (crowd : C → CrowdTold) (before after : Worker C) → ServedCrowd keeper crowd access before after → ℕ
+  abbrev pub failed_by_crowd : {C : Type 0} (crowd : C → CrowdTold) (before after : Worker C)
+      → ServedCrowd keeper crowd access before after → ℕ
   failed_by_crowd crowd before after served =
       failed_by_events before.pass [] served.works.work.handled served.works.work.outs after.pass served.works.work.settled

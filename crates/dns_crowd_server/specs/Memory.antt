@@ -11,7 +11,7 @@ abbrev pub IsUnusedCrowd : CrowdState → Type 0
 IsUnusedCrowd s = IsFreshCrowd (crowd_told s)
 
 -- the sockets and the crowds that it gives, what it opened, what it has back, how many of both are out, the numbers of the openings that
--- fail, how many there were, and its count of faults
+-- fail, how many there were, its count of faults, and how many openings gave what was asked for, and how many failed
 pub record CrowdHubState : Type 0 where
   pub sockets : List UdpState
   pub crowds : List CrowdState
@@ -23,6 +23,8 @@ pub record CrowdHubState : Type 0 where
   pub failing_openings : List ℕ
   pub calls : ℕ
   pub faults : ℕ
+  pub opened_calls : ℕ
+  pub failed_calls : ℕ
 
 -- what it tells
 abbrev pub crowd_hub_told : CrowdHubState → CrowdHubTold UdpState CrowdState
@@ -33,6 +35,8 @@ crowd_hub_told s = record {
   lent_sockets = s.lent_sockets;
   lent_crowds = s.lent_crowds;
   faults = s.faults;
+  opened_calls = s.opened_calls;
+  failed_calls = s.failed_calls;
 }
 
 -- a hub that gives these
@@ -48,14 +52,28 @@ crowd_hub_of sockets crowds openings = record {
   failing_openings = openings;
   calls = 0;
   faults = 0;
+  opened_calls = 0;
+  failed_calls = 0;
 }
 
--- one of the operating system: how many sockets and how many crowds are out, and its count of faults
+-- one of the operating system: how many sockets and how many crowds are out, its count of faults, and how many openings gave what was
+-- asked for, and how many failed
 pub record SocketHubCounts : Type 0 where
   pub lent_sockets : ℕ
   pub lent_crowds : ℕ
   pub faults : ℕ
+  pub opened_calls : ℕ
+  pub failed_calls : ℕ
 
 -- it tells its counts alone
 abbrev pub untold_crowd_hub : SocketHubCounts → CrowdHubTold ℕ SocketState
-untold_crowd_hub h = record { opened = None; sockets = None; crowds = None; lent_sockets = h.lent_sockets; lent_crowds = h.lent_crowds; faults = h.faults }
+untold_crowd_hub h = record {
+  opened = None;
+  sockets = None;
+  crowds = None;
+  lent_sockets = h.lent_sockets;
+  lent_crowds = h.lent_crowds;
+  faults = h.faults;
+  opened_calls = h.opened_calls;
+  failed_calls = h.failed_calls;
+}

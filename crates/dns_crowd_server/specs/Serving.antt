@@ -1,9 +1,9 @@
 -- What is done where a book is served: it is shared among workers of sockets and of crowds, which serve until a source ends, and closed.
-use Rattle.std.specs.Prelude.{◌≡◌, ◌+◌, ℕ, List, ◌∷◌, [], ◌++◌, length, Result, Err}
+use Rattle.std.specs.Prelude.{◌≡◌, ◌+◌, ℕ, List, ◌++◌, length, Result, Err}
 use Rattle.std.specs.List.{AllByRecursion}
 use Rattle.dns_io.specs.declared.io_fault.IoFault.{IoFault}
 use Rattle.dns_io.specs.declared.io_fault.IoFault.TheVariants.{OutOfMemory}
-use Rattle.dns_io.specs.Told.{Grows, Keeps}
+use Rattle.dns_io.specs.Told.{Grows, Keeps, counted}
 use Rattle.dns_edges.specs.Edges.{Around, HasCause, SourceTold}
 use Rattle.dns_keeper.specs.Keeping.{KeeperOf}
 use Rattle.dns_book.specs.Access.{Access}
@@ -21,7 +21,7 @@ use Rattle.dns_server.specs.Servers.{EndsReading, Matches, ServedSocket, first_f
 use Rattle.dns_crowd_server.specs.declared.hub.Places.{Places}
 use Rattle.dns_crowd_server.specs.Crews.{ServedCrowd}
 use Rattle.dns_crowd_server.specs.FailedUpdates.{failed_by_crowd}
-use Rattle.dns_crowd_server.specs.Hubs.{CrowdHubTold, IsFreshCrowd, crowds_of, seats_of, sockets_of, their_faults}
+use Rattle.dns_crowd_server.specs.Hubs.{CrowdHubTold, IsFreshCrowd, OpensOnce, crowds_of, seats_of, sockets_of, their_faults}
 
 -- the workers of sockets, and those of crowds
 pub record Crew (U C : Type 0) : Type 0 where
@@ -32,12 +32,13 @@ pub record Crew (U C : Type 0) : Type 0 where
 abbrev pub passes_of : {U C : Type 0} → Crew U C → List PassSeen
 passes_of crew = their_passes crew.sockets ++ their_passes crew.crowds
 
--- how they ended: the first fault of sockets, else of crowds
+-- how they ended: where one failed that is told, whoever wanted memory
 abbrev pub crew_answer : {U C : Type 0} → Crew U C → Result (Unit {0}) IoFault
 crew_answer crew = or_later (first_fault crew.sockets) (first_fault crew.crowds)
 
--- how workers ended beside whom this was read: their first fault, else that of reading
-pub record EndsBeside {U C : Type 0} (until : Around SourceTold) (sockets : List (Worker U)) (crowds : List (Worker C)) (result : Result (Unit {0}) IoFault) : Type 0 where
+-- how workers ended beside whom this was read: where one failed that is told, else that memory was wanted, by a worker or for reading on
+pub record EndsBeside {U C : Type 0} (until : Around SourceTold) (sockets : List (Worker U)) (crowds : List (Worker C))
+    (result : Result (Unit {0}) IoFault) : Type 0 where
   pub reading : Result (Unit {0}) IoFault
   pub ended : EndsReading until reading
   pub answer : result ≡ or_later (or_later (first_fault sockets) (first_fault crowds)) reading
@@ -87,7 +88,8 @@ module _ {K U C : Type 0} (keeper : KeeperOf K) (socket : U → UdpTold) (crowd 
     pub works : Works access before after
     pub sockets_back : Grows hub.before.sockets hub.after.sockets (their_ports after.sockets)
     pub crowds_back : Grows hub.before.crowds hub.after.crowds (their_ports after.crowds)
-    pub counted : CountsPort (their_faults socket crowd (their_ports after.sockets) (their_ports after.crowds)) hub.before.faults hub.after.faults
+    pub counted : CountsPort (their_faults socket crowd (their_ports after.sockets) (their_ports after.crowds))
+        hub.before.faults hub.after.faults
     pub reading : Result (Unit {0}) IoFault
     pub ended : EndsReading until reading
     pub answer : result ≡ or_later (crew_answer after) reading
@@ -95,12 +97,15 @@ module _ {K U C : Type 0} (keeper : KeeperOf K) (socket : U → UdpTold) (crowd 
     pub few : RoseBy (failed_updates access before after works) t.start (keeper.told last.keeper).faults
     pub still : failed_updates access before after works ≡ 0 → (keeper.told last.keeper).faults ≡ t.start
 
-  -- nothing could be opened: the hub failed, or found no memory. The book was closed for passes that have settled nothing, in order
+  -- nothing could be opened: the hub failed, and then it counts one more opening that failed, or it found no memory, and then none more.
+  -- The book was closed for passes that have settled nothing, in order
   pub record OpensNone (hub : Around (CrowdHubTold U C)) (t : Terms) (last : SeenOf K) (fault : IoFault) : Type 0 where
     pub opened : Keeps hub.before.opened hub.after.opened
     pub sockets_kept : Keeps hub.before.sockets hub.after.sockets
     pub crowds_kept : Keeps hub.before.crowds hub.after.crowds
     pub cause : HasCause {T = Unit {0}} hub.before.faults hub.after.faults (Err fault)
+    pub none_made : hub.after.opened_calls ≡ hub.before.opened_calls
+    pub failing : hub.after.failed_calls ≡ counted {T = Unit {0}} hub.before.failed_calls (Err fault)
     pub book : BookId
     pub passes : List PassSeen
     pub order : InOrder book passes
@@ -115,7 +120,7 @@ module _ {K U C : Type 0} (keeper : KeeperOf K) (socket : U → UdpTold) (crowd 
         → EndsServing hub until places access first last result
     unopened : (fault : IoFault) → OpensNone hub (terms_at keeper first (seats_of places)) last fault → until.after ≡ until.before
         → result ≡ Err fault → EndsServing hub until places access first last result
-    served : Grows hub.before.opened hub.after.opened (places ∷ [])
+    served : OpensOnce hub.before hub.after places
         → ServesPorts hub until places (terms_at keeper first (seats_of places)) access last result
         → EndsServing hub until places access first last result
 

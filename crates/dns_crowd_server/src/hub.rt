@@ -51,7 +51,8 @@ pub trait CrowdHub {
     type Connections: Crowd + Drop;
 
     /// What it tells of itself. A hub may stop telling at any call, and then never tells again; its count of failed openings, and of what
-    /// was taken back with a count above 0, goes up to `u64::MAX`.
+    /// was taken back with a count above 0, goes up to `u64::MAX`. It always tells how many openings gave what was asked for, and how many
+    /// failed, each up to `u64::MAX`.
     ghost told: { Self → CrowdHubTold Self.Udp Self.Connections };
 
     /// Opens a socket at `udp`, where it is an address, and `workers` crowds at `tcp`, where it is one; this token stops them. After an

@@ -31,6 +31,8 @@ pub struct MemoryCrowdHub {
     failing_openings: Vec<u64>,
     calls: u64,
     faults: u64,
+    opened_calls: u64,
+    failed_calls: u64,
 }
 
 impl Model for MemoryCrowdHub {
@@ -41,15 +43,30 @@ impl Model for MemoryCrowdHub {
 
     ghost Value = { CrowdHubState };
 
-    ghost view = { λ h. record { sockets = h.sockets.items; crowds = h.crowds.items; opened = h.opened.items; closed_sockets = h.closed_sockets.items; closed_crowds = h.closed_crowds.items; lent_sockets = h.lent_sockets; lent_crowds = h.lent_crowds; failing_openings = h.failing_openings.items; calls = h.calls; faults = h.faults } };
+    ghost view = { λ h. record {
+      sockets = h.sockets.items;
+      crowds = h.crowds.items;
+      opened = h.opened.items;
+      closed_sockets = h.closed_sockets.items;
+      closed_crowds = h.closed_crowds.items;
+      lent_sockets = h.lent_sockets;
+      lent_crowds = h.lent_crowds;
+      failing_openings = h.failing_openings.items;
+      calls = h.calls;
+      faults = h.faults;
+      opened_calls = h.opened_calls;
+      failed_calls = h.failed_calls;
+    } };
 
-    ghost invariant = { λ h. (vec_len h.closed_sockets + h.lent_sockets ≤ vec_capacity h.closed_sockets) × (vec_len h.closed_crowds + h.lent_crowds ≤ vec_capacity h.closed_crowds) × All IsUnusedUdp h.sockets.items × All IsUnusedCrowd h.crowds.items };
+    ghost invariant = { λ h. (vec_len h.closed_sockets + h.lent_sockets ≤ vec_capacity h.closed_sockets)
+        × (vec_len h.closed_crowds + h.lent_crowds ≤ vec_capacity h.closed_crowds)
+        × All IsUnusedUdp h.sockets.items × All IsUnusedCrowd h.crowds.items };
 }
 
 impl MemoryCrowdHub {
     /// A hub that gives these sockets and crowds, each of which was not used yet, in order; without one left it gives one to which nothing
-    /// comes. Its openings are counted from 1, and those whose numbers stand in `openings` fail. The count of faults rises by one at each of
-    /// them, and where something with a count above 0 is taken back.
+    /// comes. Its openings are counted from 1, and those whose numbers stand in `openings` fail. The count of faults rises by one at each
+    /// of them, and where something with a count above 0 is taken back.
     pub fn new(
         alloc: Global,
         sockets: Vec<MemoryUdp>,
@@ -72,6 +89,8 @@ impl MemoryCrowdHub {
             failing_openings: openings,
             calls: 0,
             faults: 0,
+            opened_calls: 0,
+            failed_calls: 0,
         }
     }
 
@@ -118,6 +137,7 @@ impl CrowdHub for MemoryCrowdHub {
         self.calls = self.calls.saturating_add(1);
         if self.failing_openings.contains(&self.calls) {
             self.faults = self.faults.saturating_add(1);
+            self.failed_calls = self.failed_calls.saturating_add(1);
             return Err(IoFault::Failed);
         }
         let sockets = count_at(1, &places.udp) as usize;
@@ -129,6 +149,7 @@ impl CrowdHub for MemoryCrowdHub {
         note(&mut self.opened, *places)?;
         self.lent_sockets = lent_sockets;
         self.lent_crowds = lent_crowds;
+        self.opened_calls = self.opened_calls.saturating_add(1);
         Ok((
             next_sockets(self.alloc, &mut self.sockets, sockets, first_sockets),
             next_crowds(self.alloc, &mut self.crowds, crowds, first_crowds),

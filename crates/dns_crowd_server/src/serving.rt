@@ -33,9 +33,9 @@ use std::thread::Threads;
 pub struct Served<K: Keeper> {
     /// The book.
     pub book: Book<K>,
-    /// `Ok` where each worker ended well, and what is served until was read to its end or fault. Else the first fault of sockets, of
-    /// crowds, of reading: `Failed` where the hub's count of faults rose, since it could not open what was asked for, or took something
-    /// back that has a count; `OutOfMemory` also where memory was wanting for a message or a connection, and its worker went on.
+    /// `Ok` where each worker ended well, and what is served until was read to its end or fault. `Failed` where a worker failed, or
+    /// nothing could be opened, and only where the hub's count of faults rose. Else `OutOfMemory`, where memory was wanting, also for a
+    /// message or a connection behind which its worker went on.
     pub answer: Result<(), IoFault>,
 }
 
@@ -147,6 +147,8 @@ where
     ensures lent_sockets { (H.told hub.new).lent_sockets + sockets_of places.now ≡ (H.told hub.old).lent_sockets }
     ensures lent_crowds { (H.told hub.new).lent_crowds + crowds_of places.now ≡ (H.told hub.old).lent_crowds }
     ensures unopened { Keeps (H.told hub.old).opened (H.told hub.new).opened }
+    ensures none_made { (H.told hub.new).opened_calls ≡ (H.told hub.old).opened_calls }
+    ensures none_failed { (H.told hub.new).failed_calls ≡ (H.told hub.old).failed_calls }
     ensures read { (bytes : List ℕ) × Takes (E.source.told until.old).left (E.source.told until.new).left bytes }
     ensures later { (E.source.told until.old).faults ≤ (E.source.told until.new).faults }
 {
@@ -254,7 +256,7 @@ fn hand_back<K: Keeper, H: CrowdHub>(
     shared.close(free)
 }
 
-/// How workers ended: the first fault of sockets, else of crowds.
+/// How workers ended: where one failed that is told, whoever wanted memory.
 fn crew_answer<U, C>(sockets: &[Worker<U>], crowds: &[Worker<C>]) -> Result<(), IoFault>
     ensures { result ≡ or_later (first_fault sockets.now) (first_fault crowds.now) }
 {

@@ -3,6 +3,7 @@
 ghost use Rattle.std.specs.Prelude.{◌≡◌, ◌<◌, ◌≤◌, ◌+◌, ◌++◌, ◌∷◌, ◌^◌, [], All, length, min, nat_lt, IfOk, IfSome, OnOk};
 ghost use Rattle.std.specs.List.{sum_by};
 ghost use Rattle.dns_io.specs.Told.{counted};
+ghost use Rattle.dns_edges.specs.Edges.{HasCause};
 ghost use Rattle.dns_ports.specs.Ports.{CountsPort, IsFreshSocket};
 ghost use Rattle.dns_ports.specs.Sockets.{untold_socket};
 ghost use Rattle.dns_crowd.specs.Crowds.{untold_crowd};
@@ -11,8 +12,9 @@ ghost use Rattle.dns_crowd_server.specs.Memory.{untold_crowd_hub};
 
 use crate::hub::{CrowdHub, Places, count_at};
 use dns_crowd::SocketCrowd;
+use dns_edges::count;
 use dns_io::{IoFault, Peer};
-use dns_ports::{SocketPort, StopToken, address_of, count, faults_behind};
+use dns_ports::{SocketPort, StopToken, address_of, faults_behind};
 use mio::net::TcpListener as QuickListener;
 use std::alloc::Global;
 use std::marker::Model;
@@ -27,6 +29,8 @@ pub struct SocketCrowdHub<R> {
     lent_sockets: u64,
     lent_crowds: u64,
     faults: u64,
+    opened_calls: u64,
+    failed_calls: u64,
 }
 
 impl<R> Model for SocketCrowdHub<R> {
@@ -34,13 +38,19 @@ impl<R> Model for SocketCrowdHub<R> {
 
     ghost Value = { SocketHubCounts };
 
-    ghost view = { λ h. record { lent_sockets = h.lent_sockets; lent_crowds = h.lent_crowds; faults = h.faults } };
+    ghost view = { λ h. record {
+      lent_sockets = h.lent_sockets;
+      lent_crowds = h.lent_crowds;
+      faults = h.faults;
+      opened_calls = h.opened_calls;
+      failed_calls = h.failed_calls;
+    } };
 }
 
 impl<R> SocketCrowdHub<R> {
     /// A hub that opened nothing.
     pub fn new(alloc: Global, runtime: R) -> SocketCrowdHub<R>
-        ensures { result ≡ record { lent_sockets = 0; lent_crowds = 0; faults = 0 } }
+        ensures { result ≡ record { lent_sockets = 0; lent_crowds = 0; faults = 0; opened_calls = 0; failed_calls = 0 } }
     {
         SocketCrowdHub {
             alloc,
@@ -48,6 +58,8 @@ impl<R> SocketCrowdHub<R> {
             lent_sockets: 0,
             lent_crowds: 0,
             faults: 0,
+            opened_calls: 0,
+            failed_calls: 0,
         }
     }
 }
@@ -77,9 +89,10 @@ impl<R: Net<Listener = TcpListener, Stream = TcpStream> + rt::Clock + Copy> Crow
             return Err(IoFault::OutOfMemory);
         };
         let opened = opened(self.alloc, self.runtime, places, stop);
-        let ports = count(opened, &mut self.faults)?;
+        let ports = count_failed(opened, &mut self.faults, &mut self.failed_calls)?;
         self.lent_sockets = lent.0;
         self.lent_crowds = lent.1;
+        self.opened_calls = self.opened_calls.saturating_add(1);
         Ok(ports)
     }
 
@@ -102,6 +115,20 @@ fn lent_behind(sockets: u64, crowds: u64, places: &Places) -> Option<(u64, u64)>
     let sockets = sockets.checked_add(u64::from(count_at(1, &places.udp)))?;
     let crowds = crowds.checked_add(u64::from(count_at(places.workers, &places.tcp)))?;
     Some((sockets, crowds))
+}
+
+/// Hands the outcome of an opening on, and counts it, as a fault and as an opening that failed, where it is `Failed`.
+fn count_failed<T>(
+    outcome: Result<T, IoFault>,
+    faults: &mut u64,
+    failed_calls: &mut u64,
+) -> Result<T, IoFault>
+    ensures outcome { result ≡ outcome }
+    ensures faults { faults.new ≡ counted faults.old result }
+    ensures cause { HasCause faults.old faults.new result }
+    ensures failing { failed_calls.new ≡ counted failed_calls.old result }
+{
+    count(count(outcome, faults), failed_calls)
 }
 
 /// The sockets and crowds of these places.

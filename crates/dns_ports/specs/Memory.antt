@@ -39,7 +39,16 @@ udp_told s = record { left = Some s.left; received = Some s.received; taken = So
 
 -- a socket at which these datagrams arrive
 abbrev pub udp_of : List Datagram → List ℕ → List ℕ → UdpState
-udp_of datagrams receives answers = record { left = datagrams; received = []; taken = []; failing_receives = receives; failing_answers = answers; receives = 0; answers = 0; faults = 0 }
+udp_of datagrams receives answers = record {
+  left = datagrams;
+  received = [];
+  taken = [];
+  failing_receives = receives;
+  failing_answers = answers;
+  receives = 0;
+  answers = 0;
+  faults = 0;
+}
 
 -- the socket after a receive that failed
 abbrev pub failed_receive : UdpState → UdpState
@@ -59,7 +68,8 @@ abbrev pub ReceivesNext : UdpState → Result (Option Arrived) IoFault → UdpSt
 ReceivesNext before result after room =
     MatchBool (next_fails before.failing_receives before.receives)
     ((result ≡ Err Failed) × (after ≡ failed_receive before))
-    (MatchResult result (λ came. (came_into room came ≡ first_of before.left) × (after ≡ received_from before.left (asked before))) (λ fault. ⊥))
+    (MatchResult result (λ came. (came_into room came ≡ first_of before.left)
+    × (after ≡ received_from before.left (asked before))) (λ fault. ⊥))
 
 -- the socket after an answer that failed
 abbrev pub failed_answer : UdpState → UdpState
@@ -97,7 +107,15 @@ tcp_told s = record { left = Some s.left; accepted = Some s.accepted; ended = So
 
 -- a listener to which these connections come
 abbrev pub tcp_of : List Connection → List ℕ → TcpState
-tcp_of connections accepts = record { left = connections; accepted = []; ended = []; lent = 0; failing_accepts = accepts; accepts = 0; faults = 0 }
+tcp_of connections accepts = record {
+  left = connections;
+  accepted = [];
+  ended = [];
+  lent = 0;
+  failing_accepts = accepts;
+  accepts = 0;
+  faults = 0;
+}
 
 -- the listener after an accept that failed
 abbrev pub failed_accept : TcpState → TcpState
@@ -106,21 +124,28 @@ failed_accept s = record s { accepts = one_more s.accepts; faults = one_more s.f
 -- the listener after an accept of the first of these connections, which are left
 abbrev pub accept_from : List Connection → TcpState → TcpState
 accept_from [] s = record s { accepts = one_more s.accepts }
-accept_from (connection ∷ rest) s = record s { left = rest; accepted = s.accepted ++ connection ∷ []; lent = s.lent + 1; accepts = one_more s.accepts }
+accept_from (connection ∷ rest) s = record s {
+  left = rest;
+  accepted = s.accepted ++ connection ∷ [];
+  lent = s.lent + 1;
+  accepts = one_more s.accepts;
+}
 
 -- what an accept answers, and leaves
 abbrev pub AcceptsNext : TcpState → Result (Option Connection) IoFault → TcpState → Type 0
 AcceptsNext before result after =
     MatchBool (next_fails before.failing_accepts before.accepts)
     ((result ≡ Err Failed) × (after ≡ failed_accept before))
-    (MatchResult result (λ given. (given ≡ first_of before.left) × (after ≡ accept_from before.left before)) (λ fault. (fault ≡ OutOfMemory) × (after ≡ accept_from [] before)))
+    (MatchResult result (λ given. (given ≡ first_of before.left) × (after ≡ accept_from before.left before))
+    (λ fault. (fault ≡ OutOfMemory) × (after ≡ accept_from [] before)))
 
 -- the listener after it took back a connection
 abbrev pub taken_back : TcpState → Connection → TcpState
 taken_back s connection = record s { ended = s.ended ++ connection ∷ []; lent = s.lent - 1 }
 
 -- a hub in memory: the sockets and the listeners that it holds, the openings that succeeded, the ports that it got back, how
--- many are lent, the numbers of the openings that fail, how many openings there were, and the count of faults
+-- many are lent, the numbers of the openings that fail, how many openings there were, the count of faults, and how many openings
+-- succeeded and failed
 pub record HubState : Type 0 where
   pub sockets : List UdpState
   pub listeners : List TcpState
@@ -132,6 +157,8 @@ pub record HubState : Type 0 where
   pub failing_openings : List ℕ
   pub calls : ℕ
   pub faults : ℕ
+  pub opened_calls : ℕ
+  pub failed_calls : ℕ
 
 -- what it tells
 abbrev pub hub_told : HubState → HubTold UdpState TcpState
@@ -142,6 +169,8 @@ hub_told s = record {
   lent_udp = s.lent_udp;
   lent_tcp = s.lent_tcp;
   faults = s.faults;
+  opened_calls = s.opened_calls;
+  failed_calls = s.failed_calls;
 }
 
 -- a socket, and a listener, that were not used yet
@@ -153,7 +182,20 @@ IsUnusedTcp s = IsFreshListener (tcp_told s)
 
 -- a hub of these ports
 abbrev pub hub_of : List UdpState → List TcpState → List ℕ → HubState
-hub_of sockets listeners openings = record { sockets = sockets; listeners = listeners; openings = []; closed_udp = []; closed_tcp = []; lent_udp = 0; lent_tcp = 0; failing_openings = openings; calls = 0; faults = 0 }
+hub_of sockets listeners openings = record {
+  sockets = sockets;
+  listeners = listeners;
+  openings = [];
+  closed_udp = [];
+  closed_tcp = [];
+  lent_udp = 0;
+  lent_tcp = 0;
+  failing_openings = openings;
+  calls = 0;
+  faults = 0;
+  opened_calls = 0;
+  failed_calls = 0;
+}
 
 -- the next socket, or one that holds nothing
 abbrev pub next_socket : List UdpState → UdpState
@@ -172,7 +214,7 @@ next_listeners (suc count) listeners = next_listeners count listeners ++ next_li
 
 -- the hub after an opening that failed
 abbrev pub failed_opening : HubState → HubState
-failed_opening s = record s { calls = one_more s.calls; faults = one_more s.faults }
+failed_opening s = record s { calls = one_more s.calls; faults = one_more s.faults; failed_calls = one_more s.failed_calls }
 
 -- the hub after an opening that found no memory
 abbrev pub called : HubState → HubState
@@ -180,25 +222,37 @@ called s = record s { calls = one_more s.calls }
 
 -- the hub after it opened a socket at this address
 abbrev pub socket_opened : HubState → Peer → HubState
-socket_opened s at = record (called s) { sockets = drop 1 s.sockets; openings = s.openings ++ Socket at ∷ []; lent_udp = s.lent_udp + 1 }
+socket_opened s at = record (called s) {
+  sockets = drop 1 s.sockets;
+  openings = s.openings ++ Socket at ∷ [];
+  lent_udp = s.lent_udp + 1;
+  opened_calls = one_more s.opened_calls;
+}
 
 -- the hub after it opened listeners of this address
 abbrev pub listeners_opened : HubState → Peer → ℕ → ℕ → HubState
-listeners_opened s at limit workers = record (called s) { listeners = drop workers s.listeners; openings = s.openings ++ Listeners at limit workers ∷ []; lent_tcp = s.lent_tcp + workers }
+listeners_opened s at limit workers = record (called s) {
+  listeners = drop workers s.listeners;
+  openings = s.openings ++ Listeners at limit workers ∷ [];
+  lent_tcp = s.lent_tcp + workers;
+  opened_calls = one_more s.opened_calls;
+}
 
 -- what the opening of a socket answers, and leaves
 abbrev pub OpensSocket : HubState → Peer → Result UdpState IoFault → HubState → Type 0
 OpensSocket before at result after =
     MatchBool (next_fails before.failing_openings before.calls)
     ((result ≡ Err Failed) × (after ≡ failed_opening before))
-    (MatchResult result (λ port. (port ≡ next_socket before.sockets) × (after ≡ socket_opened before at)) (λ fault. (fault ≡ OutOfMemory) × (after ≡ called before)))
+    (MatchResult result (λ port. (port ≡ next_socket before.sockets) × (after ≡ socket_opened before at))
+    (λ fault. (fault ≡ OutOfMemory) × (after ≡ called before)))
 
 -- what the opening of listeners answers, and leaves, by the list of the ports that it gives
 abbrev pub OpensListeners : {V : Type 0} → (V → List TcpState) → HubState → Peer → ℕ → ℕ → Result V IoFault → HubState → Type 0
 OpensListeners given before at limit workers result after =
     MatchBool (next_fails before.failing_openings before.calls)
     ((result ≡ Err Failed) × (after ≡ failed_opening before))
-    (MatchResult result (λ ports. (given ports ≡ next_listeners workers before.listeners) × (after ≡ listeners_opened before at limit workers)) (λ fault. (fault ≡ OutOfMemory) × (after ≡ called before)))
+    (MatchResult result (λ ports. (given ports ≡ next_listeners workers before.listeners)
+    × (after ≡ listeners_opened before at limit workers)) (λ fault. (fault ≡ OutOfMemory) × (after ≡ called before)))
 
 -- the count of faults after a port with this count was taken back
 abbrev pub faults_behind : ℕ → ℕ → ℕ
@@ -206,8 +260,16 @@ faults_behind faults port = if nat_eq port 0 then faults else one_more faults
 
 -- the hub after it took back a socket
 abbrev pub socket_closed : HubState → UdpState → HubState
-socket_closed s port = record s { closed_udp = s.closed_udp ++ port ∷ []; lent_udp = s.lent_udp - 1; faults = faults_behind s.faults port.faults }
+socket_closed s port = record s {
+  closed_udp = s.closed_udp ++ port ∷ [];
+  lent_udp = s.lent_udp - 1;
+  faults = faults_behind s.faults port.faults;
+}
 
 -- the hub after it took back a listener
 abbrev pub listener_closed : HubState → TcpState → HubState
-listener_closed s port = record s { closed_tcp = s.closed_tcp ++ port ∷ []; lent_tcp = s.lent_tcp - 1; faults = faults_behind s.faults port.faults }
+listener_closed s port = record s {
+  closed_tcp = s.closed_tcp ++ port ∷ [];
+  lent_tcp = s.lent_tcp - 1;
+  faults = faults_behind s.faults port.faults;
+}

@@ -1,7 +1,7 @@
 -- What arrives at a port, and what a call of a port or a hub does to what it tells of itself.
 use Rattle.std.specs.Prelude.{◌≡◌, ◌≤◌, ◌<◌, ◌+◌, ◌^◌, ℕ, List, [], ◌∷◌, take, Option, Some, None, IfSome, Result, Ok, Err, IfOk, OnOk, OnErr}
 use Rattle.dns_io.specs.declared.io_fault.IoFault.{IoFault}
-use Rattle.dns_io.specs.Told.{Told, Keeps, Takes, Grows, Rose, counted}
+use Rattle.dns_io.specs.Told.{Told, Keeps, Takes, Grows, Rose, one_more, counted}
 use Rattle.dns_io.specs.declared.peer.Peer.{Peer}
 use Rattle.dns_edges.specs.Edges.{SourceOf, SinkOf, ClockOf, HasCause}
 use Rattle.dns_ports.specs.declared.port.Accepted.{Accepted}
@@ -41,6 +41,11 @@ given_by (Err fault) = 0
 abbrev pub if_given : {A E : Type 0} → ℕ → Result A E → ℕ
 if_given count (Ok given) = count
 if_given count (Err fault) = 0
+
+-- how many calls gave what was asked for, after one with this result
+abbrev pub made_by : {A E : Type 0} → ℕ → Result A E → ℕ
+made_by count (Ok given) = one_more count
+made_by count (Err fault) = count
 
 -- it is empty, where it is told
 abbrev pub IsEmpty : {A : Type 0} → Option (List A) → Type 0
@@ -85,7 +90,8 @@ pub record TcpTold (In Out Time : Type 0) : Type 0 where
   pub faults : ℕ
 
 -- one accept: the next connection was given, none exactly where none is left; after an error none was taken
-pub record Accepts {In Out Time : Type 0} (before after : TcpTold In Out Time) (result : Result (Option (Accepted In Out Time)) IoFault) : Type 0 where
+pub record Accepts {In Out Time : Type 0} (before after : TcpTold In Out Time)
+    (result : Result (Option (Accepted In Out Time)) IoFault) : Type 0 where
   pub given : IfOk result (GivesNext before.left after.left)
   pub grows : IfOk result (GrowsBy before.accepted after.accepted)
   pub kept : OnErr result (Keeps before.left after.left)
@@ -109,11 +115,13 @@ pub record ListenerOf (T In Out Time : Type 0) : Type 1 where
   pub output : SinkOf Out
   pub time : ClockOf Time
 
-abbrev pub listener_of : {T In Out Time : Type 0} → (T → TcpTold In Out Time) → SourceOf In → SinkOf Out → ClockOf Time → ListenerOf T In Out Time
+abbrev pub listener_of : {T In Out Time : Type 0} → (T → TcpTold In Out Time)
+    → SourceOf In → SinkOf Out → ClockOf Time → ListenerOf T In Out Time
 listener_of told input output time = record { told = told; input = input; output = output; time = time }
 
 -- a hub: the openings that succeeded, the sockets and the listeners that were taken back, each as it was then, in order, where they are
--- told, how many of each were opened and not taken back, and its count of faults
+-- told, how many of each were opened and not taken back, and its count of faults; and, whatever the hub is over, how many openings
+-- succeeded and how many failed
 pub record HubTold (Udp Tcp : Type 0) : Type 0 where
   pub openings : Option (List Opening)
   pub closed_udp : Option (List Udp)
@@ -121,9 +129,13 @@ pub record HubTold (Udp Tcp : Type 0) : Type 0 where
   pub lent_udp : ℕ
   pub lent_tcp : ℕ
   pub faults : ℕ
+  pub opened_calls : ℕ
+  pub failed_calls : ℕ
 
--- an opening of this kind, which gives so many sockets and so many listeners where it succeeds; after an error none was opened
-pub record Opens {A Udp Tcp : Type 0} (before after : HubTold Udp Tcp) (opening : Opening) (sockets listeners : ℕ) (result : Result A IoFault) : Type 0 where
+-- an opening of this kind, which gives so many sockets and so many listeners where it succeeds; after an error none was opened. It is
+-- counted once among those that succeeded, or among those that failed, and in neither where it wanted memory
+pub record Opens {A Udp Tcp : Type 0} (before after : HubTold Udp Tcp) (opening : Opening) (sockets listeners : ℕ)
+    (result : Result A IoFault) : Type 0 where
   pub grows : OnOk result (Grows before.openings after.openings (opening ∷ []))
   pub kept : OnErr result (Keeps before.openings after.openings)
   pub udp_kept : Keeps before.closed_udp after.closed_udp
@@ -131,6 +143,8 @@ pub record Opens {A Udp Tcp : Type 0} (before after : HubTold Udp Tcp) (opening 
   pub udp_lent : after.lent_udp ≡ before.lent_udp + if_given sockets result
   pub tcp_lent : after.lent_tcp ≡ before.lent_tcp + if_given listeners result
   pub cause : HasCause before.faults after.faults result
+  pub made : after.opened_calls ≡ made_by before.opened_calls result
+  pub failing : after.failed_calls ≡ counted before.failed_calls result
 
 -- the count of a hub that took back a port with this count: it rose where that is above 0, and only there
 pub record CountsPort (port before now : ℕ) : Type 0 where
@@ -138,7 +152,7 @@ pub record CountsPort (port before now : ℕ) : Type 0 where
   pub raised : 0 < port → Rose before now
   pub calm : port ≡ 0 → now ≡ before
 
--- a socket with this count was taken back
+-- a socket with this count was taken back, which is no opening
 pub record ClosesSocket {Udp Tcp : Type 0} (before after : HubTold Udp Tcp) (socket : Udp) (faults : ℕ) : Type 0 where
   pub grows : Grows before.closed_udp after.closed_udp (socket ∷ [])
   pub kept : Keeps before.openings after.openings
@@ -146,8 +160,10 @@ pub record ClosesSocket {Udp Tcp : Type 0} (before after : HubTold Udp Tcp) (soc
   pub udp_lent : after.lent_udp + 1 ≡ before.lent_udp
   pub tcp_lent : after.lent_tcp ≡ before.lent_tcp
   pub cause : CountsPort faults before.faults after.faults
+  pub none_made : after.opened_calls ≡ before.opened_calls
+  pub none_failed : after.failed_calls ≡ before.failed_calls
 
--- a listener with this count was taken back
+-- a listener with this count was taken back, which is no opening
 pub record ClosesListener {Udp Tcp : Type 0} (before after : HubTold Udp Tcp) (listener : Tcp) (faults : ℕ) : Type 0 where
   pub grows : Grows before.closed_tcp after.closed_tcp (listener ∷ [])
   pub kept : Keeps before.openings after.openings
@@ -155,6 +171,8 @@ pub record ClosesListener {Udp Tcp : Type 0} (before after : HubTold Udp Tcp) (l
   pub udp_lent : after.lent_udp ≡ before.lent_udp
   pub tcp_lent : after.lent_tcp + 1 ≡ before.lent_tcp
   pub cause : CountsPort faults before.faults after.faults
+  pub none_made : after.opened_calls ≡ before.opened_calls
+  pub none_failed : after.failed_calls ≡ before.failed_calls
 
 -- a port that was not used yet: nothing came to it, it took nothing, and no call failed
 pub record IsFreshSocket (told : UdpTold) : Type 0 where

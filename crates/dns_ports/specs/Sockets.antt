@@ -7,7 +7,7 @@ use Rattle.dns_io.specs.declared.io_fault.IoFault.{IoFault}
 use Rattle.dns_io.specs.declared.io_fault.IoFault.TheVariants.{Failed}
 use Rattle.dns_io.specs.Told.{counted}
 use Rattle.dns_io.specs.Faults.{fault_of}
-use Rattle.dns_edges.specs.Edges.{SourceTold, SinkTold}
+use Rattle.dns_edges.specs.Edges.{SourceTold, SinkTold, wanted}
 use Rattle.dns_ports.specs.Ports.{UdpTold, TcpTold, HubTold}
 use Rattle.dns_ports.specs.declared.stop_token.Waited.{Waited}
 use Rattle.dns_ports.specs.declared.stop_token.Waited.TheVariants.{Came, Stopped}
@@ -17,35 +17,52 @@ pub record ListenerCounts : Type 0 where
   pub lent : ℕ
   pub faults : ℕ
 
--- a hub: how many sockets and how many listeners are lent, and its count of faults
+-- a hub: how many sockets and how many listeners are lent, its count of faults, and how many openings succeeded and failed
 pub record HubCounts : Type 0 where
   pub lent_udp : ℕ
   pub lent_tcp : ℕ
   pub faults : ℕ
+  pub opened_calls : ℕ
+  pub failed_calls : ℕ
+
+-- what is sent over a connection: how many writes failed, and how many wanted memory
+pub record OutputCounts : Type 0 where
+  pub faults : ℕ
+  pub wants : ℕ
 
 -- what is told of a socket, which is its count of faults, and of the others: their counts alone. The two directions of a connection are
 -- their counts, and its clock is its last reading
 abbrev pub untold_socket : ℕ → UdpTold
 untold_socket faults = record { left = None; received = None; taken = None; faults = faults }
 
-abbrev pub untold_listener : ListenerCounts → TcpTold ℕ ℕ ℕ
+abbrev pub untold_listener : ListenerCounts → TcpTold ℕ OutputCounts ℕ
 untold_listener p = record { left = None; accepted = None; ended = None; lent = p.lent; faults = p.faults }
 
 abbrev pub untold_hub : HubCounts → HubTold ℕ ListenerCounts
-untold_hub h = record { openings = None; closed_udp = None; closed_tcp = None; lent_udp = h.lent_udp; lent_tcp = h.lent_tcp; faults = h.faults }
+untold_hub h = record {
+  openings = None;
+  closed_udp = None;
+  closed_tcp = None;
+  lent_udp = h.lent_udp;
+  lent_tcp = h.lent_tcp;
+  faults = h.faults;
+  opened_calls = h.opened_calls;
+  failed_calls = h.failed_calls;
+}
 
 abbrev pub untold_input : ℕ → SourceTold
 untold_input faults = record { left = None; faults = faults }
 
-abbrev pub untold_output : ℕ → SinkTold
-untold_output faults = record { taken = None; flushed = None; faults = faults }
+abbrev pub untold_output : OutputCounts → SinkTold
+untold_output o = record { taken = None; flushed = None; faults = o.faults }
 
--- a read, or a write, raises the count by one where it fails, and else not
+-- a read raises the count by one where it fails, and else not
 abbrev pub ReadsCounted : ℕ → ℕ → Result (List ℕ) IoFault → ℕ → Type 0
 ReadsCounted before room given after = after ≡ counted before given
 
-abbrev pub WritesCounted : ℕ → List ℕ → Result ℕ IoFault → ℕ → Type 0
-WritesCounted before bytes result after = after ≡ counted before result
+-- so does a write, and one that wants memory the other count
+abbrev pub WritesCounted : OutputCounts → List ℕ → Result ℕ IoFault → OutputCounts → Type 0
+WritesCounted before bytes result after = (after.faults ≡ counted before.faults result) × (after.wants ≡ wanted before.wants result)
 
 -- whether a receive or an accept is made again after an error of this kind, or the fault that it answers. It goes on where it was
 -- interrupted, where a wait ended with nothing, and where one peer is gone, or cannot be reached, which says nothing of the others

@@ -6,9 +6,9 @@ ghost use Rattle.dns_io.specs.Told.{counted};
 ghost use Rattle.dns_edges.specs.Edges.{Reads, Flushes, given_by};
 ghost use Rattle.dns_ports.specs.Sockets.{untold_input, untold_output, ReadsCounted, WritesCounted, ReadsWaiting, heard};
 
-use crate::faults::{count, waits_after};
+use crate::faults::waits_after;
 use crate::stop_token::{StopToken, Waited};
-use dns_edges::{Sink, Source};
+use dns_edges::{Sink, Source, count, count_wants};
 use dns_io::IoFault;
 use std::io::{Read, Write};
 use std::marker::Model;
@@ -75,41 +75,44 @@ impl Source for ConnectionInput {
 
 /// What is sent to the peer of a connection. A write fails where the peer took nothing for the limit that the listener was
 /// opened with, or for 5 seconds where there is none; it is given that time also where the token is stopped. A write that fails is
-/// counted once, up to `u64::MAX`. It holds nothing back, so that a flush does nothing.
+/// counted once, and so is one that wants memory, each up to `u64::MAX`. It holds nothing back, so that a flush does nothing.
 #[derive(Drop)]
 pub struct ConnectionOutput {
     stream: TcpStream,
     waits: u64,
     faults: u64,
+    wants: u64,
 }
 
 impl Model for ConnectionOutput {
-    ghost use Rattle.std.specs.Prelude.{ℕ};
+    ghost use Rattle.dns_ports.specs.Sockets.{OutputCounts};
 
-    ghost Value = { ℕ };
+    ghost Value = { OutputCounts };
 
-    ghost view = { λ s. s.faults };
+    ghost view = { λ s. record { faults = s.faults; wants = s.wants } };
 }
 
 impl ConnectionOutput {
     /// The output of a stream whose writes wait for some time: a write fails after so many waits.
     pub(crate) fn new(stream: TcpStream, waits: u64) -> ConnectionOutput
-        ensures { result ≡ 0 }
+        ensures { result ≡ record { faults = 0; wants = 0 } }
     {
         ConnectionOutput {
             stream,
             waits,
             faults: 0,
+            wants: 0,
         }
     }
 }
 
 impl Sink for ConnectionOutput {
-    ghost sink = { record { told = untold_output; writes = WritesCounted } };
+    ghost sink = { record { told = untold_output; writes = WritesCounted; wants = λ s. s.wants } };
 
     fn write(&mut self, bytes: &[u8]) -> Result<usize, IoFault> {
         let outcome = write_waiting(&mut self.stream, self.waits, bytes);
-        count(outcome, &mut self.faults)
+        let outcome = count(outcome, &mut self.faults);
+        count_wants(outcome, &mut self.wants)
     }
 
     fn flush(&mut self) -> Result<(), IoFault>

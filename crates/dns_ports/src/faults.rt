@@ -1,26 +1,12 @@
-//! What an error of the operating system means, and how faults are counted.
+//! What an error of the operating system means, and what a hub counts of a port that is taken back.
 
 ghost use Rattle.std.specs.Prelude.{◌≡◌};
-ghost use Rattle.dns_io.specs.Told.{counted};
-ghost use Rattle.dns_edges.specs.Edges.{HasCause};
 ghost use Rattle.dns_ports.specs.Ports.{CountsPort};
 ghost use Rattle.dns_ports.specs.Memory.{faults_behind};
 ghost use Rattle.dns_ports.specs.Sockets.{arrival_after, ready_after, sending_after, sent_whole, waits_after, waits_behind};
 
 use dns_io::IoFault;
 use std::io::ErrorKind;
-
-/// Hands the outcome on, and counts it where it is `Failed`.
-pub fn count<T>(outcome: Result<T, IoFault>, faults: &mut u64) -> Result<T, IoFault>
-    ensures outcome { result ≡ outcome }
-    ensures faults { faults.new ≡ counted faults.old result }
-    ensures cause { HasCause faults.old faults.new result }
-{
-    if let Err(IoFault::Failed) = outcome {
-        *faults = faults.saturating_add(1);
-    }
-    outcome
-}
 
 /// The count of faults of a hub after a port with this count was taken back.
 pub fn faults_behind(faults: u64, port: u64) -> u64

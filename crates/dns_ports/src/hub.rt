@@ -34,7 +34,8 @@ pub trait Hub {
     type Tcp: TcpPort + Drop;
 
     /// What it tells of itself. A hub may stop telling at any call, and then never tells again; its count of failed openings, and of ports
-    /// with a count above 0 that were taken back, goes up to `u64::MAX`.
+    /// with a count above 0 that were taken back, goes up to `u64::MAX`. So do those of the openings that succeeded and of those that
+    /// failed, which it tells always.
     ghost told: { Self → HubTold Self.Udp Self.Tcp };
 
     /// Opens a socket at the address `at`, which is stopped by this token. After an error none was opened.

@@ -19,7 +19,7 @@ mod stop_token;
 
 pub use address::{address_of, peer_at};
 pub use connection::{ConnectionInput, ConnectionOutput};
-pub use faults::{count, faults_behind};
+pub use faults::faults_behind;
 pub use hub::{Hub, Opening};
 pub use listener_port::ListenerPort;
 pub use memory_hub::MemoryHub;

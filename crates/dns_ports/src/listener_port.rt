@@ -7,11 +7,11 @@ ghost use Rattle.dns_ports.specs.Sockets.{untold_listener};
 
 use crate::address::{address_of, peer_at};
 use crate::connection::{ConnectionInput, ConnectionOutput, end};
-use crate::faults::{arrival_after, count, ready_after};
+use crate::faults::{arrival_after, ready_after};
 use crate::patience::{Patience, one_wait};
 use crate::port::{Accepted, TcpPort};
 use crate::stop_token::{StopToken, Waited};
-use dns_edges::SystemClock;
+use dns_edges::{SystemClock, count};
 use dns_io::{IoFault, Peer};
 use std::alloc::Global;
 use std::marker::Model;

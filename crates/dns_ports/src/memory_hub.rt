@@ -29,6 +29,8 @@ pub struct MemoryHub {
     failing_openings: Vec<u64>,
     calls: u64,
     faults: u64,
+    opened_calls: u64,
+    failed_calls: u64,
 }
 
 impl Model for MemoryHub {
@@ -37,9 +39,24 @@ impl Model for MemoryHub {
 
     ghost Value = { HubState };
 
-    ghost view = { λ h. record { sockets = h.sockets.items; listeners = h.listeners.items; openings = h.openings.items; closed_udp = h.closed_udp.items; closed_tcp = h.closed_tcp.items; lent_udp = h.lent_udp; lent_tcp = h.lent_tcp; failing_openings = h.failing_openings.items; calls = h.calls; faults = h.faults } };
+    ghost view = { λ h. record {
+      sockets = h.sockets.items;
+      listeners = h.listeners.items;
+      openings = h.openings.items;
+      closed_udp = h.closed_udp.items;
+      closed_tcp = h.closed_tcp.items;
+      lent_udp = h.lent_udp;
+      lent_tcp = h.lent_tcp;
+      failing_openings = h.failing_openings.items;
+      calls = h.calls;
+      faults = h.faults;
+      opened_calls = h.opened_calls;
+      failed_calls = h.failed_calls;
+    } };
 
-    ghost invariant = { λ h. (vec_len h.closed_udp + h.lent_udp ≤ vec_capacity h.closed_udp) × (vec_len h.closed_tcp + h.lent_tcp ≤ vec_capacity h.closed_tcp) × All IsUnusedUdp h.sockets.items × All IsUnusedTcp h.listeners.items };
+    ghost invariant = { λ h. (vec_len h.closed_udp + h.lent_udp ≤ vec_capacity h.closed_udp)
+        × (vec_len h.closed_tcp + h.lent_tcp ≤ vec_capacity h.closed_tcp)
+        × All IsUnusedUdp h.sockets.items × All IsUnusedTcp h.listeners.items };
 }
 
 impl MemoryHub {
@@ -68,6 +85,8 @@ impl MemoryHub {
             failing_openings: openings,
             calls: 0,
             faults: 0,
+            opened_calls: 0,
+            failed_calls: 0,
         }
     }
 
@@ -108,11 +127,13 @@ impl Hub for MemoryHub {
         self.calls = self.calls.saturating_add(1);
         if self.failing_openings.contains(&self.calls) {
             self.faults = self.faults.saturating_add(1);
+            self.failed_calls = self.failed_calls.saturating_add(1);
             return Err(IoFault::Failed);
         }
         let lent = room_for_more(&mut self.closed_udp, self.lent_udp, 1)?;
         note(&mut self.openings, Opening::Socket { at })?;
         self.lent_udp = lent;
+        self.opened_calls = self.opened_calls.saturating_add(1);
         Ok(first_socket(self.alloc, &mut self.sockets))
     }
 
@@ -131,6 +152,7 @@ impl Hub for MemoryHub {
         self.calls = self.calls.saturating_add(1);
         if self.failing_openings.contains(&self.calls) {
             self.faults = self.faults.saturating_add(1);
+            self.failed_calls = self.failed_calls.saturating_add(1);
             return Err(IoFault::Failed);
         }
         let lent = room_for_more(&mut self.closed_tcp, self.lent_tcp, workers as usize)?;
@@ -140,6 +162,7 @@ impl Hub for MemoryHub {
             Opening::Listeners { at, limit, workers },
         )?;
         self.lent_tcp = lent;
+        self.opened_calls = self.opened_calls.saturating_add(1);
         Ok(first_listeners(self.alloc, &mut self.listeners, workers, ports))
     }
 

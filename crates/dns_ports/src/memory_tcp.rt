@@ -30,7 +30,15 @@ impl Model for MemoryTcp {
 
     ghost Value = { TcpState };
 
-    ghost view = { λ s. record { left = s.coming.items; accepted = s.accepted.items; ended = s.ended.items; lent = s.lent; failing_accepts = s.failing_accepts.items; accepts = s.accepts; faults = s.faults } };
+    ghost view = { λ s. record {
+      left = s.coming.items;
+      accepted = s.accepted.items;
+      ended = s.ended.items;
+      lent = s.lent;
+      failing_accepts = s.failing_accepts.items;
+      accepts = s.accepts;
+      faults = s.faults;
+    } };
 
     ghost invariant = { λ s. vec_len s.ended + s.lent ≤ vec_capacity s.ended };
 }

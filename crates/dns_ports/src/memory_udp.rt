@@ -30,7 +30,16 @@ impl Model for MemoryUdp {
 
     ghost Value = { UdpState };
 
-    ghost view = { λ s. record { left = drop s.place s.datagrams.items; received = take s.place s.datagrams.items; taken = s.taken.items; failing_receives = s.failing_receives.items; failing_answers = s.failing_answers.items; receives = s.receives; answers = s.answers; faults = s.faults } };
+    ghost view = { λ s. record {
+      left = drop s.place s.datagrams.items;
+      received = take s.place s.datagrams.items;
+      taken = s.taken.items;
+      failing_receives = s.failing_receives.items;
+      failing_answers = s.failing_answers.items;
+      receives = s.receives;
+      answers = s.answers;
+      faults = s.faults;
+    } };
 
     ghost invariant = { λ s. (s.place ≤ length s.datagrams.items) × All MayArrive s.datagrams.items };
 }

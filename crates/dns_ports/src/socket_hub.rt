@@ -7,11 +7,12 @@ ghost use Rattle.dns_ports.specs.Memory.{faults_behind};
 ghost use Rattle.dns_ports.specs.Sockets.{untold_hub, untold_socket, untold_listener};
 ghost use Rattle.dns_ports.specs.declared.hub.Opening.TheVariants.{Socket, Listeners};
 
-use crate::faults::{count, faults_behind};
+use crate::faults::faults_behind;
 use crate::hub::Hub;
 use crate::listener_port::ListenerPort;
 use crate::socket_port::SocketPort;
 use crate::stop_token::StopToken;
+use dns_edges::count;
 use dns_io::{IoFault, Peer};
 use std::alloc::Global;
 use std::marker::Model;
@@ -26,6 +27,8 @@ pub struct SocketHub<R> {
     lent_udp: u64,
     lent_tcp: u64,
     faults: u64,
+    opened_calls: u64,
+    failed_calls: u64,
 }
 
 impl<R> Model for SocketHub<R> {
@@ -33,13 +36,19 @@ impl<R> Model for SocketHub<R> {
 
     ghost Value = { HubCounts };
 
-    ghost view = { λ h. record { lent_udp = h.lent_udp; lent_tcp = h.lent_tcp; faults = h.faults } };
+    ghost view = { λ h. record {
+      lent_udp = h.lent_udp;
+      lent_tcp = h.lent_tcp;
+      faults = h.faults;
+      opened_calls = h.opened_calls;
+      failed_calls = h.failed_calls;
+    } };
 }
 
 impl<R> SocketHub<R> {
     /// A hub that opened nothing.
     pub fn new(alloc: Global, runtime: R) -> SocketHub<R>
-        ensures { result ≡ record { lent_udp = 0; lent_tcp = 0; faults = 0 } }
+        ensures { result ≡ record { lent_udp = 0; lent_tcp = 0; faults = 0; opened_calls = 0; failed_calls = 0 } }
     {
         SocketHub {
             alloc,
@@ -47,6 +56,8 @@ impl<R> SocketHub<R> {
             lent_udp: 0,
             lent_tcp: 0,
             faults: 0,
+            opened_calls: 0,
+            failed_calls: 0,
         }
     }
 }
@@ -67,8 +78,10 @@ impl<R: Net<Listener = TcpListener, Stream = TcpStream> + rt::Clock + Copy> Hub 
             return Err(IoFault::OutOfMemory);
         };
         let opened = SocketPort::open(self.runtime, at, stop);
-        let port = count(opened, &mut self.faults)?;
+        let counted = count(opened, &mut self.faults);
+        let port = count(counted, &mut self.failed_calls)?;
         self.lent_udp = lent;
+        self.opened_calls = self.opened_calls.saturating_add(1);
         Ok(port)
     }
 
@@ -88,8 +101,10 @@ impl<R: Net<Listener = TcpListener, Stream = TcpStream> + rt::Clock + Copy> Hub 
             return Err(IoFault::OutOfMemory);
         };
         let opened = ListenerPort::open(self.alloc, self.runtime, at, limit, workers, stop);
-        let ports = count(opened, &mut self.faults)?;
+        let counted = count(opened, &mut self.faults);
+        let ports = count(counted, &mut self.failed_calls)?;
         self.lent_tcp = lent;
+        self.opened_calls = self.opened_calls.saturating_add(1);
         Ok(ports)
     }
 

@@ -6,11 +6,11 @@ ghost use Rattle.dns_ports.specs.Ports.{Receives, Answers};
 ghost use Rattle.dns_ports.specs.Sockets.{untold_socket, IfCame};
 
 use crate::address::{address_of, peer_at};
-use crate::faults::{arrival_after, count, sending_after, sent_whole};
+use crate::faults::{arrival_after, sending_after, sent_whole};
 use crate::patience::one_wait;
 use crate::port::{Arrived, UdpPort};
 use crate::stop_token::{StopToken, Waited};
-use dns_edges::{Clock, SystemClock};
+use dns_edges::{Clock, SystemClock, count};
 use dns_io::{IoFault, Peer};
 use std::marker::Model;
 use std::net::{Net, SocketAddr, UdpSocket};

@@ -1,9 +1,9 @@
 -- How the top call ends, by what its parts did.
-use Rattle.std.proofs.Common.{◌≡◌, ◌⊎◌, ℕ, List, [], ◌∷◌, true, Some, None, Result, Ok, Err, inl, inr, refl, sym, ap, subst, ◌∙◌}
+use Rattle.std.proofs.Common.{◌≡◌, ◌⊎◌, ℕ, List, [], ◌∷◌, true, Some, None, Result, Ok, Err, inl, inr, refl, sym, ap, subst, ◌∙◌, arith}
 use Rattle.std.proofs.lemmas.Option.{same_Some}
 use Rattle.dns_io.specs.declared.io_fault.IoFault.{IoFault}
 use Rattle.dns_io.specs.declared.io_fault.IoFault.TheVariants as io
-use Rattle.dns_io.specs.Told.{Grows, Keeps, Rose}
+use Rattle.dns_io.specs.Told.{Grows, Keeps, Rose, counted, one_more}
 use Rattle.dns_io.proofs.ToldContents.{Keeps-more}
 use Rattle.dns_edges.specs.Edges.{Around, CountsBy, SinkTold, SourceTold}
 use Rattle.dns_keeper.specs.Keeping.{KeeperTold, KeepsBatches}
@@ -49,7 +49,9 @@ same_fault a b e = cc
 
 later_done : (a b : Result (Unit {0}) IoFault) → Ok tt ≡ or_later a b → (a ≡ Ok tt) × (b ≡ Ok tt)
 later_done (Ok done) b e = (refl, sym e)
-later_done (Err fault) b e = absurd cc
+later_done (Err io.Failed) b e = absurd cc
+later_done (Err io.OutOfMemory) (Ok done) e = absurd cc
+later_done (Err io.OutOfMemory) (Err fault) e = absurd cc
 
 each_done : {P : Type 0} (ws : List (Worker P)) → first_fault ws ≡ Ok tt → AllByRecursion IsDone ws
 each_done [] e = tt
@@ -98,11 +100,15 @@ module _ {K U C : Type 0} (m : Meanings K U C) (w : World) (hub : Around (CrowdH
   abbrev SoFarPorts : Status → Type 0
   SoFarPorts s = (hub.after.faults ≡ hub.before.faults) ⊎ ((Rose hub.before.faults hub.after.faults × (s ≡ status.PortFault)) ⊎ TakesSomeFaulty m hub)
 
+  abbrev SoFarOpenings : Status → Type 0
+  SoFarOpenings s = (hub.after.failed_calls ≡ hub.before.failed_calls) ⊎ ((hub.after.failed_calls ≡ one_more hub.before.failed_calls) × (s ≡ status.PortFault))
+
   record SoFar (s : Status) : Type 0 where
     journal : SoFarJournal s
     zone : IsStill w.zone ⊎ (Rose w.zone.before.faults w.zone.after.faults × (s ≡ status.ReadFault))
     events : IsStill w.events ⊎ HasServed w hub
     ports : SoFarPorts s
+    openings : SoFarOpenings s
 
   zone_unserved : (s : Status) → IsUnserved m w s → IsStill w.zone ⊎ (Rose w.zone.before.faults w.zone.after.faults × (s ≡ status.ReadFault))
   zone_unserved s (without_memory a b c) = inl (untouched w.zone a)
@@ -170,6 +176,18 @@ module _ {K U C : Type 0} (m : Meanings K U C) (w : World) (hub : Around (CrowdH
   ports_in service first last fault rose (served opened ports) =
       counted_back (port_status fault) (their_ports ports.after.sockets) (their_ports ports.after.crowds) ports.sockets_back ports.crowds_back ports.counted
 
+  -- an opening that failed is told
+  openings_unopened : (fault : IoFault) → hub.after.failed_calls ≡ counted {T = Unit {0}} hub.before.failed_calls (Err fault) → SoFarOpenings (port_status fault)
+  openings_unopened io.Failed failing = inr (failing, refl)
+  openings_unopened io.OutOfMemory failing = inl failing
+
+  openings_in : (service : Service) (first last : SeenOf K) (fault : IoFault)
+      → EndsServing m.keeper m.socket m.crowd hub w.events service.places (access_of service.options) first last (Err fault) → SoFarOpenings (port_status fault)
+  openings_in service first last fault (unshared same unused untouched answer) = inl (ap (λ (h : CrowdHubTold U C). h.failed_calls) unused)
+  openings_in service first last fault (unopened why opens untouched answer) =
+      subst (λ (f : IoFault). SoFarOpenings (port_status f)) (sym (same_fault fault why answer)) (openings_unopened why opens.failing)
+  openings_in service first last fault (served opened ports) = inl opened.none_failed
+
   events_in : (service : Service) → serving_of w.words ≡ Some service → (first last : SeenOf K) (result : Result (Unit {0}) IoFault)
       → EndsServing m.keeper m.socket m.crowd hub w.events service.places (access_of service.options) first last result → IsStill w.events ⊎ HasServed w hub
   events_in service legal first last result (unshared same unused still answer) = inl (untouched w.events still)
@@ -182,12 +200,14 @@ module _ {K U C : Type 0} (m : Meanings K U C) (w : World) (hub : Around (CrowdH
     zone = zone_unserved s u;
     events = inl (untouched w.events still);
     ports = inl (ap (λ (h : CrowdHubTold U C). h.faults) same);
+    openings = inl (ap (λ (h : CrowdHubTold U C). h.failed_calls) same);
   }
   refusing_so_far s (stopped r) = record {
     journal = journal_stopped s r;
     zone = inl (of_found (opening_journal m.keeper w r.first) w.zone r.service.options.origin r.begun.opening r.begun.found);
     events = events_in r.service r.begun.legal r.first r.last (Err r.fault) r.served;
     ports = subst SoFarPorts (sym r.status) (ports_in r.service r.first r.last r.fault r.rose r.served);
+    openings = subst SoFarOpenings (sym r.status) (openings_in r.service r.first r.last r.fault r.served);
   }
 
   served_so_far : (text : List ℕ) → Serves m w hub text → SoFar status.Ok
@@ -196,6 +216,7 @@ module _ {K U C : Type 0} (m : Meanings K U C) (w : World) (hub : Around (CrowdH
     zone = inl (of_found (opening_journal m.keeper w a.first) w.zone a.service.options.origin a.begun.opening a.begun.found);
     events = inr (record { service = a.service; legal = a.begun.legal; opened = a.opened });
     ports = counted_back status.Ok (their_ports a.ports.after.sockets) (their_ports a.ports.after.crowds) a.ports.sockets_back a.ports.crowds_back a.ports.counted;
+    openings = inl a.opened.none_failed;
   }
 
   -- the same of a status that was told, or behind a line that was cut
@@ -208,6 +229,7 @@ module _ {K U C : Type 0} (m : Meanings K U C) (w : World) (hub : Around (CrowdH
       | inl calm ↦ inl calm
       | inr more ↦ inr (elim more [ inl p ↦ inl (p.0, subst (λ (x : Status). ComesOf w x t) p.1 (comes (ap is_fault p.1))) | inr taken ↦ inr taken ])
     ];
+    openings = elim so.openings [ inl calm ↦ inl calm | inr p ↦ inr (p.0, subst (λ (x : Status). ComesOf w x t) p.1 (comes (ap is_fault p.1))) ];
     journal = elim so.journal [
       | inl still ↦ inl still
       | inr more ↦ inr (elim more [ inl p ↦ inl (p.0, subst (λ (x : Status). ComesOf w x t) p.1 (comes (ap is_fault p.1))) | inr fails ↦ inr (inr fails) ])
@@ -220,6 +242,7 @@ module _ {K U C : Type 0} (m : Meanings K U C) (w : World) (hub : Around (CrowdH
     events = elim so.events [ inl still ↦ inl (inl still) | inr some ↦ inr some ];
     output = output;
     ports = elim so.ports [ inl calm ↦ inl calm | inr more ↦ elim more [ inl p ↦ absurd (let x = p.1 in cc) | inr taken ↦ inr (inr taken) ] ];
+    openings = elim so.openings [ inl calm ↦ inl calm | inr p ↦ absurd (let x = p.1 in cc) ];
     journal = elim so.journal [ inl still ↦ inl still | inr more ↦ elim more [ inl p ↦ absurd (let x = p.1 in cc) | inr fails ↦ inr (inr (inr fails)) ] ];
   }
 
@@ -257,6 +280,7 @@ module _ {K U C : Type 0} (m : Meanings K U C) (w : World) (hub : Around (CrowdH
       events = inl tells.counts.events;
       output = tells.counts.output;
       ports = inl (ap (λ (h : CrowdHubTold U C). h.faults) unused);
+      openings = inl (ap (λ (h : CrowdHubTold U C). h.failed_calls) unused);
       journal = of_list tells.counts.journal;
     };
   }

@@ -1,9 +1,9 @@
 -- What the command `serve` does: the book is opened, workers settle what comes to the ports, and the book is closed.
-use Rattle.std.specs.Prelude.{◌≡◌, ℕ, List, ◌∷◌, [], Some, None, IsSome, Ok, Err}
+use Rattle.std.specs.Prelude.{◌≡◌, ℕ, List, Some, None, IsSome, Ok, Err}
 use Rattle.std.specs.List.{AllByRecursion}
 use Rattle.dns_io.specs.declared.io_fault.IoFault.{IoFault}
 use Rattle.dns_io.specs.declared.io_fault.IoFault.TheVariants as io
-use Rattle.dns_io.specs.Told.{Grows, Keeps, Rose}
+use Rattle.dns_io.specs.Told.{Keeps, Rose}
 use Rattle.dns_edges.specs.Edges.{Around}
 use Rattle.dns_keeper.specs.Keeping.{KeeperOf}
 use Rattle.dns_zone_map.specs.Zone.{serial_of}
@@ -23,7 +23,7 @@ use Rattle.dns_command.specs.ServingParts.{port_status}
 use Rattle.dns_command.specs.Steps.{Finds, FindsNot, OpensNot}
 use Rattle.dns_command.specs.World.{World}
 use Rattle.dns_words.specs.Writing.{IsUntouched}
-use Rattle.dns_crowd_server.specs.Hubs.{CrowdHubTold, seats_of}
+use Rattle.dns_crowd_server.specs.Hubs.{CrowdHubTold, OpensOnce, seats_of}
 use Rattle.dns_crowd_server.specs.Serving.{EndsServing, ServesPorts}
 use Rattle.dns_serve.specs.declared.words.Service.{Service}
 use Rattle.dns_serve.specs.Words.{serving_of}
@@ -48,15 +48,15 @@ pub record Begins {K : Type 0} (keeper : KeeperOf K) (w : World) (service : Serv
 
 module _ {K U C : Type 0} (m : Meanings K U C) where
   -- Everything was served, and this is the output: the serial of the zone that the rows of the closing book stand for, and their number.
-  -- What the words ask for was opened, and nothing else. Each worker did its work to its end: nothing is left at its port, and memory was
-  -- found for all. The rows begin with the opening ones and with all that each worker's pass has seen, and past the opening they are
-  -- exactly those of the passes' receipts
+  -- What the words ask for was opened, by one opening, and nothing else, and none failed. Each worker did its work to its end: nothing is
+  -- left at its port, and memory was found for all. The rows begin with the opening ones and with all that each worker's pass has seen, and
+  -- past the opening they are exactly those of the passes' receipts
   pub record Serves (w : World) (hub : Around (CrowdHubTold U C)) (written : List ℕ) : Type 0 where
     pub service : Service
     pub first : SeenOf K
     pub last : SeenOf K
     pub begun : Begins m.keeper w service first
-    pub opened : Grows hub.before.opened hub.after.opened (service.places ∷ [])
+    pub opened : OpensOnce hub.before hub.after service.places
     pub ports : ServesPorts m.keeper m.socket m.crowd hub w.events service.places (terms_at m.keeper first (seats_of service.places))
         (access_of service.options) last (Ok tt)
     pub sockets_done : AllByRecursion IsDone ports.after.sockets
@@ -78,8 +78,8 @@ module _ {K U C : Type 0} (m : Meanings K U C) where
     pub status : s ≡ port_status fault
     pub left : m.keeper.told last.keeper ≡ w.journal.after
 
-  -- why nothing was opened, by the first step in the order of the work that was refused: the journal has the rows that it had. The clock was
-  -- asked where the journal was to be opened, and only there
+  -- why nothing was opened, by the first step in the order of the work that was refused: the journal has the rows that it had. The clock
+  -- was asked where the journal was to be opened, and only there
   pub data IsUnserved (w : World) : Status → Type 0 where
     without_memory : IsUntouched w.zone → IsUntouched w.journal → w.moment ≡ None → IsUnserved w status.OutOfMemory
     at_finding : {s : Status} → (service : Service) → serving_of w.words ≡ Some service

@@ -32,9 +32,9 @@ use std::thread::Threads;
 
 /// Does what the words of the command line say, and ends with a status. The keeper is handed back.
 ///
-/// The words of `serve` are done here: the zone is read and the journal opened as `events` does, a socket and crowds of connections are opened
-/// where the words say, and what comes to them is settled and answered until the source `events` ends or fails; then they are handed back to
-/// the hub. Any other words are those of [`run_list`], which uses no hub. This call waits for the peers.
+/// The words of `serve` are done here: the zone is read and the journal opened as `events` does, a socket and crowds of connections are
+/// opened where the words say, and what comes to them is settled and answered until the source `events` ends or fails; then they are handed
+/// back to the hub. Any other words are those of [`run_list`], which uses no hub. This call waits for the peers.
 pub fn run<
     R: Threads + Wait + Sync,
     Z: Source,

@@ -19,11 +19,15 @@ use Rattle.dns_server.specs.Servers.{AnswersFor, EndsReading, IsDone, IsReadOut,
 
 or_done : (first later : Result (Unit {0}) IoFault) → or_later first later ≡ Ok tt → (first ≡ Ok tt) × (later ≡ Ok tt)
 or_done (Ok done) later e = (refl, e)
-or_done (Err fault) later e = absurd cc
+or_done (Err Failed) later e = absurd cc
+or_done (Err OutOfMemory) (Ok done) e = absurd cc
+or_done (Err OutOfMemory) (Err fault) e = absurd cc
 
 pub or_failed : (first later : Result (Unit {0}) IoFault) → or_later first later ≡ Err Failed → (first ≡ Err Failed) ⊎ (later ≡ Err Failed)
 or_failed (Ok done) later e = inr e
-or_failed (Err fault) later e = inl e
+or_failed (Err Failed) later e = inl refl
+or_failed (Err OutOfMemory) (Ok done) e = absurd cc
+or_failed (Err OutOfMemory) (Err fault) e = inr e
 
 net_done : (answer : Result (Unit {0}) IoFault) → OnOk (as_net answer) (answer ≡ Ok tt)
 net_done (Ok done) = refl

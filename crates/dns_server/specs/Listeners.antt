@@ -31,7 +31,8 @@ abbrev pub unmet : {R W C : Type 0} → List (HandedBack R W C) → ℕ
 unmet = sum_by (λ one. unmet_by one.answer)
 
 -- the meanings of a handler, and of the source, the sink and the clock of a connection
-module _ {H R W C : Type 0} (serves : H → Ask → Settled → H → Type 0) (skips : H → H → Type 0) (source : SourceOf R) (sink : SinkOf W) (clock : ClockOf C) (limit : ℕ) where
+module _ {H R W C : Type 0} (serves : H → Ask → Settled → H → Type 0) (skips : H → H → Type 0) (source : SourceOf R)
+    (sink : SinkOf W) (clock : ClockOf C) (limit : ℕ) where
   -- a connection from a safe peer was served, with this answer, under the limit and at most 2^32 reads
   pub record IsServed (before : H) (came back : Accepted R W C) (answer : Result ℕ ServeFault) (after : H) : Type 0 where
     pub safe : is_safe came.peer ≡ true
@@ -66,7 +67,8 @@ module _ {H R W C : Type 0} (serves : H → Ask → Settled → H → Type 0) (s
   Run before (one ∷ others) after = (between : H) × TreatsBy before one.came one.back one.answer between × Run between others after
 
 -- the meanings of a handler, and of a listener and its connections
-module _ {H T R W C : Type 0} (serves : H → Ask → Settled → H → Type 0) (skips : H → H → Type 0) (listener : ListenerOf T R W C) (limit : ℕ) (before after : Post H T) where
+module _ {H T R W C : Type 0} (serves : H → Ask → Settled → H → Type 0) (skips : H → H → Type 0) (listener : ListenerOf T R W C)
+    (limit : ℕ) (before after : Post H T) where
   -- no accepting failed
   abbrev pub IsCalm : Type 0
   IsCalm = (listener.told after.port).faults ≡ (listener.told before.port).faults

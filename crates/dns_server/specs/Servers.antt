@@ -55,17 +55,21 @@ having number (p ∷ ps) = (if p.number == number then 1 else 0) + having number
 -- the server has all passes of the book: as many as there are seats, and one with each number
 pub record IsWhole {U T : Type 0} (s : ServerSeen U T) : Type 0 where
   pub many : length s.free + worker_count s ≡ s.book.terms.seats
-  pub theirs : AllByRecursion (IsOf s.book) s.free × AllByRecursion (IsOf s.book) (their_passes s.sockets) × AllByRecursion (IsOf s.book) (their_passes s.listeners)
-  pub each : (k : ℕ) → k < s.book.terms.seats → 0 < having (k + 1) s.free + having (k + 1) (their_passes s.sockets) + having (k + 1) (their_passes s.listeners)
+  pub theirs : AllByRecursion (IsOf s.book) s.free × AllByRecursion (IsOf s.book) (their_passes s.sockets)
+      × AllByRecursion (IsOf s.book) (their_passes s.listeners)
+  pub each : (k : ℕ) → k < s.book.terms.seats
+      → 0 < having (k + 1) s.free + having (k + 1) (their_passes s.sockets) + having (k + 1) (their_passes s.listeners)
 
 -- the first free pass went to a worker of this port, which came last
-pub record TakesOn {P : Type 0} (port : P) (limit : ℕ) (free : List PassSeen) (workers : List (Worker P)) (left : List PassSeen) (now : List (Worker P)) : Type 0 where
+pub record TakesOn {P : Type 0} (port : P) (limit : ℕ) (free : List PassSeen) (workers : List (Worker P)) (left : List PassSeen)
+    (now : List (Worker P)) : Type 0 where
   pub pass : PassSeen
   pub first : free ≡ pass ∷ left
   pub last : now ≡ workers ++ record { pass = pass; port = port; limit = limit; answer = Ok tt } ∷ []
 
 -- or, where memory ran out, nothing changed, and the port is given back
-abbrev pub MayTakeOn : {P : Type 0} → P → ℕ → List PassSeen → List (Worker P) → List PassSeen → List (Worker P) → Result (Unit {0}) P → Type 0
+abbrev pub MayTakeOn : {P : Type 0} → P → ℕ → List PassSeen → List (Worker P)
+    → List PassSeen → List (Worker P) → Result (Unit {0}) P → Type 0
 MayTakeOn port limit free workers left now (Ok done) = TakesOn port limit free workers left now
 MayTakeOn port limit free workers left now (Err given) = (given ≡ port) × (left ≡ free) × (now ≡ workers)
 
@@ -116,11 +120,14 @@ KeepsPasses before after = Matches IsSame (all_passes before) (all_passes after)
 abbrev pub IsDone : {P : Type 0} → Worker P → Type 0
 IsDone w = w.answer ≡ Ok tt
 
--- the first fault of workers
+-- the fault of two answers that is told: that something failed, where one of them says it; else that memory was wanted
 abbrev pub or_later : Result (Unit {0}) IoFault → Result (Unit {0}) IoFault → Result (Unit {0}) IoFault
 or_later (Ok done) later = later
-or_later (Err fault) later = Err fault
+or_later (Err io.Failed) later = Err io.Failed
+or_later (Err io.OutOfMemory) (Ok done) = Err io.OutOfMemory
+or_later (Err io.OutOfMemory) (Err fault) = Err fault
 
+-- and of workers: where one failed that is told, whoever wanted memory
 abbrev pub first_fault : {P : Type 0} → List (Worker P) → Result (Unit {0}) IoFault
 first_fault [] = Ok tt
 first_fault (w ∷ ws) = or_later w.answer (first_fault ws)
@@ -130,11 +137,11 @@ abbrev pub as_net : Result (Unit {0}) IoFault → Result (Unit {0}) NetError
 as_net (Ok done) = Ok tt
 as_net (Err fault) = Err (of_io fault)
 
--- how the workers ended: the first fault of sockets, else of listeners
+-- how the workers ended, sockets' and listeners'
 abbrev pub answer_of : {U T : Type 0} → ServerSeen U T → Result (Unit {0}) NetError
 answer_of s = as_net (or_later (first_fault s.sockets) (first_fault s.listeners))
 
--- the first error of workers, else the one of reading what is served until
+-- the error of workers, else the one of reading what is served until, which is want of memory alone
 abbrev pub or_reading : Result (Unit {0}) NetError → Result (Unit {0}) IoFault → Result (Unit {0}) NetError
 or_reading (Ok done) reading = as_net reading
 or_reading (Err error) reading = Err error
@@ -166,11 +173,13 @@ abbrev pub IsServingError : NetError → Type 0
 IsServingError e = (e ≡ Io) ⊎ (e ≡ OutOfMemory)
 
 -- the answer of serving: fine where each worker ended well, and `Io` only where the count of a port rose
-pub record AnswersFor {U T R W C : Type 0} (socket : U → UdpTold) (listener : T → TcpTold R W C) (before after : ServerSeen U T) (result : Result (Unit {0}) NetError) : Type 0 where
+pub record AnswersFor {U T R W C : Type 0} (socket : U → UdpTold) (listener : T → TcpTold R W C) (before after : ServerSeen U T)
+    (result : Result (Unit {0}) NetError) : Type 0 where
   pub sockets : OnOk result (AllByRecursion IsDone after.sockets)
   pub listeners : OnOk result (AllByRecursion IsDone after.listeners)
   pub failed : IsErrOf result Io
-      → MatchesOnce (RoseAt (λ port. (socket port).faults)) before.sockets after.sockets ⊎ MatchesOnce (RoseAt (λ port. (listener port).faults)) before.listeners after.listeners
+      → MatchesOnce (RoseAt (λ port. (socket port).faults)) before.sockets after.sockets
+      ⊎ MatchesOnce (RoseAt (λ port. (listener port).faults)) before.listeners after.listeners
   pub kind : IfErr result IsServingError
 
 -- why a port is not registered: exactly where there are as many workers as seats it is that

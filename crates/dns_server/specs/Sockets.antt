@@ -110,7 +110,8 @@ pub record Post (H P : Type 0) : Type 0 where
   pub port : P
 
 -- the meanings of a handler, and what a socket tells
-module _ {H U : Type 0} (serves : H → Ask → Settled → H → Type 0) (skips : H → H → Type 0) (socket : U → UdpTold) (before after : Post H U) where
+module _ {H U : Type 0} (serves : H → Ask → Settled → H → Type 0) (skips : H → H → Type 0) (socket : U → UdpTold)
+    (before after : Post H U) where
   -- the socket counted so many calls that failed, and no other
   abbrev pub Counts : ℕ → Type 0
   Counts failed = (socket after.port).faults ≡ raised failed (socket before.port).faults

@@ -30,13 +30,13 @@ where
     T::Time: Send,
 {
     /// Starts each worker on a thread of its own, and waits until all have ended; a worker whose thread is refused is run behind the
-    /// others. It is `Ok` at once where there is none. The answer is the first fault of the workers of sockets, else of listeners, each
-    /// in order of registration: `Io` only where a port's count of faults rose; `OutOfMemory` also where memory was wanting for a
-    /// message, an answer or a connection, and its worker went on.
+    /// others. It is `Ok` at once where there is none. The answer is `Io` where a worker failed, and only where a port's count of faults
+    /// rose; else `OutOfMemory` where memory was wanting, also for a message, an answer or a connection behind which its worker went on.
     pub fn block_until_done<R: Threads + Wait + Sync>(&mut self, rt: &R) -> Result<(), NetError>
         ensures sockets { Matches (ServedSocket K.keeper U.told self.old.access) self.old.sockets self.new.sockets }
         ensures listeners { Matches
-            (ServedListener K.keeper (listener_of T.told T.In.source T.Out.sink T.Time.clock) self.old.access) self.old.listeners self.new.listeners }
+            (ServedListener K.keeper (listener_of T.told T.In.source T.Out.sink T.Time.clock) self.old.access)
+            self.old.listeners self.new.listeners }
         ensures others { IsServer self.old self.new }
         ensures passes { KeepsPasses self.old self.new }
         ensures answer { AnswersFor U.told T.told self.old self.new result }
@@ -50,7 +50,8 @@ where
     pub fn shutdown_gracefully<R: Threads + Wait + Sync>(&mut self, rt: &R) -> Result<(), NetError>
         ensures sockets { Matches (ServedSocket K.keeper U.told self.old.access) self.old.sockets self.new.sockets }
         ensures listeners { Matches
-            (ServedListener K.keeper (listener_of T.told T.In.source T.Out.sink T.Time.clock) self.old.access) self.old.listeners self.new.listeners }
+            (ServedListener K.keeper (listener_of T.told T.In.source T.Out.sink T.Time.clock) self.old.access)
+            self.old.listeners self.new.listeners }
         ensures others { IsServer self.old self.new }
         ensures passes { KeepsPasses self.old self.new }
         ensures answer { AnswersFor U.told T.told self.old self.new result }
@@ -70,7 +71,8 @@ where
     ) -> Result<(), NetError>
         ensures sockets { Matches (ServedSocket K.keeper U.told self.old.access) self.old.sockets self.new.sockets }
         ensures listeners { Matches
-            (ServedListener K.keeper (listener_of T.told T.In.source T.Out.sink T.Time.clock) self.old.access) self.old.listeners self.new.listeners }
+            (ServedListener K.keeper (listener_of T.told T.In.source T.Out.sink T.Time.clock) self.old.access)
+            self.old.listeners self.new.listeners }
         ensures others { IsServer self.old self.new }
         ensures passes { KeepsPasses self.old self.new }
         ensures answer { AnswersFor U.told T.told self.old self.new result }
@@ -92,7 +94,8 @@ where
     fn run<R: Threads + Wait + Sync>(&mut self, rt: &R)
         ensures sockets { Matches (ServedSocket K.keeper U.told self.old.access) self.old.sockets self.new.sockets }
         ensures listeners { Matches
-            (ServedListener K.keeper (listener_of T.told T.In.source T.Out.sink T.Time.clock) self.old.access) self.old.listeners self.new.listeners }
+            (ServedListener K.keeper (listener_of T.told T.In.source T.Out.sink T.Time.clock) self.old.access)
+            self.old.listeners self.new.listeners }
         ensures others { IsServer self.old self.new }
     {
         run_all(
@@ -113,7 +116,8 @@ where
     ) -> Result<(), IoFault>
         ensures sockets { Matches (ServedSocket K.keeper U.told self.old.access) self.old.sockets self.new.sockets }
         ensures listeners { Matches
-            (ServedListener K.keeper (listener_of T.told T.In.source T.Out.sink T.Time.clock) self.old.access) self.old.listeners self.new.listeners }
+            (ServedListener K.keeper (listener_of T.told T.In.source T.Out.sink T.Time.clock) self.old.access)
+            self.old.listeners self.new.listeners }
         ensures others { IsServer self.old self.new }
         ensures ended { EndsReading (around E.source.told until.old until.new) result }
         ensures read { (bytes : List ℕ) × Takes (E.source.told until.old).left (E.source.told until.new).left bytes }
@@ -162,26 +166,28 @@ fn as_net(answer: Result<(), IoFault>) -> Result<(), NetError>
     }
 }
 
-/// The first of two faults.
+/// The fault of two answers that is told: that something failed, where one of them says it; else that memory was wanted. So want of memory
+/// hides no fault.
 pub fn or_later(first: Result<(), IoFault>, later: Result<(), IoFault>) -> Result<(), IoFault>
     ensures { result ≡ or_later first later }
 {
-    match first {
-        Ok(()) => later,
-        Err(fault) => Err(fault),
+    match (first, later) {
+        (Ok(()), later) => later,
+        (Err(IoFault::Failed), _) => Err(IoFault::Failed),
+        (Err(IoFault::OutOfMemory), Ok(())) => Err(IoFault::OutOfMemory),
+        (Err(IoFault::OutOfMemory), Err(fault)) => Err(fault),
     }
 }
 
-/// The first fault of workers.
+/// The fault of workers that is told: where one failed that is told, whoever wanted memory.
 pub fn first_fault<P>(workers: &[Worker<P>]) -> Result<(), IoFault>
     ensures { result ≡ first_fault workers.now }
 {
+    let mut told = Ok(());
     for worker in workers {
-        if let Err(fault) = worker.answer {
-            return Err(fault);
-        }
+        told = or_later(told, worker.answer);
     }
-    Ok(())
+    told
 }
 
 /// Runs all workers, and waits until they have ended.

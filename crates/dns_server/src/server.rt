@@ -41,9 +41,23 @@ impl<K: Keeper, U: UdpPort + Drop, T: TcpPort + Drop> Model for ThreadServer<K, 
 
     ghost Value = { ServerSeen U T };
 
-    ghost view = { λ s. record { book = s.book; access = s.access; free = s.free.items; sockets = s.sockets.items; listeners = s.listeners.items } };
+    ghost view = { λ s. record {
+      book = s.book;
+      access = s.access;
+      free = s.free.items;
+      sockets = s.sockets.items;
+      listeners = s.listeners.items;
+    } };
 
-    ghost invariant = { λ s. IsWhole (record { book = s.book; access = s.access; free = s.free.items; sockets = s.sockets.items; listeners = s.listeners.items }) × (vec_len s.free + (vec_len s.sockets + vec_len s.listeners) ≤ vec_capacity s.free) × (s.socket_room.items ≡ []) × (vec_len s.sockets ≤ vec_capacity s.socket_room) × (s.listener_room.items ≡ []) × (vec_len s.listeners ≤ vec_capacity s.listener_room) };
+    ghost invariant = { λ s. IsWhole (record {
+      book = s.book;
+      access = s.access;
+      free = s.free.items;
+      sockets = s.sockets.items;
+      listeners = s.listeners.items;
+    }) × (vec_len s.free + (vec_len s.sockets + vec_len s.listeners) ≤ vec_capacity s.free)
+        × (s.socket_room.items ≡ []) × (vec_len s.sockets ≤ vec_capacity s.socket_room)
+        × (s.listener_room.items ≡ []) × (vec_len s.listeners ≤ vec_capacity s.listener_room) };
 }
 
 impl<K: Keeper, U: UdpPort + Drop, T: TcpPort + Drop> ThreadServer<K, U, T> {

@@ -106,7 +106,11 @@ pub struct GatedOutput {
 }
 
 impl Sink for GatedOutput {
-    ghost sink = { record { told = λ s. record { taken = None; flushed = None; faults = 0 }; writes = λ before bytes result after. Unit {0} } };
+    ghost sink = { record {
+      told = λ s. record { taken = None; flushed = None; faults = 0 };
+      writes = λ before bytes result after. Unit {0};
+      wants = λ s. 0;
+    } };
 
     fn write(&mut self, bytes: &[u8]) -> Result<usize, IoFault> {
         count(&self.own);

@@ -7,7 +7,7 @@ use Rattle.dns_command.proofs.Loops.{one_more, all_done, some_left, rose_more, c
 use Rattle.dns_command.proofs.ports.close_listeners.Goals as goal
 
 pub loop-listener-init : goal.loop-listener-init
-loop-listener-init g c = ((tt, tt), search rules, search rules, Grows-nothing _, search rules, Keeps-same _, Keeps-same _, refl, search rules, (λ none. absurd none), inl refl)
+loop-listener-init g c = ((tt, tt), search rules, search rules, Grows-nothing _, search rules, Keeps-same _, Keeps-same _, refl, refl, refl, search rules, (λ none. absurd none), inl refl)
 
 pub close_tcp-requires : goal.close_tcp-requires
 close_tcp-requires g c =
@@ -31,9 +31,11 @@ loop-listener-preserved g c =
       Keeps-more _ _ _ kept.5 closed.kept,
       Keeps-more _ _ _ kept.6 closed.udp_kept,
       closed.udp_lent ∙ kept.7,
-      (let was = kept.8 in let later = closed.cause.later in omega (arith, was, later)),
-      rose_more _ _ _ _ _ _ kept.9 kept.8 closed.cause.later closed.cause.raised,
-      calm_more _ _ _ _ _ _ kept.10 closed.cause,
+      closed.none_made ∙ kept.8,
+      closed.none_failed ∙ kept.9,
+      (let was = kept.10 in let later = closed.cause.later in omega (arith, was, later)),
+      rose_more _ _ _ _ _ _ kept.11 kept.10 closed.cause.later closed.cause.raised,
+      calm_more _ _ _ _ _ _ kept.12 closed.cause,
     )
 
 pub returns : goal.returns
@@ -46,7 +48,9 @@ returns g c =
       opened = kept.5;
       sockets = kept.6;
       sockets_out = kept.7;
-      later = kept.8;
-      raised = λ any. kept.9 (subst (λ (l : List g.row.H-Tcp.Denot). AnyFault (λ port. (g.H.Tcp.TcpPort.told port).faults) l) (sym all) any);
-      calm = subst (λ (l : List g.row.H-Tcp.Denot). ((g.H.Hub.told c.loop-listener.hub).faults ≡ (g.H.Hub.told c.args.hub.now).faults) ⊎ AnyFault (λ port. (g.H.Tcp.TcpPort.told port).faults) l) all kept.10;
+      calls = kept.8;
+      unfailed = kept.9;
+      later = kept.10;
+      raised = λ any. kept.11 (subst (λ (l : List g.row.H-Tcp.Denot). AnyFault (λ port. (g.H.Tcp.TcpPort.told port).faults) l) (sym all) any);
+      calm = subst (λ (l : List g.row.H-Tcp.Denot). ((g.H.Hub.told c.loop-listener.hub).faults ≡ (g.H.Hub.told c.args.hub.now).faults) ⊎ AnyFault (λ port. (g.H.Tcp.TcpPort.told port).faults) l) all kept.12;
     }

@@ -15,6 +15,8 @@ invariant-loop-listener g l =
     × Keeps (g.H.Hub.told l.fn.hub).openings (g.H.Hub.told l.hub).openings
     × Keeps (g.H.Hub.told l.fn.hub).closed_udp (g.H.Hub.told l.hub).closed_udp
     × ((g.H.Hub.told l.hub).lent_udp ≡ (g.H.Hub.told l.fn.hub).lent_udp)
+    × ((g.H.Hub.told l.hub).opened_calls ≡ (g.H.Hub.told l.fn.hub).opened_calls)
+    × ((g.H.Hub.told l.hub).failed_calls ≡ (g.H.Hub.told l.fn.hub).failed_calls)
     × ((g.H.Hub.told l.fn.hub).faults ≤ (g.H.Hub.told l.hub).faults)
     × (AnyFault (λ port. (g.H.Tcp.TcpPort.told port).faults) l.yielded → Rose (g.H.Hub.told l.fn.hub).faults (g.H.Hub.told l.hub).faults)
     × (((g.H.Hub.told l.hub).faults ≡ (g.H.Hub.told l.fn.hub).faults) ⊎ AnyFault (λ port. (g.H.Tcp.TcpPort.told port).faults) l.yielded)

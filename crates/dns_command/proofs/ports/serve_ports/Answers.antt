@@ -22,7 +22,7 @@ returns-in-Ok-clause-crew g c =
     crew_served _ _ _ _ _ opened.manned opened.registers.same ended.others ended.sockets ended.listeners
 
 pub returns-in-Ok-clause-read : goal.returns-in-Ok-clause-read
-returns-in-Ok-clause-read g c = let read = c.in-Ok.ensures.reading in inr (c.in_ok-open_ports.ensures.ok.opened, read.reading, read.ended)
+returns-in-Ok-clause-read g c = let read = c.in-Ok.ensures.reading in let opens = c.in_ok-open_ports.ensures.ok in inr (opens.opened, opens.calls, read.reading, read.ended)
 
 pub returns-in-Ok-clause-registers : goal.returns-in-Ok-clause-registers
 returns-in-Ok-clause-registers g c =
@@ -36,8 +36,8 @@ returns-in-Err-Io g c =
     record {
       ok = tt;
       crew = crew_served _ _ _ _ _ opened.manned opened.registers.same ended.others ended.sockets ended.listeners;
-      read = inr (opened.ok.opened, ended.reading.reading, ended.reading.ended);
-      err = inr (faulty_port _ _ _ c.open_ports.new.server c.serve_until.new.self opened.manned (ended.answer.failed (ap Err c.in-Err-Io.field-0-is)));
+      read = inr (opened.ok.opened, opened.ok.calls, ended.reading.reading, ended.reading.ended);
+      err = inr (opened.ok.unfailed, opened.ok.calls, faulty_port _ _ _ c.open_ports.new.server c.serve_until.new.self opened.manned (ended.answer.failed (ap Err c.in-Err-Io.field-0-is)));
       registers = registers_served _ _ _ _ _ _ _ opened.registers ended.others ended.sockets ended.listeners;
       later = ended.reading.later;
     }
@@ -49,8 +49,8 @@ returns-in-Err g c =
     record {
       ok = tt;
       crew = crew_served _ _ _ _ _ opened.manned opened.registers.same ended.others ended.sockets ended.listeners;
-      read = inr (opened.ok.opened, ended.reading.reading, ended.reading.ended);
-      err = opened.ok.faults;
+      read = inr (opened.ok.opened, opened.ok.calls, ended.reading.reading, ended.reading.ended);
+      err = (opened.ok.faults, opened.ok.unfailed);
       registers = registers_served _ _ _ _ _ _ _ opened.registers ended.others ended.sockets ended.listeners;
       later = ended.reading.later;
     }

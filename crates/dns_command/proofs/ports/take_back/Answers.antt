@@ -25,6 +25,8 @@ returns-clause-back g c =
           let x = first.out in let y = second.sockets_out in let z = ap length us ∙ length-map c.args.server.now.sockets (λ w. w.port) in omega (arith, x, y, z);
       listeners_out =
           let x = first.listeners_out in let y = second.out in let z = ap length ts ∙ length-map c.args.server.now.listeners (λ w. w.port) in omega (arith, x, y, z);
+      calls = second.calls ∙ first.calls;
+      unfailed = second.unfailed ∙ first.unfailed;
       later = let x = first.later in let y = second.later in omega (arith, x, y);
       raised = all_raised _ _ _
           (λ any. first.raised (subst (λ (l : List g.row.H-Udp.Denot). AnyFault (λ port. (g.H.Udp.UdpPort.told port).faults) l) (sym us) any))

@@ -19,4 +19,5 @@ returns-clause-ends g c =
     book_served g.K.Keeper.keeper g.H.Udp.UdpPort.told g.H.Connections.Crowd.told c.args.access.now (g.H.CrowdHub.told c.args.hub.now) (g.H.CrowdHub.told c.open.new.self)
     (g.H.CrowdHub.told c.serve_ports.new.hub) (around g.E.Source.source.told c.args.until.now c.serve_ports.new.until) c.args.places.now c.args.book c.serve_ports.result.book
     c.in-Ok-new-2.shared.0.terms c.seats.result c.in-Ok-open.ports c.serve_ports.result.answer
-    c.in-Ok-new-2.ensures.terms c.seats.ensures c.in-Ok-open.ensures.told c.serve_ports.ensures.unopened c.serve_ports.ensures.served
+    c.in-Ok-new-2.ensures.terms c.seats.ensures c.in-Ok-open.ensures.told c.serve_ports.ensures.unopened
+    c.serve_ports.ensures.none_made c.serve_ports.ensures.none_failed c.serve_ports.ensures.served
