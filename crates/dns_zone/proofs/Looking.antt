@@ -1,6 +1,6 @@
 -- What a look finds in the sets of a name is what it finds in the zone's list.
-use Rattle.std.proofs.Common.{◌≡◌, ℕ, ◌+◌, ◌-◌, ◌<◌, ◌≤◌, List, [], ◌∷◌, ◌++◌, length, drop, map, refl, sym, ap, ◌∙◌, arith, Bool, true, false, if◌then◌else◌}
-use Rattle.std.specs.Prelude.{None, Some, Option, ◌==◌, ◌||◌}
+use Rattle.std.proofs.Common.{◌≡◌, ℕ, ◌+◌, ◌-◌, ◌<◌, ◌≤◌, List, [], ◌∷◌, ◌++◌, length, drop, map, suc, slice_get, refl, sym, ap, subst, ◌∙◌, arith, Bool, true, false, if◌then◌else◌}
+use Rattle.std.specs.Prelude.{None, Some, Option, IfSome, ◌==◌, ◌||◌}
 use Rattle.std.specs.List.{AllByRecursion}
 use Rattle.std.proofs.lemmas.Bool.Decides.{Decides-eqb}
 use Rattle.std.proofs.lemmas.List.{map-append, append-nil}
@@ -15,7 +15,7 @@ use Rattle.dns_zone.specs.declared.look.Look.{Look}
 use Rattle.dns_zone.specs.declared.look.Look.TheVariants.{Alias, NoData}
 use Rattle.dns_wire.specs.Given.{given}
 use Rattle.dns_zone.specs.Look.{Owner, found_set, found_from, found_all, found_or_none, alias_of, first_of, look_at, alias_or, star_under, wildcard_under}
-use Rattle.dns_zone.specs.Lent.{TypesFit, alias_in, found_in, look_in}
+use Rattle.dns_zone.specs.Lent.{LastTypeFits, alias_in, found_in, look_in}
 use Rattle.dns_zone_map.proofs.Owned.{set_is, not_equal, of_first, of_more, all_next, all_least}
 use Rattle.dns_zone.proofs.AllTypes.{found-next, found-end}
 use Rattle.dns_zone.proofs.Owned.{sets_exist}
@@ -36,6 +36,20 @@ of_less : (rtype : ℕ) (s : RecordSet) (sets : List RecordSet) → rtype < s.rt
 of_less rtype s sets less above =
     let other : (s.rtype == rtype) ≡ false = not_equal s.rtype rtype (λ same. omega (arith, less, same)) in
     rw (other, absent rtype sets (all_above rtype s.rtype sets (omega arith) above)) refl
+
+-- types are numbers of 16 bits (RFC 1035 3.2.2)
+abbrev TypesFit : List RecordSet → Type 0
+TypesFit = AllByRecursion (λ s. s.rtype < 65536)
+
+-- where types rise, and the last fits, all fit
+all_fit : (sets : List RecordSet) → TypesRise sets → LastTypeFits sets → TypesFit sets
+all_fit [] rise fit = tt
+all_fit (s ∷ []) rise fit = (fit, tt)
+all_fit (s ∷ t ∷ sets) rise fit =
+    let place : length (s ∷ t ∷ sets) - 1 ≡ suc (length (t ∷ sets) - 1) = omega (arith) in
+    let last : LastTypeFits (t ∷ sets) = subst (λ k. IfSome (slice_get (s ∷ t ∷ sets) k) (λ u. u.rtype < 65536)) place fit in
+    let others : TypesFit (t ∷ sets) = all_fit (t ∷ sets) rise.1 last in
+    (omega (arith, rise.0.0, others.0), others)
 
 -- the records of all types, from one on, are those of the sets
 module _ (records : List Record) (owner : Owner) where
@@ -63,13 +77,13 @@ module _ (records : List Record) (name : List (List ℕ)) (sets : List RecordSet
   alias_is rtype =
       ap (λ (rs : List Record). if (rtype == 5) || (rtype == 255) then None else first_of (map (given owner) rs)) (sym (set_is records name sets 5 own))
 
-  found_by : (any : Bool) (rtype : ℕ) → (rtype == 255) ≡ any → (rtype ≡ 255 → TypesFit sets) → map (given owner) (if any then in_all sets else of_type sets rtype) ≡ (if any then found_all records who else found_set records who rtype)
+  found_by : (any : Bool) (rtype : ℕ) → (rtype == 255) ≡ any → (rtype ≡ 255 → LastTypeFits sets) → map (given owner) (if any then in_all sets else of_type sets rtype) ≡ (if any then found_all records who else found_set records who rtype)
   found_by true rtype is fit =
-      all_from records who 0 sets (omega arith) own.rising (fit ((Decides-eqb rtype 255).0 is)) (all_least sets) (λ t from. set_is records name sets t own)
+      all_from records who 0 sets (omega arith) own.rising (all_fit sets own.rising (fit ((Decides-eqb rtype 255).0 is))) (all_least sets) (λ t from. set_is records name sets t own)
   found_by false rtype is fit = ap (λ (rs : List Record). map (given owner) rs) (sym (set_is records name sets rtype own))
 
   -- a look at the sets of a name is a look at the zone's list
-  pub look_in_is : (rtype : ℕ) → (rtype ≡ 255 → TypesFit sets) → look_in sets owner rtype ≡ look_at records (Some who) rtype
+  pub look_in_is : (rtype : ℕ) → (rtype ≡ 255 → LastTypeFits sets) → look_in sets owner rtype ≡ look_at records (Some who) rtype
   unfolding look_in
   look_in_is rtype fit = rw (alias_is rtype, found_by (rtype == 255) rtype refl fit) refl
 
@@ -88,7 +102,7 @@ module _ (records : List Record) (name : List (List ℕ)) (k rtype : ℕ) where
   star = star_under (drop k name)
 
   -- a look at the wildcard under the closest encloser
-  pub at_star : (sets : List RecordSet) → AreSetsOf records star sets → 0 < length sets → (rtype ≡ 255 → TypesFit sets)
+  pub at_star : (sets : List RecordSet) → AreSetsOf records star sets → 0 < length sets → (rtype ≡ 255 → LastTypeFits sets)
       → look_in sets (Some (fold_of name)) rtype ≡ look_at records (wildcard_under records name (Some (drop k name))) rtype
   at_star sets own some fit =
       look_in_is records star sets (Some (fold_of name)) own rtype fit ∙ rw (sets_exist records star sets own some) refl

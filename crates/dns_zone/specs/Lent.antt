@@ -1,6 +1,6 @@
 -- What the sets that a name owns give to a look: what `look_at` finds in the zone's list, it finds in them.
-use Rattle.std.specs.Prelude.{ℕ, ◌<◌, ◌==◌, ◌||◌, if◌then◌else◌, List, map, Option, None}
-use Rattle.std.specs.List.{AllByRecursion}
+use Rattle.std.specs.Prelude.{ℕ, ◌-◌, ◌<◌, ◌==◌, ◌||◌, if◌then◌else◌, List, length, map, Option, None, IfSome}
+use Rattle.std.specs.List.{slice_get}
 use Rattle.dns_wire.specs.declared.record.Record.{Record}
 use Rattle.dns_wire.specs.declared.record_type.TheConstants.{CNAME, ANY}
 use Rattle.dns_zone_map.specs.declared.sets.RecordSet.{RecordSet}
@@ -21,6 +21,6 @@ found_in sets owner rtype = map (given owner) (if rtype == ANY then in_all sets 
 unfoldable pub look_in : List RecordSet → Option (List (List ℕ)) → ℕ → Look
 look_in sets owner rtype = alias_or (alias_in sets owner rtype) (found_in sets owner rtype)
 
--- types are numbers of 16 bits (RFC 1035 3.2.2)
-abbrev pub TypesFit : List RecordSet → Type 0
-TypesFit = AllByRecursion (λ s. s.rtype < 65536)
+-- the type of the last set is a number of 16 bits (RFC 1035 3.2.2)
+abbrev pub LastTypeFits : List RecordSet → Type 0
+LastTypeFits sets = IfSome (slice_get sets (length sets - 1)) (λ s. s.rtype < 65536)

@@ -134,7 +134,8 @@ pub record IsNearest (test : List (List ℕ) → Bool) (name near : List (List �
   pub above : name ≡ front ++ near
   pub strictly : length near < length name
   pub passes : test near ≡ true
-  pub most : (others more : List (List ℕ)) → name ≡ others ++ more → length more < length name → test more ≡ true → length more ≤ length near
+  pub most : (others more : List (List ℕ)) → name ≡ others ++ more
+      → length more < length name → test more ≡ true → length more ≤ length near
 
 -- the test fails at the name and at all names above it
 abbrev pub PassesNowhere : (List (List ℕ) → Bool) → List (List ℕ) → Type 0

@@ -20,7 +20,8 @@ zone_after zone batch = record { origin = zone.origin; records = applied zone.or
 
 -- the records of a batch came to the rows of a keeper
 abbrev pub GrowsBy : {K : Type 0} → KeeperOf K → K → K → ℕ → ℕ → Batch → Type 0
-GrowsBy keeper old new client moment batch = GrowsByBatch (keeper.told old).rows (keeper.told new).rows client batch.serial moment batch.records
+GrowsBy keeper old new client moment batch =
+    GrowsByBatch (keeper.told old).rows (keeper.told new).rows client batch.serial moment batch.records
 
 -- and where there are any, the batch to its batches
 abbrev pub GrowsRun : {K : Type 0} → KeeperOf K → K → K → Batch → Type 0

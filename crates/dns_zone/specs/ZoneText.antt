@@ -76,7 +76,8 @@ unfoldable pub finished : List Record → Result (List Record) ZoneTextFault
 finished records = if list_any (is_type SOA) records then Ok records else Err (Refused 0 NotOneSoa)
 
 -- what comes after a line: the records go on, or the line and why it is refused
-abbrev pub after_line : ℕ → Result (List Record) ZoneTextKind → (List Record → Result (List Record) ZoneTextFault) → Result (List Record) ZoneTextFault
+abbrev pub after_line : ℕ → Result (List Record) ZoneTextKind
+    → (List Record → Result (List Record) ZoneTextFault) → Result (List Record) ZoneTextFault
 after_line number (Ok records) more = more records
 after_line number (Err kind) more = Err (Refused number kind)
 

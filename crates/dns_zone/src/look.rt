@@ -8,7 +8,7 @@ ghost use Rattle.dns_zone_map.specs.Sets.{sets_or_none};
 ghost use Rattle.dns_zone_map.specs.Zone.{IsZone};
 ghost use Rattle.dns_wire.specs.declared.record_type.TheConstants.{ANY};
 ghost use Rattle.dns_zone.specs.Look.{found_or_none, look_at, look_of, wildcard_under};
-ghost use Rattle.dns_zone.specs.Lent.{alias_in, look_in, TypesFit};
+ghost use Rattle.dns_zone.specs.Lent.{alias_in, look_in, LastTypeFits};
 
 use crate::descent::{Descent, descend};
 use crate::lent::{LentRecord, LentSets};
@@ -105,7 +105,7 @@ fn look_at_star<'a>(
 #[tactic(auto, unfolding(crate::specs::Lent::look_in))]
 fn look_at<'a>(sets: Option<&'a OwnerSets>, asked: Option<NameView<'a>>, rtype: u16) -> Look<'a>
     ensures is { result ≡ look_in (sets_or_none (option_copied sets.entry)) (option_map fold_of asked.entry) rtype }
-    ensures types { rtype ≡ ANY → TypesFit (sets_or_none (option_copied sets.entry)) }
+    ensures types { rtype ≡ ANY → LastTypeFits (sets_or_none (option_copied sets.entry)) }
 {
     match sets {
         None => Look::NoData,
@@ -117,7 +117,7 @@ fn look_at<'a>(sets: Option<&'a OwnerSets>, asked: Option<NameView<'a>>, rtype: 
 #[tactic(auto, unfolding(crate::specs::Lent::look_in))]
 fn look_in<'a>(sets: &'a OwnerSets, asked: Option<NameView<'a>>, rtype: u16) -> Look<'a>
     ensures is { result ≡ look_in sets.now (option_map fold_of asked.entry) rtype }
-    ensures types { rtype ≡ ANY → TypesFit sets.now }
+    ensures types { rtype ≡ ANY → LastTypeFits sets.now }
 {
     if let Some(alias) = alias_in(sets, rtype) {
         return Look::Alias(LentRecord::new(alias, asked));
@@ -131,23 +131,16 @@ fn look_in<'a>(sets: &'a OwnerSets, asked: Option<NameView<'a>>, rtype: u16) -> 
     }
 }
 
-/// All sets.
+/// All sets. The type of the last is read, which is thus known to be a number of 16 bits; no other is greater.
 fn all_of(sets: &OwnerSets) -> &[RecordSet]
     ensures is { result.now ≡ sets.now }
-    ensures types { TypesFit sets.now }
+    ensures types { LastTypeFits sets.now }
 {
     let all = sets.as_slice();
-    read_types(all);
-    all
-}
-
-/// Reads the types of sets, which are thus known to be numbers of 16 bits.
-fn read_types(sets: &[RecordSet])
-    ensures { TypesFit sets.now }
-{
-    for set in sets {
-        let _rtype = set.rtype();
+    if let Some(last) = all.last() {
+        let _rtype = last.rtype();
     }
+    all
 }
 
 /// The alias that answers, unless CNAME or ANY was asked.

@@ -148,7 +148,8 @@ fn follow<'a>(
     answer: &mut Answer<'a>,
 ) -> Result<(), OutOfMemory>
     ensures is { OnOk result (record { code = answer.new.code; answers = answer.new.answers; authority = answer.new.authority }
-        ≡ ahead aliases.entry.items (followed more zone.now question.now.qtype (asked_along question.now.name aliases.entry.items) last.entry)) }
+        ≡ ahead aliases.entry.items (followed more zone.now question.now.qtype
+        (asked_along question.now.name aliases.entry.items) last.entry)) }
     ensures own { OnOk result (answer.new.aa ≡ true) }
     ensures code { OnOk result (answer.new.code ≤ 3) }
 {

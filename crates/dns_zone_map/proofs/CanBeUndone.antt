@@ -213,7 +213,7 @@ record Opened (es after : Entries) (was is : List FormerSets) (key : List ℕ) :
   before : OwnsSame (restored was es) (restored is after)
   present : ArePresent is after
 
-module _ (es after : Entries) (was is : List FormerSets) (key : List ℕ) (apart : KeysApart es) (here : ArePresent was es) (k : KeptLast key es was after is) where
+module _ (es after : Entries) (was is : List FormerSets) (key : List ℕ) (here : ArePresent was es) (k : KeptLast key es was after is) where
   in_after : HasName key es after → AllByRecursion (λ f. list_any (λ (e : Entry). is_key f.key.items e.0) after ≡ true) was × (list_any (λ (e : Entry). is_key k.last.key.items e.0) after ≡ true)
   in_after (inl h) = (
     subst (ArePresent was) (sym h.2) here,
@@ -234,7 +234,7 @@ module _ (es after : Entries) (was is : List FormerSets) (key : List ℕ) (apart
       let sets : k.last.sets ≡ h.0 = k.sets ∙ ap sets_or_none h.1 in
       let at : lookup (is_key k.last.key.items) es ≡ Some h.0 = ap (λ (z : List ℕ). lookup (is_key z) es) k.keyed ∙ h.1 in
       swept_none (restored was es) (restored is after)
-      (ap (restored is) h.2 ∙ ap (λ (fs : List FormerSets). restored fs es) k.more ∙ restored_same was k.last es h.0 apart at sets)
+      (ap (restored is) h.2 ∙ ap (λ (fs : List FormerSets). restored fs es) k.more ∙ restored_same was k.last es h.0 k.apart at sets)
   former_owns (inr h) =
       let none : k.last.sets ≡ [] = k.sets ∙ ap sets_or_none h.0 in
       subst (λ (fs : List FormerSets). OwnsSame (restored was es) (restored fs after)) (sym k.more) (added_restored was k.last es after key k.keyed h.0 h.1 here none)
@@ -260,9 +260,9 @@ covers_present : (fs : List FormerSets) (key : List ℕ) (es : Entries) → cove
 covers_present [] key es h p = absurd cc
 covers_present (f ∷ fs) key es h p = covers_if (bytes_eq f.key.items key) f fs key es refl h p.0 (λ t. covers_present fs key es t p.1)
 
-opened : (es after : Entries) (was is : List FormerSets) (key : List ℕ) → KeysApart es → ArePresent was es → IsKeptIn key es was after is → Opened es after was is key
-opened es after was is key apart here (inl k) = opened_last es after was is key apart here k
-opened es after was is key apart here (inr k) = record {
+opened : (es after : Entries) (was is : List FormerSets) (key : List ℕ) → ArePresent was es → IsKeptIn key es was after is → Opened es after was is key
+opened es after was is key here (inl k) = opened_last es after was is key here k
+opened es after was is key here (inr k) = record {
   covered = ap (λ (fs : List FormerSets). covers fs key) k.log ∙ k.covered;
   stands = ap (list_any (λ (e : Entry). is_key key e.0)) k.same ∙ covers_present was key es k.covered here;
   owns = swept_none es after k.same;
@@ -271,26 +271,26 @@ opened es after was is key apart here (inr k) = record {
 }
 
 -- what a change of that name leaves can be undone, back to what stood before
-module _ (origin : List (List ℕ)) (key : List ℕ) (es between after : Entries) (apart : KeysApart es) where
+module _ (origin : List (List ℕ)) (key : List ℕ) (es between after : Entries) where
   pub still_before : (was is : Option Undoing) → IfSome was (CanUndo origin es) → IsKept key es was between is → IfSome is (λ (u : Undoing). blanked key after ≡ blanked key between) → before_of is after ≡ before_of was es
   still_before None is h k same = ap (λ (u : Option Undoing). before_of u after) k.1
   still_before (Some was) None h k same = absurd k
   still_before (Some was) (Some is) h k same =
-      let covers_it : covers is.formers.items key ≡ true = (opened es between was.formers.items is.formers.items key apart h.present k.0).covered in
+      let covers_it : covers is.formers.items key ≡ true = (opened es between was.formers.items is.formers.items key h.present k.0).covered in
       let stays : restored is.formers.items after ≡ restored is.formers.items between =
       sym (restored_blanked is.formers.items key after covers_it) ∙ ap (restored is.formers.items) same ∙ restored_blanked is.formers.items key between covers_it in
-      ap (λ (gs : Entries). Some (list_of (in_entries gs))) stays ∙ ap (λ xs. Some (list_of xs)) (opened es between was.formers.items is.formers.items key apart h.present k.0).before.same
+      ap (λ (gs : Entries). Some (list_of (in_entries gs))) stays ∙ ap (λ xs. Some (list_of xs)) (opened es between was.formers.items is.formers.items key h.present k.0).before.same
 
   pub still_undo : (was is : Option Undoing) → IfSome was (CanUndo origin es) → IsKept key es was between is → IfSome is (λ (u : Undoing). blanked key after ≡ blanked key between) → IfSome is (CanUndo origin after)
   still_undo None is h k same = subst (λ (u : Option Undoing). IfSome u (CanUndo origin after)) (sym k.1) tt
   still_undo (Some was) None h k same = absurd k
   still_undo (Some was) (Some is) h k same =
-      let covers_it : covers is.formers.items key ≡ true = (opened es between was.formers.items is.formers.items key apart h.present k.0).covered in
+      let covers_it : covers is.formers.items key ≡ true = (opened es between was.formers.items is.formers.items key h.present k.0).covered in
       let stays : restored is.formers.items after ≡ restored is.formers.items between =
       sym (restored_blanked is.formers.items key after covers_it) ∙ ap (restored is.formers.items) same ∙ restored_blanked is.formers.items key between covers_it in
-      let tree : IsTree origin (restored is.formers.items between) was.next was.count = swept_tree origin (restored was.formers.items es) (restored is.formers.items between) was.next was.count (opened es between was.formers.items is.formers.items key apart h.present k.0).before h.tree in
+      let tree : IsTree origin (restored is.formers.items between) was.next was.count = swept_tree origin (restored was.formers.items es) (restored is.formers.items between) was.next was.count (opened es between was.formers.items is.formers.items key h.present k.0).before h.tree in
       record {
-        present = present_blanked is.formers.items key between after same (opened es between was.formers.items is.formers.items key apart h.present k.0).present;
+        present = present_blanked is.formers.items key between after same (opened es between was.formers.items is.formers.items key h.present k.0).present;
         tree = subst (λ (n : ℕ). IsTree origin (restored is.formers.items after) is.next n) (sym k.2) (subst (λ (n : ℕ). IsTree origin (restored is.formers.items after) n was.count) (sym k.1) (subst (λ (gs : Entries). IsTree origin gs was.next was.count) (sym stays) tree));
       }
 
@@ -298,7 +298,7 @@ module _ (origin : List (List ℕ)) (key : List ℕ) (es between after : Entries
   pub still_owns : (was is : Option Undoing) → IfSome was (CanUndo origin es) → IsKept key es was between is → OwnsSame es between
   still_owns None is h k = swept_none es between k.0
   still_owns (Some was) None h k = absurd k
-  still_owns (Some was) (Some is) h k = (opened es between was.formers.items is.formers.items key apart h.present k.0).owns
+  still_owns (Some was) (Some is) h k = (opened es between was.formers.items is.formers.items key h.present k.0).owns
 
 abbrev pub mapped_of : List (List ℕ) → List Record → Option (List Record) → Mapped
 mapped_of origin records before = record { origin = origin; records = records; before = before }
@@ -326,9 +326,9 @@ pub record MayChange (origin : List (List ℕ)) (key : List ℕ) (between : Entr
   pub same : (after : Entries) → after ≡ between → IsMap origin after next count is
   pub alike : (after : Entries) → after ≡ between → mapped_of origin (list_of (in_entries after)) (before_of is after) ≡ zone
 
-module _ (origin : List (List ℕ)) (key : List ℕ) (es between : Entries) (next count : ℕ) (was is : Option Undoing) (apart : KeysApart es) (tree : IsMap origin es next count was) (k : IsKept key es was between is) where
+module _ (origin : List (List ℕ)) (key : List ℕ) (es between : Entries) (next count : ℕ) (was is : Option Undoing) (tree : IsMap origin es next count was) (k : IsKept key es was between is) where
   owns_kept : OwnsSame es between
-  owns_kept = still_owns origin key es between es apart was is tree.undo k
+  owns_kept = still_owns origin key es between es was is tree.undo k
 
   others_if : (after : Entries) (u v : Option Undoing) → IsKept key es u between v → IfSome u (CanUndo origin es) → (IsSome (lookup (is_key key) between) → blanked key after ≡ blanked key between) → IfSome v (λ (w : Undoing). blanked key after ≡ blanked key between)
   others_if after u None kept can others = tt
@@ -336,13 +336,13 @@ module _ (origin : List (List ℕ)) (key : List ℕ) (es between : Entries) (nex
     where
       none_some : Some v ≡ None → ⊥
       none_some h = absurd cc
-  others_if after (Some u) (Some v) kept can others = others (is_found key between (opened es between u.formers.items v.formers.items key apart can.present kept.0).stands)
+  others_if after (Some u) (Some v) kept can others = others (is_found key between (opened es between u.formers.items v.formers.items key can.present kept.0).stands)
 
   undo_changed : (after : Entries) → (IsSome (lookup (is_key key) between) → blanked key after ≡ blanked key between) → IfSome is (CanUndo origin after)
-  undo_changed after others = still_undo origin key es between after apart was is tree.undo k (others_if after was is k tree.undo others)
+  undo_changed after others = still_undo origin key es between after was is tree.undo k (others_if after was is k tree.undo others)
 
   before_changed : (after : Entries) → (IsSome (lookup (is_key key) between) → blanked key after ≡ blanked key between) → before_of is after ≡ before_of was es
-  before_changed after others = still_before origin key es between after apart was is tree.undo k (others_if after was is k tree.undo others)
+  before_changed after others = still_before origin key es between after was is tree.undo k (others_if after was is k tree.undo others)
 
   tree_kept : IsTree origin between next count
   tree_kept = swept_tree origin es between next count owns_kept tree.tree

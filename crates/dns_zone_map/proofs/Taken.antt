@@ -217,9 +217,6 @@ module _ (origin name : List (List ℕ)) (rtype : ℕ) (es : Entries) (next coun
   same_records : list_of (in_entries es) ≡ zone.records
   same_records = ap (λ z. z.records) view
 
-  pub rising_all : AllByRecursion (λ e. TypesRise e.1) es
-  rising_all = all_to (λ e. AreSets origin e.0.items e.1) (λ e. TypesRise e.1) (λ e p. p.rise) es tree.each
-
   module _ (fs : Entries) (key : List ℕ) (keyed : key ≡ key_of origin name) where
     -- there was none
     pub none_there : IsTakenFrom key rtype es fs None → None ≡ some_of (set_of zone.records name rtype)

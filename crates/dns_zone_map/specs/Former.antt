@@ -9,7 +9,7 @@ use Rattle.dns_zone_map.specs.declared.former.FormerSets.{FormerSets}
 use Rattle.dns_wire.specs.declared.record.Record.{Record}
 use Rattle.dns_zone_map.specs.declared.former.Undoing.{Undoing}
 use Rattle.dns_zone_map.specs.Order.{list_of}
-use Rattle.dns_zone_map.specs.Tree.{in_entries, IsTree}
+use Rattle.dns_zone_map.specs.Tree.{in_entries, IsTree, KeysApart}
 use Rattle.dns_zone_map.specs.Sets.{sets_or_none}
 use Rattle.dns_zone_map.specs.Insertion.{IsAdded}
 use Rattle.dns_zone_map.specs.Removal.{is_key}
@@ -54,13 +54,14 @@ blanked key = map (λ e. if is_key key e.0 then (e.0, []) else e)
 abbrev pub HasName : List ℕ → List (Vec ℕ Global × List RecordSet) → List (Vec ℕ Global × List RecordSet) → Type 0
 HasName key before after = ((sets : List RecordSet) × (lookup (is_key key) before ≡ Some sets) × (after ≡ before)) ⊎ ((lookup (is_key key) before ≡ None) × IsAdded key [] before after)
 
--- what the name with this key owns was kept last, and the map has the name
+-- what the name with this key owns was kept last, and the map, in which no key stands twice, has the name
 pub record KeptLast (key : List ℕ) (before : List (Vec ℕ Global × List RecordSet)) (was : List FormerSets) (after : List (Vec ℕ Global × List RecordSet)) (is : List FormerSets) : Type 0 where
   pub last : FormerSets
   pub more : is ≡ was ++ last ∷ []
   pub keyed : last.key.items ≡ key
   pub sets : last.sets ≡ sets_or_none (lookup (is_key key) before)
   pub here : HasName key before after
+  pub apart : KeysApart before
 
 -- sets were kept of the name before, and nothing changes
 pub record KeptBefore (key : List ℕ) (before : List (Vec ℕ Global × List RecordSet)) (was : List FormerSets) (after : List (Vec ℕ Global × List RecordSet)) (is : List FormerSets) : Type 0 where

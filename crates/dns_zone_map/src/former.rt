@@ -41,17 +41,11 @@ pub(crate) fn keep_former(
     ensures ok { OnOk result (IsKept key.now names.old undoing.old names.new undoing.new) }
     ensures err_names { OnErr result (names.new ≡ names.old) }
     ensures err_undoing { OnErr result (IsSameUndoing undoing.old undoing.new) }
-    // No key stands twice among the names.
-    ensures apart { KeysApart names.old }
-    ensures still_apart { KeysApart names.new }
 {
-    let _apart = names.tree_count();
-    let kept = match undoing {
+    match undoing {
         None => Ok(()),
         Some(undoing) => keep_in(alloc, names, &mut undoing.formers, key),
-    };
-    let _still_apart = names.tree_count();
-    kept
+    }
 }
 
 /// Keeps what the name with this key owns, unless something was kept of it before.
@@ -129,6 +123,7 @@ pub(crate) fn former_sets(
 ) -> Result<FormerSets, OutOfMemory>
     ensures key { IfOk result (λ former. former.key.items ≡ key.now) }
     ensures sets { IfOk result (λ former. former.sets ≡ sets_or_none (lookup (is_key key.now) names.now)) }
+    ensures apart { IfOk result (λ _. KeysApart names.now) }
 {
     let mut stored = Vec::with_capacity(alloc, key.len())?;
     stored.extend_from_slice(key)?;
@@ -142,6 +137,7 @@ pub(crate) fn former_sets(
 fn put_back(names: &mut Names, former: &mut FormerSets)
     ensures names { names.new ≡ set_value (is_key former.old.key.items) names.old former.old.sets }
     ensures key { former.new.key ≡ former.old.key }
+    ensures apart { KeysApart names.old }
 {
     names.swap_sets(former.key.as_slice(), &mut former.sets);
 }
@@ -153,6 +149,7 @@ fn put_back_at(names: &mut Names, formers: &mut Vec<FormerSets>, place: usize)
         (is_key (slice_index_or formers.old.items place d).key.items) names.old (slice_index_or formers.old.items place d).sets }
     ensures before { take place formers.new.items ≡ take place formers.old.items }
     ensures long { length formers.new.items ≡ length formers.old.items }
+    ensures apart { KeysApart names.old }
 {
     let former = &mut formers[place];
     put_back(names, former)
@@ -166,7 +163,6 @@ pub(crate) fn put_all_back(names: &mut Names, formers: &mut Vec<FormerSets>)
     let mut left = formers.len();
     while left > 0 {
         left -= 1;
-        let _apart = names.tree_count();
         put_back_at(names, formers, left);
     }
 }

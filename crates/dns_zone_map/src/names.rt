@@ -72,13 +72,6 @@ impl Names {
         Ok(Names { trees })
     }
 
-    /// How many trees there are. No key stands twice in them.
-    pub(crate) fn tree_count(&self) -> usize
-        ensures { KeysApart self.now }
-    {
-        self.trees.len()
-    }
-
     /// The trees.
     pub(crate) fn trees(&self) -> &[Tree]
         ensures { all_in result.now ≡ self.now }
@@ -98,7 +91,8 @@ impl Names {
 
     /// A copy of the sets of the name with this key; none where there is no such name.
     pub(crate) fn copied_sets(&self, alloc: Global, key: &[u8]) -> Result<OwnerSets, OutOfMemory>
-        ensures { IfOk result (λ sets. sets ≡ sets_or_none (lookup (is_key key.now) self.now)) }
+        ensures sets { IfOk result (λ sets. sets ≡ sets_or_none (lookup (is_key key.now) self.now)) }
+        ensures apart { KeysApart self.now }
     {
         let place = place_of(self.trees.len(), key);
         tree::copied_sets(alloc, &self.trees[place], key)
@@ -126,6 +120,7 @@ impl Names {
         ensures put { IfOk result (λ old. PutUnder key.now number one self.old self.new old) }
         ensures others { IsSome (lookup (is_key key.now) self.old) → blanked key.now self.new ≡ blanked key.now self.old }
         ensures err { OnErr result (self.new ≡ self.old) }
+        ensures apart { KeysApart self.old }
     {
         let place = place_of(self.trees.len(), key);
         let tree = &mut self.trees[place];
@@ -145,6 +140,7 @@ impl Names {
         ensures put { IfOk result (IsPutAt key.now number one self.old self.new) }
         ensures others { IsSome (lookup (is_key key.now) self.old) → blanked key.now self.new ≡ blanked key.now self.old }
         ensures err { OnErr result (self.new ≡ self.old) }
+        ensures apart { KeysApart self.old }
     {
         let place = place_of(self.trees.len(), key);
         let tree = &mut self.trees[place];
@@ -156,6 +152,7 @@ impl Names {
         requires { AllByRecursion (λ e. TypesRise e.1) self.old }
         ensures is { IsTakenFrom key.now rtype self.old self.new result }
         ensures others { blanked key.now self.new ≡ blanked key.now self.old }
+        ensures apart { KeysApart self.old }
     {
         let place = place_of(self.trees.len(), key);
         let tree = &mut self.trees[place];
@@ -166,6 +163,7 @@ impl Names {
     pub(crate) fn clear_from(&mut self, alloc: Global, key: &[u8]) -> Option<OwnerSets>
         ensures is { IsClearedFrom key.now self.old self.new result }
         ensures others { blanked key.now self.new ≡ blanked key.now self.old }
+        ensures apart { KeysApart self.old }
     {
         let place = place_of(self.trees.len(), key);
         let tree = &mut self.trees[place];
@@ -179,6 +177,7 @@ impl Names {
         requires few { length (in_entries self.old) < 2 ^ 64 }
         ensures is { IsFreedFrom key.now self.old self.new result }
         ensures others { blanked key.now self.new ≡ blanked key.now self.old }
+        ensures apart { KeysApart self.old }
     {
         let place = place_of(self.trees.len(), key);
         let tree = &mut self.trees[place];
@@ -191,6 +190,7 @@ impl Names {
         requires paired { AllByRecursion (λ e. ArePaired e.1) self.old }
         ensures is { IsOneTakenFrom key.now one.now self.old self.new result }
         ensures others { blanked key.now self.new ≡ blanked key.now self.old }
+        ensures apart { KeysApart self.old }
     {
         let place = place_of(self.trees.len(), key);
         let tree = &mut self.trees[place];
@@ -202,6 +202,7 @@ impl Names {
         requires { AllByRecursion (λ e. TypesRise e.1) self.old }
         ensures is { IsSerialSetAt key.now serial self.old self.new }
         ensures others { blanked key.now self.new ≡ blanked key.now self.old }
+        ensures apart { KeysApart self.old }
     {
         let place = place_of(self.trees.len(), key);
         let tree = &mut self.trees[place];
@@ -220,7 +221,8 @@ impl Names {
 
     /// Exchanges the sets of the name with this key for others, where there is such a name. Takes no memory.
     pub(crate) fn swap_sets(&mut self, key: &[u8], sets: &mut OwnerSets)
-        ensures { self.new ≡ set_value (is_key key.now) self.old sets.old }
+        ensures sets { self.new ≡ set_value (is_key key.now) self.old sets.old }
+        ensures apart { KeysApart self.old }
     {
         let place = place_of(self.trees.len(), key);
         let tree = &mut self.trees[place];

@@ -11,5 +11,6 @@ returns-clause-ok c = record {
   more = c.in_ok-push.ensures.items;
   keyed = c.in_ok-former.ensures.key;
   sets = c.in_ok-former.ensures.sets;
+  apart = c.in_ok-former.ensures.apart;
   here = no_error c.add_missing.result (sym c.is_err.ensures.value ∙ c.if-is_err.false) c.add_missing.ensures.ok;
 }

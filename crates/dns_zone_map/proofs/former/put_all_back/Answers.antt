@@ -10,7 +10,7 @@ loop-left-preserved c =
     record {
       within = omega (arith, was.invariant.within, c.put_back_at.ensures.long);
       same =
-          next_back was.formers.items c.put_back_at.new.formers.items was.names c.put_back_at.new.names (was.left - 1) was.left (omega (arith, some)) was.invariant.within c.tree_count-apart.ensures
+          next_back was.formers.items c.put_back_at.new.formers.items was.names c.put_back_at.new.names (was.left - 1) was.left (omega (arith, some)) was.invariant.within c.put_back_at.ensures.apart
           c.put_back_at.ensures.names c.put_back_at.ensures.before
           ∙ was.invariant.same;
     }

@@ -1,5 +1,6 @@
-use Rattle.std.proofs.Common.{rules}
-use Rattle.dns_zone_map.proofs.Table.{found_tree}
+use Rattle.std.proofs.Common.{rules, subst, length}
+use Rattle.dns_zone_map.specs.Tree.{KeysApart}
+use Rattle.dns_zone_map.proofs.Table.{apart_all, found_tree}
 use Rattle.dns_zone_map.proofs.Lifted.{cleared, table_cleared, others}
 use Rattle.dns_zone_map.proofs.names.Names.clear_from.Goals as goal
 
@@ -23,3 +24,6 @@ returns-clause-others c =
     let t = c.index_mut-tree.result.now in
     let p = found_tree ts c.args.key.now c.len.result c.place_of-place.result t c.self.invariant (search rules) c.place_of-place.ensures.is c.place_of-place.ensures.within (search rules) in
     others ts t c.clear_from.new.names c.args.key.now c.place_of-place.result p _ c.self.view_is c.clear_from.ensures.others
+
+pub returns-clause-apart : goal.returns-clause-apart
+returns-clause-apart c = subst KeysApart c.self.view_is (apart_all (length c.self.inside.trees.items) 0 c.self.inside.trees.items c.self.invariant.each)

@@ -1,6 +1,7 @@
-use Rattle.std.proofs.Common.{rules, arith}
+use Rattle.std.proofs.Common.{rules, arith, subst, length}
 use Rattle.dns_zone_map.specs.Sets.{ArePaired}
-use Rattle.dns_zone_map.proofs.Table.{found_tree}
+use Rattle.dns_zone_map.specs.Tree.{KeysApart}
+use Rattle.dns_zone_map.proofs.Table.{apart_all, found_tree}
 use Rattle.dns_zone_map.proofs.Lifted.{held_by, fewer, freed, table_freed, others}
 use Rattle.dns_zone_map.proofs.names.Names.free_from.Goals as goal
 
@@ -39,3 +40,6 @@ returns-clause-others c =
     let t = c.index_mut-tree.result.now in
     let p = found_tree ts c.args.key.now c.len.result c.place_of-place.result t c.self.invariant (search rules) c.place_of-place.ensures.is c.place_of-place.ensures.within (search rules) in
     others ts t c.free_from.new.names c.args.key.now c.place_of-place.result p _ c.self.view_is c.free_from.ensures.others
+
+pub returns-clause-apart : goal.returns-clause-apart
+returns-clause-apart c = subst KeysApart c.self.view_is (apart_all (length c.self.inside.trees.items) 0 c.self.inside.trees.items c.self.invariant.each)

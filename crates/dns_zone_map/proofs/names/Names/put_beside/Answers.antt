@@ -1,6 +1,7 @@
-use Rattle.std.proofs.Common.{rules}
+use Rattle.std.proofs.Common.{rules, subst, length}
 use Rattle.dns_zone_map.specs.Sets.{TypesRise}
-use Rattle.dns_zone_map.proofs.Table.{found_tree}
+use Rattle.dns_zone_map.specs.Tree.{KeysApart}
+use Rattle.dns_zone_map.proofs.Table.{apart_all, found_tree}
 use Rattle.dns_zone_map.proofs.Lifted.{held_by, beside_ok, same_err, table_beside_ok, others_found}
 use Rattle.dns_zone_map.proofs.names.Names.put_beside.Goals as goal
 
@@ -38,3 +39,6 @@ returns-clause-err c =
     let t = c.index_mut-tree.result.now in
     let p = found_tree ts c.args.key.now c.len.result c.place_of-place.result t c.self.invariant (search rules) c.place_of-place.ensures.is c.place_of-place.ensures.within (search rules) in
     same_err ts t c.put_beside.new.names c.args.key.now c.place_of-place.result p _ c.self.view_is c.put_beside.result c.put_beside.ensures.err
+
+pub returns-clause-apart : goal.returns-clause-apart
+returns-clause-apart c = subst KeysApart c.self.view_is (apart_all (length c.self.inside.trees.items) 0 c.self.inside.trees.items c.self.invariant.each)

@@ -8,7 +8,7 @@ use Rattle.dns_zone_map.proofs.zone_map.ZoneMap.put_beside_next.Goals as goal
 use Rattle.dns_zone_map.proofs.zone_map.ZoneMap.put_beside_next.Goals.{In_ok-keep_former}
 
 between : (c : In_ok-keep_former) → MayChange c.self.inside.origin c.behind-key.result.now c.keep_former.new.names c.self.inside.next c.self.inside.count c.keep_former.new.undoing c.args.self.now
-between c = may_change c.self.inside.origin c.behind-key.result.now c.self.inside.names c.keep_former.new.names c.self.inside.next c.self.inside.count c.self.inside.undoing c.keep_former.new.undoing c.keep_former.ensures.apart c.self.invariant c.in_ok-keep_former.ensures.ok c.args.self.now c.self.view_is
+between c = may_change c.self.inside.origin c.behind-key.result.now c.self.inside.names c.keep_former.new.names c.self.inside.next c.self.inside.count c.self.inside.undoing c.keep_former.new.undoing c.self.invariant c.in_ok-keep_former.ensures.ok c.args.self.now c.self.view_is
 
 pub put_beside-requires : goal.put_beside-requires
 put_beside-requires c =
@@ -33,12 +33,12 @@ returns-in_err-put_beside-clause-err c =
 pub invariant_of-self-in-New : goal.invariant_of-self-in-New
 invariant_of-self-in-New c =
     let m = between (goal.at.invariant_of-self-in-New c).In_ok-keep_former in
-    m.changed c.put_beside.new.self _ _ c.in_ok-put_beside.ensures.others (new_tree c.self.inside.origin c.keep_former.new.names c.self.inside.next c.self.inside.count (contents c.args.self.now) c.args.one m.seen m.tree c.requires.entry c.requires.so_far c.put_beside.new.self c.behind-key.result.now c.keep_former.ensures.still_apart (c.behind-key.ensures ∙ c.write_key-start.ensures.key) (subst (IsPutAt c.behind-key.result.now c.self.inside.next c.args.one c.keep_former.new.names c.put_beside.new.self) c.in-New.is c.in_ok-put_beside.ensures.put))
+    m.changed c.put_beside.new.self _ _ c.in_ok-put_beside.ensures.others (new_tree c.self.inside.origin c.keep_former.new.names c.self.inside.next c.self.inside.count (contents c.args.self.now) c.args.one m.seen m.tree c.requires.entry c.requires.so_far c.put_beside.new.self c.behind-key.result.now c.put_beside.ensures.apart (c.behind-key.ensures ∙ c.write_key-start.ensures.key) (subst (IsPutAt c.behind-key.result.now c.self.inside.next c.args.one c.keep_former.new.names c.put_beside.new.self) c.in-New.is c.in_ok-put_beside.ensures.put))
 
 pub invariant_of-self-in-Replaced : goal.invariant_of-self-in-Replaced
 invariant_of-self-in-Replaced c =
     let m = between (goal.at.invariant_of-self-in-Replaced c).In_ok-keep_former in
-    m.changed c.put_beside.new.self c.self.inside.next c.self.inside.count c.in_ok-put_beside.ensures.others (replaced_tree c.self.inside.origin c.keep_former.new.names c.self.inside.next c.self.inside.count (contents c.args.self.now) c.args.one m.seen m.tree c.requires.entry c.requires.so_far c.put_beside.new.self c.behind-key.result.now c.keep_former.ensures.still_apart (c.behind-key.ensures ∙ c.write_key-start.ensures.key) (subst (IsPutAt c.behind-key.result.now c.self.inside.next c.args.one c.keep_former.new.names c.put_beside.new.self) c.in-Replaced.is c.in_ok-put_beside.ensures.put))
+    m.changed c.put_beside.new.self c.self.inside.next c.self.inside.count c.in_ok-put_beside.ensures.others (replaced_tree c.self.inside.origin c.keep_former.new.names c.self.inside.next c.self.inside.count (contents c.args.self.now) c.args.one m.seen m.tree c.requires.entry c.requires.so_far c.put_beside.new.self c.behind-key.result.now c.put_beside.ensures.apart (c.behind-key.ensures ∙ c.write_key-start.ensures.key) (subst (IsPutAt c.behind-key.result.now c.self.inside.next c.args.one c.keep_former.new.names c.put_beside.new.self) c.in-Replaced.is c.in_ok-put_beside.ensures.put))
 
 pub invariant_of-self-in-Clash : goal.invariant_of-self-in-Clash
 invariant_of-self-in-Clash c =
@@ -48,7 +48,7 @@ invariant_of-self-in-Clash c =
 pub returns-in-New-clause-put : goal.returns-in-New-clause-put
 returns-in-New-clause-put c =
     let m = between (goal.at.returns-in-New-clause-put c).In_ok-keep_former in
-    new_put c.self.inside.origin c.keep_former.new.names c.self.inside.next c.self.inside.count (contents c.args.self.now) c.args.one m.seen m.tree c.requires.entry c.requires.so_far c.put_beside.new.self c.behind-key.result.now c.keep_former.ensures.still_apart (c.behind-key.ensures ∙ c.write_key-start.ensures.key) (subst (IsPutAt c.behind-key.result.now c.self.inside.next c.args.one c.keep_former.new.names c.put_beside.new.self) c.in-New.is c.in_ok-put_beside.ensures.put)
+    new_put c.self.inside.origin c.keep_former.new.names c.self.inside.next c.self.inside.count (contents c.args.self.now) c.args.one m.seen m.tree c.requires.entry c.requires.so_far c.put_beside.new.self c.behind-key.result.now c.put_beside.ensures.apart (c.behind-key.ensures ∙ c.write_key-start.ensures.key) (subst (IsPutAt c.behind-key.result.now c.self.inside.next c.args.one c.keep_former.new.names c.put_beside.new.self) c.in-New.is c.in_ok-put_beside.ensures.put)
 
 pub returns-in-New-clause-before : goal.returns-in-New-clause-before
 returns-in-New-clause-before c =
@@ -58,12 +58,12 @@ returns-in-New-clause-before c =
 pub returns-in-New-clause-so_far : goal.returns-in-New-clause-so_far
 returns-in-New-clause-so_far c =
     let m = between (goal.at.returns-in-New-clause-so_far c).In_ok-keep_former in
-    new_so_far c.self.inside.origin c.keep_former.new.names c.self.inside.next c.self.inside.count (contents c.args.self.now) c.args.one m.seen m.tree c.requires.entry c.requires.so_far c.put_beside.new.self c.behind-key.result.now c.keep_former.ensures.still_apart (c.behind-key.ensures ∙ c.write_key-start.ensures.key) (subst (IsPutAt c.behind-key.result.now c.self.inside.next c.args.one c.keep_former.new.names c.put_beside.new.self) c.in-New.is c.in_ok-put_beside.ensures.put)
+    new_so_far c.self.inside.origin c.keep_former.new.names c.self.inside.next c.self.inside.count (contents c.args.self.now) c.args.one m.seen m.tree c.requires.entry c.requires.so_far c.put_beside.new.self c.behind-key.result.now c.put_beside.ensures.apart (c.behind-key.ensures ∙ c.write_key-start.ensures.key) (subst (IsPutAt c.behind-key.result.now c.self.inside.next c.args.one c.keep_former.new.names c.put_beside.new.self) c.in-New.is c.in_ok-put_beside.ensures.put)
 
 pub returns-in-Replaced-clause-put : goal.returns-in-Replaced-clause-put
 returns-in-Replaced-clause-put c =
     let m = between (goal.at.returns-in-Replaced-clause-put c).In_ok-keep_former in
-    replaced_put c.self.inside.origin c.keep_former.new.names c.self.inside.next c.self.inside.count (contents c.args.self.now) c.args.one m.seen m.tree c.requires.entry c.requires.so_far c.put_beside.new.self c.behind-key.result.now c.keep_former.ensures.still_apart (c.behind-key.ensures ∙ c.write_key-start.ensures.key) (subst (IsPutAt c.behind-key.result.now c.self.inside.next c.args.one c.keep_former.new.names c.put_beside.new.self) c.in-Replaced.is c.in_ok-put_beside.ensures.put)
+    replaced_put c.self.inside.origin c.keep_former.new.names c.self.inside.next c.self.inside.count (contents c.args.self.now) c.args.one m.seen m.tree c.requires.entry c.requires.so_far c.put_beside.new.self c.behind-key.result.now c.put_beside.ensures.apart (c.behind-key.ensures ∙ c.write_key-start.ensures.key) (subst (IsPutAt c.behind-key.result.now c.self.inside.next c.args.one c.keep_former.new.names c.put_beside.new.self) c.in-Replaced.is c.in_ok-put_beside.ensures.put)
 
 pub returns-in-Replaced-clause-before : goal.returns-in-Replaced-clause-before
 returns-in-Replaced-clause-before c =
@@ -73,12 +73,12 @@ returns-in-Replaced-clause-before c =
 pub returns-in-Replaced-clause-so_far : goal.returns-in-Replaced-clause-so_far
 returns-in-Replaced-clause-so_far c =
     let m = between (goal.at.returns-in-Replaced-clause-so_far c).In_ok-keep_former in
-    replaced_so_far c.self.inside.origin c.keep_former.new.names c.self.inside.next c.self.inside.count (contents c.args.self.now) c.args.one m.seen m.tree c.requires.entry c.requires.so_far c.put_beside.new.self c.behind-key.result.now c.keep_former.ensures.still_apart (c.behind-key.ensures ∙ c.write_key-start.ensures.key) (subst (IsPutAt c.behind-key.result.now c.self.inside.next c.args.one c.keep_former.new.names c.put_beside.new.self) c.in-Replaced.is c.in_ok-put_beside.ensures.put)
+    replaced_so_far c.self.inside.origin c.keep_former.new.names c.self.inside.next c.self.inside.count (contents c.args.self.now) c.args.one m.seen m.tree c.requires.entry c.requires.so_far c.put_beside.new.self c.behind-key.result.now c.put_beside.ensures.apart (c.behind-key.ensures ∙ c.write_key-start.ensures.key) (subst (IsPutAt c.behind-key.result.now c.self.inside.next c.args.one c.keep_former.new.names c.put_beside.new.self) c.in-Replaced.is c.in_ok-put_beside.ensures.put)
 
 pub returns-in-Clash-clause-put : goal.returns-in-Clash-clause-put
 returns-in-Clash-clause-put c =
     let m = between (goal.at.returns-in-Clash-clause-put c).In_ok-keep_former in
-    clash_put c.self.inside.origin c.keep_former.new.names c.self.inside.next c.self.inside.count (contents c.args.self.now) c.args.one m.seen m.tree c.requires.entry c.requires.so_far c.put_beside.new.self c.behind-key.result.now c.keep_former.ensures.still_apart (c.behind-key.ensures ∙ c.write_key-start.ensures.key) (subst (IsPutAt c.behind-key.result.now c.self.inside.next c.args.one c.keep_former.new.names c.put_beside.new.self) c.in-Clash.is c.in_ok-put_beside.ensures.put)
+    clash_put c.self.inside.origin c.keep_former.new.names c.self.inside.next c.self.inside.count (contents c.args.self.now) c.args.one m.seen m.tree c.requires.entry c.requires.so_far c.put_beside.new.self c.behind-key.result.now c.put_beside.ensures.apart (c.behind-key.ensures ∙ c.write_key-start.ensures.key) (subst (IsPutAt c.behind-key.result.now c.self.inside.next c.args.one c.keep_former.new.names c.put_beside.new.self) c.in-Clash.is c.in_ok-put_beside.ensures.put)
 
 pub returns-in-Clash-clause-before : goal.returns-in-Clash-clause-before
 returns-in-Clash-clause-before c =

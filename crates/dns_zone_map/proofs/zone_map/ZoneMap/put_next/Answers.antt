@@ -10,7 +10,7 @@ use Rattle.dns_zone_map.proofs.zone_map.ZoneMap.put_next.Goals as goal
 use Rattle.dns_zone_map.proofs.zone_map.ZoneMap.put_next.Goals.{In_err-keep_former, In_ok-keep_former}
 
 between : (c : In_ok-keep_former) → MayChange c.self.inside.origin c.behind-key.result.now c.keep_former.new.names c.self.inside.next c.self.inside.count c.keep_former.new.undoing c.args.self.now
-between c = may_change c.self.inside.origin c.behind-key.result.now c.self.inside.names c.keep_former.new.names c.self.inside.next c.self.inside.count c.self.inside.undoing c.keep_former.new.undoing c.keep_former.ensures.apart c.self.invariant c.in_ok-keep_former.ensures.ok c.args.self.now c.self.view_is
+between c = may_change c.self.inside.origin c.behind-key.result.now c.self.inside.names c.keep_former.new.names c.self.inside.next c.self.inside.count c.self.inside.undoing c.keep_former.new.undoing c.self.invariant c.in_ok-keep_former.ensures.ok c.args.self.now c.self.view_is
 
 failed : (c : In_err-keep_former) → mapped_of c.self.inside.origin (list_of (in_entries c.keep_former.new.names)) (before_of c.keep_former.new.undoing c.keep_former.new.names) ≡ c.args.self.now
 failed c = seen_failed c.self.inside.origin c.self.inside.names c.keep_former.new.names c.in_err-keep_former.ensures.err_names c.self.inside.undoing c.keep_former.new.undoing c.in_err-keep_former.ensures.err_undoing c.args.self.now c.self.view_is
@@ -57,27 +57,27 @@ returns-in_err-old-clause-err c =
 pub invariant_of-self-in-Some : goal.invariant_of-self-in-Some
 invariant_of-self-in-Some c =
     let m = between (goal.at.invariant_of-self-in-Some c).In_ok-keep_former in
-    m.changed c.put_under.new.self c.self.inside.next c.self.inside.count c.in_ok-old.ensures.others (tree_same c.self.inside.origin c.keep_former.new.names c.self.inside.next c.self.inside.count (contents c.args.self.now) c.args.one m.seen m.tree c.requires.entry c.requires.so_far c.put_under.new.self c.behind-key.result.now c.in_ok-old.field-0 c.keep_former.ensures.still_apart (c.behind-key.ensures ∙ c.write_key-start.ensures.key) c.in_ok-old.ensures.put c.in-Some.old c.in-Some.is)
+    m.changed c.put_under.new.self c.self.inside.next c.self.inside.count c.in_ok-old.ensures.others (tree_same c.self.inside.origin c.keep_former.new.names c.self.inside.next c.self.inside.count (contents c.args.self.now) c.args.one m.seen m.tree c.requires.entry c.requires.so_far c.put_under.new.self c.behind-key.result.now c.in_ok-old.field-0 c.put_under.ensures.apart (c.behind-key.ensures ∙ c.write_key-start.ensures.key) c.in_ok-old.ensures.put c.in-Some.old c.in-Some.is)
 
 pub invariant_of-self-in-None : goal.invariant_of-self-in-None
 invariant_of-self-in-None c =
     let m = between (goal.at.invariant_of-self-in-None c).In_ok-keep_former in
-    m.changed c.put_under.new.self _ _ c.in_ok-old.ensures.others (tree_more c.self.inside.origin c.keep_former.new.names c.self.inside.next c.self.inside.count (contents c.args.self.now) c.args.one m.seen m.tree c.requires.entry c.requires.so_far c.put_under.new.self c.behind-key.result.now c.in_ok-old.field-0 c.keep_former.ensures.still_apart (c.behind-key.ensures ∙ c.write_key-start.ensures.key) c.in_ok-old.ensures.put c.in-None.is)
+    m.changed c.put_under.new.self _ _ c.in_ok-old.ensures.others (tree_more c.self.inside.origin c.keep_former.new.names c.self.inside.next c.self.inside.count (contents c.args.self.now) c.args.one m.seen m.tree c.requires.entry c.requires.so_far c.put_under.new.self c.behind-key.result.now c.in_ok-old.field-0 c.put_under.ensures.apart (c.behind-key.ensures ∙ c.write_key-start.ensures.key) c.in_ok-old.ensures.put c.in-None.is)
 
 pub returns-in-Some-clause-records : goal.returns-in-Some-clause-records
 returns-in-Some-clause-records c =
     let m = between (goal.at.returns-in-Some-clause-records c).In_ok-keep_former in
-    records_after c.self.inside.origin c.keep_former.new.names c.self.inside.next c.self.inside.count (contents c.args.self.now) c.args.one m.seen m.tree c.requires.entry c.requires.so_far c.put_under.new.self c.behind-key.result.now c.in_ok-old.field-0 c.keep_former.ensures.still_apart (c.behind-key.ensures ∙ c.write_key-start.ensures.key) c.in_ok-old.ensures.put
+    records_after c.self.inside.origin c.keep_former.new.names c.self.inside.next c.self.inside.count (contents c.args.self.now) c.args.one m.seen m.tree c.requires.entry c.requires.so_far c.put_under.new.self c.behind-key.result.now c.in_ok-old.field-0 c.put_under.ensures.apart (c.behind-key.ensures ∙ c.write_key-start.ensures.key) c.in_ok-old.ensures.put
 
 pub returns-in-Some-clause-replaced : goal.returns-in-Some-clause-replaced
 returns-in-Some-clause-replaced c =
     let m = between (goal.at.returns-in-Some-clause-replaced c).In_ok-keep_former in
-    sym c.in-Some.is ∙ replaced_is c.self.inside.origin c.keep_former.new.names c.self.inside.next c.self.inside.count (contents c.args.self.now) c.args.one m.seen m.tree c.requires.entry c.requires.so_far c.put_under.new.self c.behind-key.result.now c.in_ok-old.field-0 c.keep_former.ensures.still_apart (c.behind-key.ensures ∙ c.write_key-start.ensures.key) c.in_ok-old.ensures.put
+    sym c.in-Some.is ∙ replaced_is c.self.inside.origin c.keep_former.new.names c.self.inside.next c.self.inside.count (contents c.args.self.now) c.args.one m.seen m.tree c.requires.entry c.requires.so_far c.put_under.new.self c.behind-key.result.now c.in_ok-old.field-0 c.put_under.ensures.apart (c.behind-key.ensures ∙ c.write_key-start.ensures.key) c.in_ok-old.ensures.put
 
 pub returns-in-Some-clause-so_far : goal.returns-in-Some-clause-so_far
 returns-in-Some-clause-so_far c =
     let m = between (goal.at.returns-in-Some-clause-so_far c).In_ok-keep_former in
-    so_far_after c.self.inside.origin c.keep_former.new.names c.self.inside.next c.self.inside.count (contents c.args.self.now) c.args.one m.seen m.tree c.requires.entry c.requires.so_far c.put_under.new.self c.behind-key.result.now c.in_ok-old.field-0 c.keep_former.ensures.still_apart (c.behind-key.ensures ∙ c.write_key-start.ensures.key) c.in_ok-old.ensures.put
+    so_far_after c.self.inside.origin c.keep_former.new.names c.self.inside.next c.self.inside.count (contents c.args.self.now) c.args.one m.seen m.tree c.requires.entry c.requires.so_far c.put_under.new.self c.behind-key.result.now c.in_ok-old.field-0 c.put_under.ensures.apart (c.behind-key.ensures ∙ c.write_key-start.ensures.key) c.in_ok-old.ensures.put
 
 pub returns-in-Some-clause-before : goal.returns-in-Some-clause-before
 returns-in-Some-clause-before c =
@@ -87,17 +87,17 @@ returns-in-Some-clause-before c =
 pub returns-in-None-clause-records : goal.returns-in-None-clause-records
 returns-in-None-clause-records c =
     let m = between (goal.at.returns-in-None-clause-records c).In_ok-keep_former in
-    records_after c.self.inside.origin c.keep_former.new.names c.self.inside.next c.self.inside.count (contents c.args.self.now) c.args.one m.seen m.tree c.requires.entry c.requires.so_far c.put_under.new.self c.behind-key.result.now c.in_ok-old.field-0 c.keep_former.ensures.still_apart (c.behind-key.ensures ∙ c.write_key-start.ensures.key) c.in_ok-old.ensures.put
+    records_after c.self.inside.origin c.keep_former.new.names c.self.inside.next c.self.inside.count (contents c.args.self.now) c.args.one m.seen m.tree c.requires.entry c.requires.so_far c.put_under.new.self c.behind-key.result.now c.in_ok-old.field-0 c.put_under.ensures.apart (c.behind-key.ensures ∙ c.write_key-start.ensures.key) c.in_ok-old.ensures.put
 
 pub returns-in-None-clause-replaced : goal.returns-in-None-clause-replaced
 returns-in-None-clause-replaced c =
     let m = between (goal.at.returns-in-None-clause-replaced c).In_ok-keep_former in
-    sym c.in-None.is ∙ replaced_is c.self.inside.origin c.keep_former.new.names c.self.inside.next c.self.inside.count (contents c.args.self.now) c.args.one m.seen m.tree c.requires.entry c.requires.so_far c.put_under.new.self c.behind-key.result.now c.in_ok-old.field-0 c.keep_former.ensures.still_apart (c.behind-key.ensures ∙ c.write_key-start.ensures.key) c.in_ok-old.ensures.put
+    sym c.in-None.is ∙ replaced_is c.self.inside.origin c.keep_former.new.names c.self.inside.next c.self.inside.count (contents c.args.self.now) c.args.one m.seen m.tree c.requires.entry c.requires.so_far c.put_under.new.self c.behind-key.result.now c.in_ok-old.field-0 c.put_under.ensures.apart (c.behind-key.ensures ∙ c.write_key-start.ensures.key) c.in_ok-old.ensures.put
 
 pub returns-in-None-clause-so_far : goal.returns-in-None-clause-so_far
 returns-in-None-clause-so_far c =
     let m = between (goal.at.returns-in-None-clause-so_far c).In_ok-keep_former in
-    so_far_after c.self.inside.origin c.keep_former.new.names c.self.inside.next c.self.inside.count (contents c.args.self.now) c.args.one m.seen m.tree c.requires.entry c.requires.so_far c.put_under.new.self c.behind-key.result.now c.in_ok-old.field-0 c.keep_former.ensures.still_apart (c.behind-key.ensures ∙ c.write_key-start.ensures.key) c.in_ok-old.ensures.put
+    so_far_after c.self.inside.origin c.keep_former.new.names c.self.inside.next c.self.inside.count (contents c.args.self.now) c.args.one m.seen m.tree c.requires.entry c.requires.so_far c.put_under.new.self c.behind-key.result.now c.in_ok-old.field-0 c.put_under.ensures.apart (c.behind-key.ensures ∙ c.write_key-start.ensures.key) c.in_ok-old.ensures.put
 
 pub returns-in-None-clause-before : goal.returns-in-None-clause-before
 returns-in-None-clause-before c =

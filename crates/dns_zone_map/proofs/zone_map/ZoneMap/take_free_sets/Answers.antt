@@ -12,7 +12,7 @@ use Rattle.dns_zone_map.proofs.zone_map.ZoneMap.take_free_sets.Goals as goal
 use Rattle.dns_zone_map.proofs.zone_map.ZoneMap.take_free_sets.Goals.{In_err-keep_former, In_ok-keep_former}
 
 between : (c : In_ok-keep_former) → MayChange c.self.inside.origin [] c.keep_former.new.names c.self.inside.next c.self.inside.count c.keep_former.new.undoing c.args.self.now
-between c = may_change c.self.inside.origin [] c.self.inside.names c.keep_former.new.names c.self.inside.next c.self.inside.count c.self.inside.undoing c.keep_former.new.undoing c.keep_former.ensures.apart c.self.invariant c.in_ok-keep_former.ensures.ok c.args.self.now c.self.view_is
+between c = may_change c.self.inside.origin [] c.self.inside.names c.keep_former.new.names c.self.inside.next c.self.inside.count c.self.inside.undoing c.keep_former.new.undoing c.self.invariant c.in_ok-keep_former.ensures.ok c.args.self.now c.self.view_is
 
 failed : (c : In_err-keep_former) → mapped_of c.self.inside.origin (list_of (in_entries c.keep_former.new.names)) (before_of c.keep_former.new.undoing c.keep_former.new.names) ≡ c.args.self.now
 failed c = seen_failed c.self.inside.origin c.self.inside.names c.keep_former.new.names c.in_err-keep_former.ensures.err_names c.self.inside.undoing c.keep_former.new.undoing c.in_err-keep_former.ensures.err_undoing c.args.self.now c.self.view_is
@@ -40,7 +40,7 @@ free_from-requires-clause-few c =
 pub overflow_sub-self : goal.overflow_sub-self
 overflow_sub-self c =
     let m = between (goal.at.overflow_sub-self c).In_ok-keep_former in
-    freed_few c.self.inside.origin c.keep_former.new.names c.free_from.new.self c.self.inside.next c.self.inside.count (contents c.args.self.now) m.seen m.tree c.keep_former.ensures.still_apart c.in-Some.gone c.in-Some.ensures.is
+    freed_few c.self.inside.origin c.keep_former.new.names c.free_from.new.self c.self.inside.next c.self.inside.count (contents c.args.self.now) m.seen m.tree c.free_from.ensures.apart c.in-Some.gone c.in-Some.ensures.is
 
 pub invariant_of-self-in-None : goal.invariant_of-self-in-None
 invariant_of-self-in-None c =
@@ -50,12 +50,12 @@ invariant_of-self-in-None c =
 pub invariant_of-self-in-Some : goal.invariant_of-self-in-Some
 invariant_of-self-in-Some c =
     let m = between (goal.at.invariant_of-self-in-Some c).In_ok-keep_former in
-    map_swept c.self.inside.origin c.free_from.new.self c.sweep_unless.new.names c.self.inside.next _ c.keep_former.new.undoing c.sweep_unless.ensures.same c.sweep_unless.ensures.stays (m.changed c.free_from.new.self c.self.inside.next _ (λ there. c.in-Some.ensures.others) (freed_tree c.self.inside.origin c.keep_former.new.names c.free_from.new.self c.self.inside.next c.self.inside.count (contents c.args.self.now) m.seen m.tree c.keep_former.ensures.still_apart c.in-Some.gone c.in-Some.ensures.is))
+    map_swept c.self.inside.origin c.free_from.new.self c.sweep_unless.new.names c.self.inside.next _ c.keep_former.new.undoing c.sweep_unless.ensures.same c.sweep_unless.ensures.stays (m.changed c.free_from.new.self c.self.inside.next _ (λ there. c.in-Some.ensures.others) (freed_tree c.self.inside.origin c.keep_former.new.names c.free_from.new.self c.self.inside.next c.self.inside.count (contents c.args.self.now) m.seen m.tree c.free_from.ensures.apart c.in-Some.gone c.in-Some.ensures.is))
 
 pub returns-in-None-clause-records : goal.returns-in-None-clause-records
 returns-in-None-clause-records c =
     let m = between (goal.at.returns-in-None-clause-records c).In_ok-keep_former in
-    none_freed c.self.inside.origin c.keep_former.new.names c.free_from.new.self c.self.inside.next c.self.inside.count (contents c.args.self.now) m.seen m.tree c.keep_former.ensures.still_apart c.in-None.ensures.is
+    none_freed c.self.inside.origin c.keep_former.new.names c.free_from.new.self c.self.inside.next c.self.inside.count (contents c.args.self.now) m.seen m.tree c.free_from.ensures.apart c.in-None.ensures.is
 
 pub returns-in-None-clause-taken : goal.returns-in-None-clause-taken
 returns-in-None-clause-taken c =
@@ -70,12 +70,12 @@ returns-in-None-clause-before c =
 pub returns-in-Some-clause-records : goal.returns-in-Some-clause-records
 returns-in-Some-clause-records c =
     let m = between (goal.at.returns-in-Some-clause-records c).In_ok-keep_former in
-    swept_list c.free_from.new.self c.sweep_unless.new.names c.sweep_unless.ensures.same ∙ freed_left c.self.inside.origin c.keep_former.new.names c.free_from.new.self c.self.inside.next c.self.inside.count (contents c.args.self.now) m.seen m.tree c.keep_former.ensures.still_apart c.in-Some.gone c.in-Some.ensures.is
+    swept_list c.free_from.new.self c.sweep_unless.new.names c.sweep_unless.ensures.same ∙ freed_left c.self.inside.origin c.keep_former.new.names c.free_from.new.self c.self.inside.next c.self.inside.count (contents c.args.self.now) m.seen m.tree c.free_from.ensures.apart c.in-Some.gone c.in-Some.ensures.is
 
 pub returns-in-Some-clause-taken : goal.returns-in-Some-clause-taken
 returns-in-Some-clause-taken c =
     let m = between (goal.at.returns-in-Some-clause-taken c).In_ok-keep_former in
-    ap (λ (rs : List Record). c.in-Some.gone + length rs) (swept_list c.free_from.new.self c.sweep_unless.new.names c.sweep_unless.ensures.same) ∙ freed_count c.self.inside.origin c.keep_former.new.names c.free_from.new.self c.self.inside.next c.self.inside.count (contents c.args.self.now) m.seen m.tree c.keep_former.ensures.still_apart c.in-Some.gone c.in-Some.ensures.is
+    ap (λ (rs : List Record). c.in-Some.gone + length rs) (swept_list c.free_from.new.self c.sweep_unless.new.names c.sweep_unless.ensures.same) ∙ freed_count c.self.inside.origin c.keep_former.new.names c.free_from.new.self c.self.inside.next c.self.inside.count (contents c.args.self.now) m.seen m.tree c.free_from.ensures.apart c.in-Some.gone c.in-Some.ensures.is
 
 pub returns-in-Some-clause-before : goal.returns-in-Some-clause-before
 returns-in-Some-clause-before c =

@@ -10,7 +10,7 @@ use Rattle.dns_zone_map.proofs.zone_map.ZoneMap.take_name.Goals as goal
 use Rattle.dns_zone_map.proofs.zone_map.ZoneMap.take_name.Goals.{In_err-keep_former, In_ok-keep_former}
 
 between : (c : In_ok-keep_former) → MayChange c.self.inside.origin c.behind-key.result.now c.keep_former.new.names c.self.inside.next c.self.inside.count c.keep_former.new.undoing c.args.self.now
-between c = may_change c.self.inside.origin c.behind-key.result.now c.self.inside.names c.keep_former.new.names c.self.inside.next c.self.inside.count c.self.inside.undoing c.keep_former.new.undoing c.keep_former.ensures.apart c.self.invariant c.in_ok-keep_former.ensures.ok c.args.self.now c.self.view_is
+between c = may_change c.self.inside.origin c.behind-key.result.now c.self.inside.names c.keep_former.new.names c.self.inside.next c.self.inside.count c.self.inside.undoing c.keep_former.new.undoing c.self.invariant c.in_ok-keep_former.ensures.ok c.args.self.now c.self.view_is
 
 failed : (c : In_err-keep_former) → mapped_of c.self.inside.origin (list_of (in_entries c.keep_former.new.names)) (before_of c.keep_former.new.undoing c.keep_former.new.names) ≡ c.args.self.now
 failed c = seen_failed c.self.inside.origin c.self.inside.names c.keep_former.new.names c.in_err-keep_former.ensures.err_names c.self.inside.undoing c.keep_former.new.undoing c.in_err-keep_former.ensures.err_undoing c.args.self.now c.self.view_is
@@ -32,17 +32,17 @@ returns-in_err-keep_former-clause-err c = on_err _ (failed (goal.at.returns-in_e
 pub record_count-requires-clause-paired : goal.record_count-requires-clause-paired
 record_count-requires-clause-paired c =
     let m = between (goal.at.record_count-requires-clause-paired c).In_ok-keep_former in
-    name_paired c.self.inside.origin c.args.name.now c.keep_former.new.names c.self.inside.next c.self.inside.count (contents c.args.self.now) m.seen m.tree c.clear_from.new.self c.behind-key.result.now (sym c.at_or_below.ensures.test ∙ c.if-not-at_or_below.false) c.keep_former.ensures.still_apart (c.behind-key.ensures ∙ c.write_key-start.ensures.key) c.in-Some.sets c.in-Some.ensures.is
+    name_paired c.self.inside.origin c.args.name.now c.keep_former.new.names c.self.inside.next c.self.inside.count (contents c.args.self.now) m.seen m.tree c.clear_from.new.self c.behind-key.result.now (sym c.at_or_below.ensures.test ∙ c.if-not-at_or_below.false) c.clear_from.ensures.apart (c.behind-key.ensures ∙ c.write_key-start.ensures.key) c.in-Some.sets c.in-Some.ensures.is
 
 pub record_count-requires-clause-few : goal.record_count-requires-clause-few
 record_count-requires-clause-few c =
     let m = between (goal.at.record_count-requires-clause-few c).In_ok-keep_former in
-    omega (arith, name_few c.self.inside.origin c.args.name.now c.keep_former.new.names c.self.inside.next c.self.inside.count (contents c.args.self.now) m.seen m.tree c.clear_from.new.self c.behind-key.result.now (sym c.at_or_below.ensures.test ∙ c.if-not-at_or_below.false) c.keep_former.ensures.still_apart (c.behind-key.ensures ∙ c.write_key-start.ensures.key) c.in-Some.sets c.in-Some.ensures.is, c.self.ranges)
+    omega (arith, name_few c.self.inside.origin c.args.name.now c.keep_former.new.names c.self.inside.next c.self.inside.count (contents c.args.self.now) m.seen m.tree c.clear_from.new.self c.behind-key.result.now (sym c.at_or_below.ensures.test ∙ c.if-not-at_or_below.false) c.clear_from.ensures.apart (c.behind-key.ensures ∙ c.write_key-start.ensures.key) c.in-Some.sets c.in-Some.ensures.is, c.self.ranges)
 
 pub overflow_sub-self : goal.overflow_sub-self
 overflow_sub-self c =
     let m = between (goal.at.overflow_sub-self c).In_ok-keep_former in
-    subst (λ n. n ≤ c.self.inside.count) (sym c.record_count.ensures) (name_few c.self.inside.origin c.args.name.now c.keep_former.new.names c.self.inside.next c.self.inside.count (contents c.args.self.now) m.seen m.tree c.clear_from.new.self c.behind-key.result.now (sym c.at_or_below.ensures.test ∙ c.if-not-at_or_below.false) c.keep_former.ensures.still_apart (c.behind-key.ensures ∙ c.write_key-start.ensures.key) c.in-Some.sets c.in-Some.ensures.is)
+    subst (λ n. n ≤ c.self.inside.count) (sym c.record_count.ensures) (name_few c.self.inside.origin c.args.name.now c.keep_former.new.names c.self.inside.next c.self.inside.count (contents c.args.self.now) m.seen m.tree c.clear_from.new.self c.behind-key.result.now (sym c.at_or_below.ensures.test ∙ c.if-not-at_or_below.false) c.clear_from.ensures.apart (c.behind-key.ensures ∙ c.write_key-start.ensures.key) c.in-Some.sets c.in-Some.ensures.is)
 
 pub invariant_of-self-in-None : goal.invariant_of-self-in-None
 invariant_of-self-in-None c =
@@ -52,12 +52,12 @@ invariant_of-self-in-None c =
 pub invariant_of-self-in-Some : goal.invariant_of-self-in-Some
 invariant_of-self-in-Some c =
     let m = between (goal.at.invariant_of-self-in-Some c).In_ok-keep_former in
-    map_swept c.self.inside.origin c.clear_from.new.self c.sweep_unless.new.names c.self.inside.next _ c.keep_former.new.undoing c.sweep_unless.ensures.same c.sweep_unless.ensures.stays (m.changed c.clear_from.new.self c.self.inside.next _ (λ there. c.in-Some.ensures.others) (name_tree c.self.inside.origin c.args.name.now c.keep_former.new.names c.self.inside.next c.self.inside.count (contents c.args.self.now) m.seen m.tree c.clear_from.new.self c.behind-key.result.now (sym c.at_or_below.ensures.test ∙ c.if-not-at_or_below.false) c.keep_former.ensures.still_apart (c.behind-key.ensures ∙ c.write_key-start.ensures.key) c.in-Some.sets c.in-Some.ensures.is c.record_count.result c.record_count.ensures))
+    map_swept c.self.inside.origin c.clear_from.new.self c.sweep_unless.new.names c.self.inside.next _ c.keep_former.new.undoing c.sweep_unless.ensures.same c.sweep_unless.ensures.stays (m.changed c.clear_from.new.self c.self.inside.next _ (λ there. c.in-Some.ensures.others) (name_tree c.self.inside.origin c.args.name.now c.keep_former.new.names c.self.inside.next c.self.inside.count (contents c.args.self.now) m.seen m.tree c.clear_from.new.self c.behind-key.result.now (sym c.at_or_below.ensures.test ∙ c.if-not-at_or_below.false) c.clear_from.ensures.apart (c.behind-key.ensures ∙ c.write_key-start.ensures.key) c.in-Some.sets c.in-Some.ensures.is c.record_count.result c.record_count.ensures))
 
 pub returns-in-None-clause-records : goal.returns-in-None-clause-records
 returns-in-None-clause-records c =
     let m = between (goal.at.returns-in-None-clause-records c).In_ok-keep_former in
-    none_left c.self.inside.origin c.args.name.now c.keep_former.new.names c.self.inside.next c.self.inside.count (contents c.args.self.now) m.seen m.tree c.clear_from.new.self c.behind-key.result.now (sym c.at_or_below.ensures.test ∙ c.if-not-at_or_below.false) c.keep_former.ensures.still_apart (c.behind-key.ensures ∙ c.write_key-start.ensures.key) c.in-None.ensures.is
+    none_left c.self.inside.origin c.args.name.now c.keep_former.new.names c.self.inside.next c.self.inside.count (contents c.args.self.now) m.seen m.tree c.clear_from.new.self c.behind-key.result.now (sym c.at_or_below.ensures.test ∙ c.if-not-at_or_below.false) c.clear_from.ensures.apart (c.behind-key.ensures ∙ c.write_key-start.ensures.key) c.in-None.ensures.is
 
 pub returns-in-None-clause-before : goal.returns-in-None-clause-before
 returns-in-None-clause-before c =
@@ -67,7 +67,7 @@ returns-in-None-clause-before c =
 pub returns-in-Some-clause-records : goal.returns-in-Some-clause-records
 returns-in-Some-clause-records c =
     let m = between (goal.at.returns-in-Some-clause-records c).In_ok-keep_former in
-    swept_list c.clear_from.new.self c.sweep_unless.new.names c.sweep_unless.ensures.same ∙ name_left c.self.inside.origin c.args.name.now c.keep_former.new.names c.self.inside.next c.self.inside.count (contents c.args.self.now) m.seen m.tree c.clear_from.new.self c.behind-key.result.now (sym c.at_or_below.ensures.test ∙ c.if-not-at_or_below.false) c.keep_former.ensures.still_apart (c.behind-key.ensures ∙ c.write_key-start.ensures.key) c.in-Some.sets c.in-Some.ensures.is
+    swept_list c.clear_from.new.self c.sweep_unless.new.names c.sweep_unless.ensures.same ∙ name_left c.self.inside.origin c.args.name.now c.keep_former.new.names c.self.inside.next c.self.inside.count (contents c.args.self.now) m.seen m.tree c.clear_from.new.self c.behind-key.result.now (sym c.at_or_below.ensures.test ∙ c.if-not-at_or_below.false) c.clear_from.ensures.apart (c.behind-key.ensures ∙ c.write_key-start.ensures.key) c.in-Some.sets c.in-Some.ensures.is
 
 pub returns-in-Some-clause-before : goal.returns-in-Some-clause-before
 returns-in-Some-clause-before c =

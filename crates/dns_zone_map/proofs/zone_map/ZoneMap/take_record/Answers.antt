@@ -14,7 +14,7 @@ use Rattle.dns_zone_map.proofs.zone_map.ZoneMap.take_record.Goals as goal
 use Rattle.dns_zone_map.proofs.zone_map.ZoneMap.take_record.Goals.{In_err-keep_former, In_ok-keep_former}
 
 between : (c : In_ok-keep_former) → MayChange c.self.inside.origin c.behind-key.result.now c.keep_former.new.names c.self.inside.next c.self.inside.count c.keep_former.new.undoing c.args.self.now
-between c = may_change c.self.inside.origin c.behind-key.result.now c.self.inside.names c.keep_former.new.names c.self.inside.next c.self.inside.count c.self.inside.undoing c.keep_former.new.undoing c.keep_former.ensures.apart c.self.invariant c.in_ok-keep_former.ensures.ok c.args.self.now c.self.view_is
+between c = may_change c.self.inside.origin c.behind-key.result.now c.self.inside.names c.keep_former.new.names c.self.inside.next c.self.inside.count c.self.inside.undoing c.keep_former.new.undoing c.self.invariant c.in_ok-keep_former.ensures.ok c.args.self.now c.self.view_is
 
 failed : (c : In_err-keep_former) → mapped_of c.self.inside.origin (list_of (in_entries c.keep_former.new.names)) (before_of c.keep_former.new.undoing c.keep_former.new.names) ≡ c.args.self.now
 failed c = seen_failed c.self.inside.origin c.self.inside.names c.keep_former.new.names c.in_err-keep_former.ensures.err_names c.self.inside.undoing c.keep_former.new.undoing c.in_err-keep_former.ensures.err_undoing c.args.self.now c.self.view_is
@@ -54,7 +54,7 @@ one_from-requires-clause-paired c =
 pub overflow_sub-self : goal.overflow_sub-self
 overflow_sub-self c =
     let m = between (goal.at.overflow_sub-self c).In_ok-keep_former in
-    record_few c.self.inside.origin c.args.one.now c.keep_former.new.names c.self.inside.next c.self.inside.count (contents c.args.self.now) m.seen m.tree c.one_from.new.self c.behind-key.result.now (sym c.at_or_below.ensures.test ∙ c.if-not-at_or_below.false) c.keep_former.ensures.still_apart (c.behind-key.ensures ∙ c.write_key-start.ensures.key) c.requires c.in-Some.taken c.in-Some.ensures.is
+    record_few c.self.inside.origin c.args.one.now c.keep_former.new.names c.self.inside.next c.self.inside.count (contents c.args.self.now) m.seen m.tree c.one_from.new.self c.behind-key.result.now (sym c.at_or_below.ensures.test ∙ c.if-not-at_or_below.false) c.one_from.ensures.apart (c.behind-key.ensures ∙ c.write_key-start.ensures.key) c.requires c.in-Some.taken c.in-Some.ensures.is
 
 pub invariant_of-self-in-None : goal.invariant_of-self-in-None
 invariant_of-self-in-None c =
@@ -64,22 +64,22 @@ invariant_of-self-in-None c =
 pub invariant_of-self-in-Some : goal.invariant_of-self-in-Some
 invariant_of-self-in-Some c =
     let m = between (goal.at.invariant_of-self-in-Some c).In_ok-keep_former in
-    map_swept c.self.inside.origin c.one_from.new.self c.sweep_unless.new.names c.self.inside.next _ c.keep_former.new.undoing c.sweep_unless.ensures.same c.sweep_unless.ensures.stays (m.changed c.one_from.new.self c.self.inside.next _ (λ there. c.in-Some.ensures.others) (record_tree c.self.inside.origin c.args.one.now c.keep_former.new.names c.self.inside.next c.self.inside.count (contents c.args.self.now) m.seen m.tree c.one_from.new.self c.behind-key.result.now (sym c.at_or_below.ensures.test ∙ c.if-not-at_or_below.false) c.keep_former.ensures.still_apart (c.behind-key.ensures ∙ c.write_key-start.ensures.key) c.requires c.in-Some.taken c.in-Some.ensures.is))
+    map_swept c.self.inside.origin c.one_from.new.self c.sweep_unless.new.names c.self.inside.next _ c.keep_former.new.undoing c.sweep_unless.ensures.same c.sweep_unless.ensures.stays (m.changed c.one_from.new.self c.self.inside.next _ (λ there. c.in-Some.ensures.others) (record_tree c.self.inside.origin c.args.one.now c.keep_former.new.names c.self.inside.next c.self.inside.count (contents c.args.self.now) m.seen m.tree c.one_from.new.self c.behind-key.result.now (sym c.at_or_below.ensures.test ∙ c.if-not-at_or_below.false) c.one_from.ensures.apart (c.behind-key.ensures ∙ c.write_key-start.ensures.key) c.requires c.in-Some.taken c.in-Some.ensures.is))
 
 pub returns-in-None-clause-records : goal.returns-in-None-clause-records
 returns-in-None-clause-records c =
     let m = between (goal.at.returns-in-None-clause-records c).In_ok-keep_former in
-    absent_stays c.self.inside.origin c.args.one.now c.keep_former.new.names c.self.inside.next c.self.inside.count (contents c.args.self.now) m.seen m.tree c.one_from.new.self c.behind-key.result.now (sym c.at_or_below.ensures.test ∙ c.if-not-at_or_below.false) c.keep_former.ensures.still_apart (c.behind-key.ensures ∙ c.write_key-start.ensures.key) c.requires c.in-None.ensures.is
+    absent_stays c.self.inside.origin c.args.one.now c.keep_former.new.names c.self.inside.next c.self.inside.count (contents c.args.self.now) m.seen m.tree c.one_from.new.self c.behind-key.result.now (sym c.at_or_below.ensures.test ∙ c.if-not-at_or_below.false) c.one_from.ensures.apart (c.behind-key.ensures ∙ c.write_key-start.ensures.key) c.requires c.in-None.ensures.is
 
 pub returns-in-None-clause-taken : goal.returns-in-None-clause-taken
 returns-in-None-clause-taken c =
     let m = between (goal.at.returns-in-None-clause-taken c).In_ok-keep_former in
-    absent_one c.self.inside.origin c.args.one.now c.keep_former.new.names c.self.inside.next c.self.inside.count (contents c.args.self.now) m.seen m.tree c.one_from.new.self c.behind-key.result.now (sym c.at_or_below.ensures.test ∙ c.if-not-at_or_below.false) c.keep_former.ensures.still_apart (c.behind-key.ensures ∙ c.write_key-start.ensures.key) c.requires c.in-None.ensures.is
+    absent_one c.self.inside.origin c.args.one.now c.keep_former.new.names c.self.inside.next c.self.inside.count (contents c.args.self.now) m.seen m.tree c.one_from.new.self c.behind-key.result.now (sym c.at_or_below.ensures.test ∙ c.if-not-at_or_below.false) c.one_from.ensures.apart (c.behind-key.ensures ∙ c.write_key-start.ensures.key) c.requires c.in-None.ensures.is
 
 pub returns-in-None-clause-so_far : goal.returns-in-None-clause-so_far
 returns-in-None-clause-so_far c =
     let m = between (goal.at.returns-in-None-clause-so_far c).In_ok-keep_former in
-    so_far_left (λ r. not (is_equal c.args.one.now r)) (contents c.args.self.now) (record { origin = c.self.inside.origin; records = list_of (in_entries c.one_from.new.self) }) (ap (λ z. z.origin) c.self.view_is) (absent_stays c.self.inside.origin c.args.one.now c.keep_former.new.names c.self.inside.next c.self.inside.count (contents c.args.self.now) m.seen m.tree c.one_from.new.self c.behind-key.result.now (sym c.at_or_below.ensures.test ∙ c.if-not-at_or_below.false) c.keep_former.ensures.still_apart (c.behind-key.ensures ∙ c.write_key-start.ensures.key) c.requires c.in-None.ensures.is) c.requires
+    so_far_left (λ r. not (is_equal c.args.one.now r)) (contents c.args.self.now) (record { origin = c.self.inside.origin; records = list_of (in_entries c.one_from.new.self) }) (ap (λ z. z.origin) c.self.view_is) (absent_stays c.self.inside.origin c.args.one.now c.keep_former.new.names c.self.inside.next c.self.inside.count (contents c.args.self.now) m.seen m.tree c.one_from.new.self c.behind-key.result.now (sym c.at_or_below.ensures.test ∙ c.if-not-at_or_below.false) c.one_from.ensures.apart (c.behind-key.ensures ∙ c.write_key-start.ensures.key) c.requires c.in-None.ensures.is) c.requires
 
 pub returns-in-None-clause-before : goal.returns-in-None-clause-before
 returns-in-None-clause-before c =
@@ -89,17 +89,17 @@ returns-in-None-clause-before c =
 pub returns-in-Some-clause-records : goal.returns-in-Some-clause-records
 returns-in-Some-clause-records c =
     let m = between (goal.at.returns-in-Some-clause-records c).In_ok-keep_former in
-    swept_list c.one_from.new.self c.sweep_unless.new.names c.sweep_unless.ensures.same ∙ record_left c.self.inside.origin c.args.one.now c.keep_former.new.names c.self.inside.next c.self.inside.count (contents c.args.self.now) m.seen m.tree c.one_from.new.self c.behind-key.result.now (sym c.at_or_below.ensures.test ∙ c.if-not-at_or_below.false) c.keep_former.ensures.still_apart (c.behind-key.ensures ∙ c.write_key-start.ensures.key) c.requires c.in-Some.taken c.in-Some.ensures.is
+    swept_list c.one_from.new.self c.sweep_unless.new.names c.sweep_unless.ensures.same ∙ record_left c.self.inside.origin c.args.one.now c.keep_former.new.names c.self.inside.next c.self.inside.count (contents c.args.self.now) m.seen m.tree c.one_from.new.self c.behind-key.result.now (sym c.at_or_below.ensures.test ∙ c.if-not-at_or_below.false) c.one_from.ensures.apart (c.behind-key.ensures ∙ c.write_key-start.ensures.key) c.requires c.in-Some.taken c.in-Some.ensures.is
 
 pub returns-in-Some-clause-taken : goal.returns-in-Some-clause-taken
 returns-in-Some-clause-taken c =
     let m = between (goal.at.returns-in-Some-clause-taken c).In_ok-keep_former in
-    record_taken c.self.inside.origin c.args.one.now c.keep_former.new.names c.self.inside.next c.self.inside.count (contents c.args.self.now) m.seen m.tree c.one_from.new.self c.behind-key.result.now (sym c.at_or_below.ensures.test ∙ c.if-not-at_or_below.false) c.keep_former.ensures.still_apart (c.behind-key.ensures ∙ c.write_key-start.ensures.key) c.requires c.in-Some.taken c.in-Some.ensures.is
+    record_taken c.self.inside.origin c.args.one.now c.keep_former.new.names c.self.inside.next c.self.inside.count (contents c.args.self.now) m.seen m.tree c.one_from.new.self c.behind-key.result.now (sym c.at_or_below.ensures.test ∙ c.if-not-at_or_below.false) c.one_from.ensures.apart (c.behind-key.ensures ∙ c.write_key-start.ensures.key) c.requires c.in-Some.taken c.in-Some.ensures.is
 
 pub returns-in-Some-clause-so_far : goal.returns-in-Some-clause-so_far
 returns-in-Some-clause-so_far c =
     let m = between (goal.at.returns-in-Some-clause-so_far c).In_ok-keep_former in
-    so_far_left (λ r. not (is_equal c.args.one.now r)) (contents c.args.self.now) (record { origin = c.self.inside.origin; records = list_of (in_entries c.sweep_unless.new.names) }) (ap (λ z. z.origin) c.self.view_is) (swept_list c.one_from.new.self c.sweep_unless.new.names c.sweep_unless.ensures.same ∙ record_left c.self.inside.origin c.args.one.now c.keep_former.new.names c.self.inside.next c.self.inside.count (contents c.args.self.now) m.seen m.tree c.one_from.new.self c.behind-key.result.now (sym c.at_or_below.ensures.test ∙ c.if-not-at_or_below.false) c.keep_former.ensures.still_apart (c.behind-key.ensures ∙ c.write_key-start.ensures.key) c.requires c.in-Some.taken c.in-Some.ensures.is) c.requires
+    so_far_left (λ r. not (is_equal c.args.one.now r)) (contents c.args.self.now) (record { origin = c.self.inside.origin; records = list_of (in_entries c.sweep_unless.new.names) }) (ap (λ z. z.origin) c.self.view_is) (swept_list c.one_from.new.self c.sweep_unless.new.names c.sweep_unless.ensures.same ∙ record_left c.self.inside.origin c.args.one.now c.keep_former.new.names c.self.inside.next c.self.inside.count (contents c.args.self.now) m.seen m.tree c.one_from.new.self c.behind-key.result.now (sym c.at_or_below.ensures.test ∙ c.if-not-at_or_below.false) c.one_from.ensures.apart (c.behind-key.ensures ∙ c.write_key-start.ensures.key) c.requires c.in-Some.taken c.in-Some.ensures.is) c.requires
 
 pub returns-in-Some-clause-before : goal.returns-in-Some-clause-before
 returns-in-Some-clause-before c =
