@@ -3,10 +3,9 @@
 
 mod choices;
 
-use crate::choices::path_at;
+use crate::choices::{Chosen, named_journal};
 use dns_audit::{AuditStatus, HELP, INTO, JOURNAL, VERSION, after_writing, audit};
 use dns_edges::{Sink, SystemClock, Writing};
-use dns_io::OutOfMemory;
 use dns_journal::{ClosedJournal, FileJournal, PersistenceError, tell_unopened};
 use dns_keeper::{Keeper, MemoryKeeper};
 use dns_words::{Action, action_of, command_words, put_text};
@@ -83,31 +82,32 @@ fn run<K: Keeper, L: Keeper, O: Sink>(
 
 /// The journal that is read.
 fn journal(rt: &HostRuntime, words: &Vec<String>) -> Named {
-    match path_at(rt.alloc(), words.as_slice(), JOURNAL) {
-        Ok(Some(path)) => in_present_file(rt, path),
-        Ok(None) => in_memory(rt),
-        Err(OutOfMemory) => without_memory(),
+    match named_journal(rt.alloc(), words.as_slice(), JOURNAL) {
+        Chosen::InMemory => in_memory(rt),
+        Chosen::InFile(path) => in_present_file(rt, path),
+        Chosen::WithoutMemory => without_memory(),
     }
 }
 
 /// The journal that is written. Where its file is that of the journal that is read it is not opened a second time.
 fn other_journal(rt: &HostRuntime, words: &Vec<String>) -> Named {
-    match path_at(rt.alloc(), words.as_slice(), INTO) {
-        Ok(Some(path)) => apart(rt, words, path),
-        Ok(None) => in_memory(rt),
-        Err(OutOfMemory) => without_memory(),
+    match named_journal(rt.alloc(), words.as_slice(), INTO) {
+        Chosen::InMemory => in_memory(rt),
+        Chosen::InFile(path) => apart(rt, words, path),
+        Chosen::WithoutMemory => without_memory(),
     }
 }
 
 /// The journal at a path that is not the one which is read, or what stands for it.
 fn apart(rt: &HostRuntime, words: &Vec<String>, path: &str) -> Named {
-    match path_at(rt.alloc(), words.as_slice(), JOURNAL) {
-        Ok(Some(journal)) if is_same_file(rt, journal, path) => {
+    match named_journal(rt.alloc(), words.as_slice(), JOURNAL) {
+        Chosen::InFile(journal) if is_same_file(rt, journal, path) => {
             let _told = eprintln!(rt; "{NAME}: {path}: this is the journal that is read");
             Named::Closed(ClosedJournal::after(&PersistenceError::Sqlite))
         }
-        Ok(_) => in_file(rt, path),
-        Err(OutOfMemory) => without_memory(),
+        Chosen::InFile(_) => in_file(rt, path),
+        Chosen::InMemory => in_file(rt, path),
+        Chosen::WithoutMemory => without_memory(),
     }
 }
 

@@ -4,12 +4,9 @@
 
 mod choices;
 
-use crate::choices::path_at;
+use crate::choices::{Chosen, named_journal};
 use dns_edges::{Reading, Sink, SystemClock, Writing};
-use dns_follow::{
-    Command, FollowStatus, HELP, JOURNAL, Replicated, VERSION, after_writing, command_of, replicate,
-};
-use dns_io::OutOfMemory;
+use dns_follow::{FollowStatus, HELP, Replicated, VERSION, after_writing, replicate};
 use dns_journal::{ClosedJournal, FileJournal, PersistenceError, tell_unopened};
 use dns_keeper::{Keeper, MemoryKeeper};
 use dns_words::{Action, action_of, command_words, put_text};
@@ -79,19 +76,11 @@ fn run<K: Keeper + Drop, O: Sink>(
 
 /// The journal that is named.
 fn journal(rt: &HostRuntime, words: &Vec<String>) -> Named {
-    match path_at(rt.alloc(), words.as_slice(), JOURNAL) {
-        Ok(Some(path)) => at_path(rt, words, path),
-        Ok(None) => Named::InMemory(MemoryKeeper::new(rt.alloc())),
-        Err(OutOfMemory) => without_memory(),
-    }
-}
-
-/// The journal at a path. To feed from one no file is made.
-fn at_path(rt: &HostRuntime, words: &Vec<String>, path: &str) -> Named {
-    match command_of(rt.alloc(), words.as_slice()) {
-        Ok(Some(Command::Feed { origin: _, from: _ })) => in_present_file(rt, path),
-        Ok(_) => in_file(rt, path),
-        Err(OutOfMemory) => without_memory(),
+    match named_journal(rt.alloc(), words.as_slice()) {
+        Chosen::InMemory => Named::InMemory(MemoryKeeper::new(rt.alloc())),
+        Chosen::InPresentFile(path) => in_present_file(rt, path),
+        Chosen::InFile(path) => in_file(rt, path),
+        Chosen::WithoutMemory => without_memory(),
     }
 }
 

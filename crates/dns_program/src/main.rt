@@ -3,7 +3,7 @@
 
 mod choices;
 
-use crate::choices::{journal_path, zone_path};
+use crate::choices::{Chosen, named_journal, zone_path};
 use dns_crowd_server::SocketCrowdHub;
 use dns_edges::{FileSource, Reading, SystemClock, Writing};
 use dns_io::OutOfMemory;
@@ -67,10 +67,12 @@ fn task_of(rt: &HostRuntime, words: &Vec<String>) -> Task {
 
 /// The command over the journal that the words name, or over one in memory. For words that are no command no file is opened.
 fn command_task(rt: &HostRuntime, words: &Vec<String>) -> Task {
-    match journal_path(rt.alloc(), words.as_slice()) {
-        Ok(Some(path)) => file_task(rt, path),
-        Ok(None) => Task::InMemory(MemoryKeeper::new(rt.alloc())),
-        Err(OutOfMemory) => Task::Closed(ClosedJournal::after(&PersistenceError::OutOfMemory)),
+    match named_journal(rt.alloc(), words.as_slice()) {
+        Chosen::InMemory => Task::InMemory(MemoryKeeper::new(rt.alloc())),
+        Chosen::InFile(path) => file_task(rt, path),
+        Chosen::WithoutMemory => {
+            Task::Closed(ClosedJournal::after(&PersistenceError::OutOfMemory))
+        }
     }
 }
 
