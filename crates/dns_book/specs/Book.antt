@@ -56,7 +56,8 @@ grown before held batch = record {
 -- what becomes of the records that a message brings: there are none, and nothing changes; they come into the journal, all with
 -- the serial that they leave and as one of its batches, the zone is what they make of it, and the keeper's count of faults is as it was;
 -- or the keeper fails and counts it, and nothing else changes. The flag says that it failed.
-pub data Ends {K : Type 0} (keeper : KeeperOf K) (before : SeenOf K) (ask : Ask) (batch : List Record) : Bool → Option Receipt → SeenOf K → Type 0 where
+pub data Ends {K : Type 0} (keeper : KeeperOf K) (before : SeenOf K) (ask : Ask)
+    (batch : List Record) : Bool → Option Receipt → SeenOf K → Type 0 where
   idle : length batch ≡ 0 → Ends keeper before ask batch false None before
   journalled : 0 < length batch → (held : K)
       → GrowsByBatch (keeper.told before.keeper).rows (keeper.told held).rows ask.client
@@ -72,7 +73,8 @@ pub data Ends {K : Type 0} (keeper : KeeperOf K) (before : SeenOf K) (ask : Ask)
 -- one message is settled by a book whose zone is what its rows stand for, and stays so, where `access` says who is let in: its
 -- reply is what it is owed, the records that it brings come into the journal and the zone or, where the keeper fails, into
 -- neither, and it is counted by what was decided of it
-pub record Settles {K : Type 0} (keeper : KeeperOf K) (access : Access) (before : SeenOf K) (ask : Ask) (settled : Settled) (after : SeenOf K)
+pub record Settles {K : Type 0} (keeper : KeeperOf K) (access : Access) (before : SeenOf K) (ask : Ask) (settled : Settled)
+    (after : SeenOf K)
     : Type 0 where
   pub stood : IsKept keeper before
   pub failed : Bool

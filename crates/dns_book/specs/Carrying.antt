@@ -37,12 +37,17 @@ abbrev pub replied_by : Reply → Appended → Replied
 replied_by reply appended = record { code = reply.code; flags = appended.flags; answers = kinds_of appended.answers reply.answers }
 
 -- a reply to such a request was added to what a buffer had, and counted with its message
-pub record IsPut (request : Request) (question : Option (ℕ × ℕ)) (reply : Reply) (framed : Bool) (before after : List ℕ) (old new : List (List ℕ)) : Type 0 where
+pub record IsPut (request : Request) (question : Option (ℕ × ℕ)) (reply : Reply) (framed : Bool) (before after : List ℕ)
+    (old new : List (List ℕ)) : Type 0 where
   pub bytes : List ℕ
   pub written : Written reply (limit_of request.protocol reply.edns) bytes
   pub short : length bytes ≤ 65535
   pub sent : after ≡ before ++ sent_as framed bytes
-  pub counted : new ≡ recorded (record { protocol = request.protocol; header = request.header; question = question }) (replied_of reply bytes) old
+  pub counted : new ≡ recorded (record {
+    protocol = request.protocol;
+    header = request.header;
+    question = question;
+  }) (replied_of reply bytes) old
 
 -- an update ended so: its batch came into the journal and the zone, or it had none, or the keeper failed, or memory ran out
 abbrev pub Journals : {K : Type 0} → KeeperOf K → SeenOf K → Ask → List Record → Result (Option Receipt) KeepFault → SeenOf K → Type 0
@@ -52,20 +57,25 @@ Journals keeper before ask batch (Err keep.OutOfMemory) after = IsLeft keeper be
 
 -- what was decided of a message was carried out: its reply is what it is owed, the records that it brings came into the journal and the zone
 -- or into neither, it was counted, and a crash then leaves no more than so
-pub record CarriesOut {K : Type 0} (keeper : KeeperOf K) (before : SeenOf K) (ask : Ask) (d : Decision) (settled : Settled) (after : SeenOf K) : Type 0 where
+pub record CarriesOut {K : Type 0} (keeper : KeeperOf K) (before : SeenOf K) (ask : Ask) (d : Decision) (settled : Settled)
+    (after : SeenOf K) : Type 0 where
   pub failed : Bool
   pub bytes : List ℕ
   pub reply : settled.reply ≡ Some bytes
   pub written : Written (reply_of (grounds_of before failed) d) (limit_of ask.protocol (reply_of (grounds_of before failed) d).edns) bytes
   pub ended : SeenOf K
   pub ends : Ends keeper before ask (case_batch before.zone before.allow_update d.case) failed settled.receipt ended
-  pub counted : after ≡ record ended { counts = recorded (asked_of d) (replied_of (reply_of (grounds_of before failed) d) bytes) ended.counts }
+  pub counted : after ≡ record ended {
+    counts = recorded (asked_of d)
+        (replied_of (reply_of (grounds_of before failed) d) bytes) ended.counts;
+  }
   pub length : settled.length ≡ after.row_count
   pub leaves : LeavesSettled keeper before ask (case_batch before.zone before.allow_update d.case) failed settled.receipt after
 
 -- so it was, with its reply at the end of a buffer, or no memory was found: then nothing has changed but what the keeper does not tell, and the
 -- buffer has what it had
-pub record Carries {K : Type 0} (keeper : KeeperOf K) (before : SeenOf K) (ask : Ask) (d : Decision) (framed : Bool) (had has : List ℕ) (answer : Result SettledInto OutOfMemory)
+pub record Carries {K : Type 0} (keeper : KeeperOf K) (before : SeenOf K) (ask : Ask) (d : Decision) (framed : Bool)
+    (had has : List ℕ) (answer : Result SettledInto OutOfMemory)
     (after : SeenOf K) : Type 0 where
   pub ok : IfOk answer (SettlesInto (λ settled. CarriesOut keeper before ask d settled after) framed had has)
   pub kept : IsKept keeper after

@@ -47,7 +47,12 @@ counts_after grounds None bytes before = before
 abbrev pub counts_with : Contents → List Record → List (List ℕ) → List (List ℕ)
 counts_with zone batch before =
     let modified = modified_of zone.origin zone.records batch in
-    changed (record { added = modified.added; deleted = modified.deleted; updated = modified.updated; records = length (zone_with zone batch).records }) before
+    changed (record {
+      added = modified.added;
+      deleted = modified.deleted;
+      updated = modified.updated;
+      records = length (zone_with zone batch).records;
+    }) before
 
 -- the counts of a book that was opened: nothing but how many records its zone has
 abbrev pub counts_of_zone : List Record → List (List ℕ)

@@ -37,16 +37,21 @@ LeavesSettled keeper before ask batch true None after = LeavesBatch keeper befor
 LeavesSettled keeper before ask batch false None after = LeavesNoOther (keeper.may_leave before.keeper) (keeper.may_leave after.keeper)
 
 -- one message is settled, and a crash then leaves no more than so
-pub record SettlesLeaving {K : Type 0} (keeper : KeeperOf K) (access : Access) (before : SeenOf K) (ask : Ask) (settled : Settled) (after : SeenOf K)
+pub record SettlesLeaving {K : Type 0} (keeper : KeeperOf K) (access : Access) (before : SeenOf K) (ask : Ask)
+    (settled : Settled) (after : SeenOf K)
     : Type 0 where
   pub settles : Settles keeper access before ask settled after
-  pub leaves : LeavesSettled keeper before ask (batch_by before.zone before.allow_update settles.reply.decision) settles.failed settled.receipt after
+  pub leaves : LeavesSettled keeper before ask
+      (batch_by before.zone before.allow_update settles.reply.decision) settles.failed settled.receipt after
 
 -- where no memory was found: what might be left before or, where the message brings records, rows and batches with the whole batch
-pub data LeavesUnsettled {K : Type 0} (keeper : KeeperOf K) (access : Access) (before : SeenOf K) (ask : Ask) (after : SeenOf K) : Type 0 where
-  untouched : LeavesNoOther (keeper.may_leave before.keeper) (keeper.may_leave after.keeper) → LeavesUnsettled keeper access before ask after
+pub data LeavesUnsettled {K : Type 0} (keeper : KeeperOf K) (access : Access) (before : SeenOf K) (ask : Ask)
+    (after : SeenOf K) : Type 0 where
+  untouched : LeavesNoOther (keeper.may_leave before.keeper) (keeper.may_leave after.keeper)
+      → LeavesUnsettled keeper access before ask after
   refused : (decision : Option Decision) → Decides before.zone access ask decision
-      → LeavesBatch keeper before ask (batch_by before.zone before.allow_update decision) after → LeavesUnsettled keeper access before ask after
+      → LeavesBatch keeper before ask (batch_by before.zone before.allow_update decision) after
+      → LeavesUnsettled keeper access before ask after
 
 -- so do all rows and batches that a crash may leave of a book, where its keeper tells those that it has
 abbrev pub LeavesOn : {K : Type 0} → KeeperOf K → SeenOf K → Type 0

@@ -165,7 +165,8 @@ pub(crate) fn count(
     counts: &mut Counts,
 )
     ensures { counts.new ≡ recorded
-        (record { protocol = request.now.protocol; header = request.now.header; question = question }) (replied_by reply.now appended.now) counts.old }
+        (record { protocol = request.now.protocol; header = request.now.header; question = question })
+        (replied_by reply.now appended.now) counts.old }
 {
     let replied = LentReplied {
         code: reply.code,

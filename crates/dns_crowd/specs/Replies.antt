@@ -19,7 +19,8 @@ abbrev pub sent_bytes : List Out → List (ℕ × ℕ)
 sent_bytes outs = flat_map (λ o. bytes_to o.to o.bytes) outs
 
 -- messages were settled, all of them of one connection, and the bytes of their replies added to those that there were
-pub record RepliesTo {H : Type 0} (serves : H → Ask → Settled → H → Type 0) (before : H) (asks : List Completed) (after : H) (number : ℕ) (old new : List ℕ) : Type 0 where
+pub record RepliesTo {H : Type 0} (serves : H → Ask → Settled → H → Type 0) (before : H) (asks : List Completed) (after : H)
+    (number : ℕ) (old new : List ℕ) : Type 0 where
   pub outs : List Out
   pub run : Run serves before asks outs after
   pub bytes : List ℕ
@@ -27,7 +28,8 @@ pub record RepliesTo {H : Type 0} (serves : H → Ask → Settled → H → Type
   pub sent : sent_bytes outs ≡ bytes_for number bytes
 
 -- no memory was found for messages: the first of them were settled, and behind these came at most one call that found none
-pub record Falters {H : Type 0} (serves : H → Ask → Settled → H → Type 0) (skips : H → H → Type 0) (before : H) (asks : List Completed) (after : H) : Type 0 where
+pub record Falters {H : Type 0} (serves : H → Ask → Settled → H → Type 0) (skips : H → H → Type 0) (before : H) (asks : List Completed)
+    (after : H) : Type 0 where
   pub first : List Completed
   pub others : List Completed
   pub parts : asks ≡ first ++ others

@@ -24,11 +24,13 @@ pub record IsTable (kept : Kept) (order : List (ℕ × ℕ)) : Type 0 where
 -- those that stood in the order before an event do so behind it
 abbrev pub KeepsTimes : Event → List (ℕ × ℕ) → List Connection → List (ℕ × ℕ) → List Connection → Type 0
 KeepsTimes e order connections order_now connections_now =
-    (last : ℕ) → last ≤ moment e → AllByRecursion (IsTimed last order) connections → AllByRecursion (IsTimed (moment e) order_now) connections_now
+    (last : ℕ) → last ≤ moment e → AllByRecursion (IsTimed last order) connections
+    → AllByRecursion (IsTimed (moment e) order_now) connections_now
 
 -- what these connections kept, those keep
 abbrev pub KeepsTable : List Connection → List Connection → Type 0
-KeepsTable before after = (last : ℕ) (greatest : Option ℕ) → IsKept (record { last = last; greatest = greatest; stopped = false; connections = before })
+KeepsTable before after =
+    (last : ℕ) (greatest : Option ℕ) → IsKept (record { last = last; greatest = greatest; stopped = false; connections = before })
     → IsKept (record { last = last; greatest = greatest; stopped = false; connections = after })
 
 -- how many stand in the order before a moment

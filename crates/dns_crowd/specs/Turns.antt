@@ -189,8 +189,8 @@ module _ {H C : Type 0} (serves : H → Ask → Settled → H → Type 0) (skips
     pub sent : Grows (told crowd).taken (told crowd_now).taken (sent_bytes outs)
     pub unread : Keeps (told crowd).left (told crowd_now).left
 
-  -- what a worker did, however it ended: these events came, one was served after the other, as far as memory was found for it, and the crowd
-  -- took exactly the replies to those that were served whole
+  -- what a worker did, however it ended: these events came, one was served after the other, as far as memory was found for it, and the
+  -- crowd took exactly the replies to those that were served whole
   pub record Working (before : H) (crowd : C) (after : H) (crowd_now : C) : Type 0 where
     pub handled : List Handled
     pub came : Takes (told crowd).left (told crowd_now).left (map (λ one. one.event) handled)
@@ -211,8 +211,8 @@ module _ {C : Type 0} (told : C → CrowdTold) where
 -- the meanings of a handler, and of a crowd
 module _ {H C : Type 0} (serves : H → Ask → Settled → H → Type 0) (told : C → CrowdTold) where
   -- one event was served: the messages that it completes were settled, the crowd was handed their replies, and of the connections that
-  -- are open now those that are in time are the ones that the event leaves so; those that were closed were open before it or are accepted by
-  -- it, and are not open now
+  -- are open now those that are in time are the ones that the event leaves so; those that were closed were open before it or are accepted
+  -- by it, and are not open now
   pub record Attends (before : H) (crowd : C) (kept : Kept) (e : Event) (after : H) (crowd_now : C) (kept_now : Kept) : Type 0 where
     pub outs : List Out
     pub run : Run serves before (completed_now e kept.connections) outs after
@@ -251,7 +251,8 @@ module _ {H C : Type 0} (serves : H → Ask → Settled → H → Type 0) (told 
   EndsBy before crowd after crowd_now (Err OutOfMemory) = (told crowd_now).faults ≡ (told crowd).faults
 
 -- what a worker did, and how it ended
-pub record ServesCrowd {H C : Type 0} (serves : H → Ask → Settled → H → Type 0) (skips : H → H → Type 0) (told : C → CrowdTold) (before : H) (crowd : C) (after : H) (crowd_now : C)
+pub record ServesCrowd {H C : Type 0} (serves : H → Ask → Settled → H → Type 0) (skips : H → H → Type 0) (told : C → CrowdTold)
+    (before : H) (crowd : C) (after : H) (crowd_now : C)
     (result : Result (Unit {0}) IoFault) : Type 0 where
   pub work : Working serves skips told before crowd after crowd_now
   pub ends : EndsBy serves told before crowd after crowd_now result

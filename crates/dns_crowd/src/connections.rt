@@ -51,7 +51,12 @@ impl Model for Connections {
 
     ghost view = { λ s. record { last = s.last; greatest = s.greatest; stopped = false; connections = s.sessions.items } };
 
-    ghost invariant = { λ s. IsTable (record { last = s.last; greatest = s.greatest; stopped = false; connections = s.sessions.items }) s.order };
+    ghost invariant = { λ s. IsTable (record {
+      last = s.last;
+      greatest = s.greatest;
+      stopped = false;
+      connections = s.sessions.items;
+    }) s.order };
 }
 
 impl Connections {

@@ -33,9 +33,31 @@ impl Model for MemoryCrowd {
 
     ghost Value = { CrowdState };
 
-    ghost view = { λ s. record { left = s.coming.items; taken = s.taken.items; closed = s.closed.items; last = s.last; greatest = s.greatest; failing_nexts = s.failing_nexts.items; failing_sends = s.failing_sends.items; nexts = s.nexts; sends = s.sends; faults = s.faults } };
+    ghost view = { λ s. record {
+      left = s.coming.items;
+      taken = s.taken.items;
+      closed = s.closed.items;
+      last = s.last;
+      greatest = s.greatest;
+      failing_nexts = s.failing_nexts.items;
+      failing_sends = s.failing_sends.items;
+      nexts = s.nexts;
+      sends = s.sends;
+      faults = s.faults;
+    } };
 
-    ghost invariant = { λ s. IsToCome (record { left = s.coming.items; taken = s.taken.items; closed = s.closed.items; last = s.last; greatest = s.greatest; failing_nexts = s.failing_nexts.items; failing_sends = s.failing_sends.items; nexts = s.nexts; sends = s.sends; faults = s.faults }) };
+    ghost invariant = { λ s. IsToCome (record {
+      left = s.coming.items;
+      taken = s.taken.items;
+      closed = s.closed.items;
+      last = s.last;
+      greatest = s.greatest;
+      failing_nexts = s.failing_nexts.items;
+      failing_sends = s.failing_sends.items;
+      nexts = s.nexts;
+      sends = s.sends;
+      faults = s.faults;
+    }) };
 }
 
 impl MemoryCrowd {

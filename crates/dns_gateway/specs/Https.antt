@@ -36,18 +36,21 @@ pub record TakesMessage {R : Type 0} (told : R → BodyTold) (version : Version)
 abbrev pub GivesReply : Version → Option (List ℕ) → Result (Option (Response (Unit {0}) × List ℕ)) NetError → Type 0
 GivesReply version None answer = answer ≡ Ok None
 GivesReply version (Some bytes) answer =
-    ((response : Response (Unit {0})) × IsResponse version (length bytes) (response_head_of response) × (answer ≡ Ok (Some (response, bytes))))
+    ((response : Response (Unit {0})) × IsResponse version (length bytes) (response_head_of response)
+    × (answer ≡ Ok (Some (response, bytes))))
     ⊎ (answer ≡ Err OutOfMemory)
 
 -- a message is settled by one step of the handler, which stays done whatever comes of its reply; or the handler finds no memory
-abbrev pub AnswersRequest : {H : Type 0} → (H → Ask → Settled → H → Type 0) → (H → H → Type 0) → Version → H → Ask → Result (Option (Response (Unit {0}) × List ℕ)) NetError → H → Type 0
+abbrev pub AnswersRequest : {H : Type 0} → (H → Ask → Settled → H → Type 0) → (H → H → Type 0)
+    → Version → H → Ask → Result (Option (Response (Unit {0}) × List ℕ)) NetError → H → Type 0
 AnswersRequest serves skips version before ask answer now =
     ((settled : Settled) × serves before ask settled now × GivesReply version settled.reply answer)
     ⊎ (skips before now × (answer ≡ Err OutOfMemory))
 
 -- the message of a request is taken and answered; where none is taken, the handler stays as it is
 abbrev pub SettlesRequest : {H R : Type 0} → (H → Ask → Settled → H → Type 0) → (H → H → Type 0) → (R → BodyTold)
-    → Version → Option (List ℕ) → List ℕ → (List ℕ → Ask) → H → Request R → Result (Option (Response (Unit {0}) × List ℕ)) NetError → H → Request R → Type 0
+    → Version → Option (List ℕ) → List ℕ → (List ℕ → Ask) → H → Request R
+    → Result (Option (Response (Unit {0}) × List ℕ)) NetError → H → Request R → Type 0
 SettlesRequest serves skips told version name path ask before request answer now after =
     (received : Result (List ℕ) NetError) × TakesMessage told version name path request received after
     × MatchResult received

@@ -37,4 +37,6 @@ IsBatchStoredIn id s found = HasCleanDisk s → IsBatchIn id (s.now.trees 2) fou
 
 -- a page goes on behind its first batch, which begins at this id
 abbrev pub PassesBatch : ℤ → BatchPage → BatchPage → Type 0
-PassesBatch id old new = (batch : BatchRow) → batch.first ≡ id → (table : List Shown) → HoldsAhead old.next table (batch ∷ into_iter_items old.rest) → HoldsBatches new table
+PassesBatch id old new =
+    (batch : BatchRow) → batch.first ≡ id → (table : List Shown)
+    → HoldsAhead old.next table (batch ∷ into_iter_items old.rest) → HoldsBatches new table

@@ -53,7 +53,8 @@ IsRaisedIn g old new = HasCleanDisk (state g new.conn) → WasRaised old.version
 -- where the disk is clean, the journal tells the rows that there were, where they read, and the runs of them as its batches
 abbrev pub TellsRaised : {S : Type 0} → Ghosts S → View S → View S → Type 0
 TellsRaised g old new =
-    HasCleanDisk (state g new.conn) → (rows : List Row) → AreRowsBelow (state g old.conn) rows → AreTold ((journal_keeper g).told new) (with_runs rows)
+    HasCleanDisk (state g new.conn) → (rows : List Row) → AreRowsBelow (state g old.conn) rows
+    → AreTold ((journal_keeper g).told new) (with_runs rows)
 
 -- ---- between calls
 

@@ -20,7 +20,8 @@ abbrev files : RattleType
 files = Modelled.the_row Host.the_row Unknown.the_row HostCalls.ghosts UnknownStart.ghosts
 
 abbrev disk : Disk.Ghosts files.Denot
-disk = ModelledDisk.ghosts Host.the_row Unknown.the_row HostCalls.ghosts ModelledDisk.no_dict UnknownStart.ghosts ModelledDisk.no_dict ModelledDisk.no_dict
+disk =
+    ModelledDisk.ghosts Host.the_row Unknown.the_row HostCalls.ghosts ModelledDisk.no_dict UnknownStart.ghosts ModelledDisk.no_dict ModelledDisk.no_dict
 
 -- the store over them
 abbrev stores : RattleType

@@ -19,7 +19,8 @@ use Rattle.dns_journal.specs.Stored.{KeepsDatabase, PutsBatch, LeavesBatch, Leav
 
 -- a row for each of these records comes to a journal, in order, of one client, one serial and one moment, and where there are any one
 -- batch: all of them, or none
-pub record Puts {S E : Type 0} (g : Ghosts S) (old new : View S) (client serial moment : ℕ) (records : List Record) (result : Result (Unit {0}) E) : Type 0 where
+pub record Puts {S E : Type 0} (g : Ghosts S) (old new : View S) (client serial moment : ℕ) (records : List Record)
+    (result : Result (Unit {0}) E) : Type 0 where
   -- to the rows and the batches that the journal tells
   pub ok : OnOk result (GrowsByBatch (told_rows g old) (told_rows g new) client serial moment records)
   pub run : OnOk result (GrowsByRun ((journal_keeper g).told old) ((journal_keeper g).told new) records)
@@ -31,7 +32,8 @@ pub record Puts {S E : Type 0} (g : Ghosts S) (old new : View S) (client serial 
   pub committed : 0 < length records → OnOk result (LeavesShown (state g new.conn))
   -- a crash leaves them with the whole batch; after a refusal these, or what it might leave before
   pub alone : 0 < length records → OnOk result (LeavesItsOwn g new)
-  pub left : Leaves (state g new.conn) (λ kept. MayLeave (state g old.conn) kept ⊎ IsGrownFrom ((journal_keeper g).told old) client serial moment records kept)
+  pub left : Leaves (state g new.conn) (λ kept. MayLeave (state g old.conn) kept
+      ⊎ IsGrownFrom ((journal_keeper g).told old) client serial moment records kept)
   pub crash : LeavesBatch client serial moment records (state g old.conn) (state g new.conn)
   -- no records are no call of the connection
   pub empty : records ≡ [] → old.is_ready ≡ true → new ≡ old
@@ -42,7 +44,8 @@ pub record Puts {S E : Type 0} (g : Ghosts S) (old new : View S) (client serial 
   pub ready : new.is_ready ≡ old.is_ready
 
 -- an insert of these records, with why it is refused
-pub record Inserts {S : Type 0} (g : Ghosts S) (old new : View S) (client serial moment : ℕ) (records : List Record) (result : Result (Unit {0}) PersistenceError) : Type 0 where
+pub record Inserts {S : Type 0} (g : Ghosts S) (old new : View S) (client serial moment : ℕ) (records : List Record)
+    (result : Result (Unit {0}) PersistenceError) : Type 0 where
   pub put : Puts g old new client serial moment records result
   pub short : OnOk result (AreShort records)
   pub named : IfErr result (RefusesBatch records)

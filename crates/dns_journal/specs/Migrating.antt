@@ -73,4 +73,5 @@ pub record Raises {S : Type 0} (g : Ghosts S) (start : Start) (old new : Held S)
   pub made : HasCleanDisk (state g new) → IsBefore start (state g old).now → OnOk result (BecomesWith start (state g old) (state g new))
   pub kept : OnErr result (KeepsDatabase (state g old) (state g new))
   pub crash : HasCleanDisk (state g new) → OnOk result ((db : Trees) → (state g new).may_leave db → db ≡ (state g new).now.trees)
-  pub left : LeavesTrees (state g new) (λ db. (state g old).may_leave db ⊎ (IsTrue (state g old).is_open × (IsBefore start (state g old).now → MayBecomeWith start (state g old) db)))
+  pub left : LeavesTrees (state g new) (λ db. (state g old).may_leave db
+      ⊎ (IsTrue (state g old).is_open × (IsBefore start (state g old).now → MayBecomeWith start (state g old) db)))

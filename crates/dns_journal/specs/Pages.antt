@@ -42,4 +42,5 @@ IsStoredIn id s found = HasCleanDisk s → IsStoredFrom id (s.now.trees 1) found
 
 -- a page goes on behind its first row, which has this id
 abbrev pub PassesFirst : ℤ → Page → Page → Type 0
-PassesFirst id old new = (row : Row) → row.id ≡ id → (table : List Shown) → HoldsPage old.next table (row ∷ into_iter_items old.rest) → Holds new table
+PassesFirst id old new =
+    (row : Row) → row.id ≡ id → (table : List Shown) → HoldsPage old.next table (row ∷ into_iter_items old.rest) → Holds new table

@@ -29,7 +29,8 @@ pub record WasRead {S : Type 0} (g : Ghosts S) (old new : View S) : Type 0 where
   pub ready : new.is_ready ≡ old.is_ready
 
 -- the id and the record of the row with the least id from this one on, or that there is none
-pub record Selects {S : Type 0} (g : Ghosts S) (old new : View S) (id : ℤ) (result : Result (Option (ℤ × Record)) PersistenceError) : Type 0 where
+pub record Selects {S : Type 0} (g : Ghosts S) (old new : View S) (id : ℤ)
+    (result : Result (Option (ℤ × Record)) PersistenceError) : Type 0 where
   -- of the rows that the journal tells
   pub found : IfOk result (IsRecordFrom (told_rows g new) id)
   pub fits : IfOk result (λ found. IfSome found (λ f. FitsSigned w64 f.0))

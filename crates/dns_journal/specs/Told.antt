@@ -27,7 +27,8 @@ pub record View (S : Type 0) : Type 0 where
 
 abbrev pub view_code : {S : Type 0} → Coded S → Coded (View S)
 view_code {S} store =
-    code_by (Held S × (ℤ × (Bool × ℕ))) (coded× (held_code store) (coded× coded_ℤ (coded× coded_bool coded_ℕ))) (λ v. (v.conn, (v.version, (v.is_ready, v.faults))))
+    code_by (Held S × (ℤ × (Bool × ℕ))) (coded× (held_code store) (coded× coded_ℤ (coded× coded_bool coded_ℕ)))
+    (λ v. (v.conn, (v.version, (v.is_ready, v.faults))))
     (λ p. record { conn = p.0; version = p.1.0; is_ready = p.1.1.0; faults = p.1.1.1 }) (λ _. refl)
 
 -- a number of 64 bits

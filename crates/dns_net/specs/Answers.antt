@@ -27,7 +27,8 @@ use Rattle.dns_net.specs.Links.{LinkOf, TellsAsked}
 
 -- a request that carries this message, by this version, to this server and path, with these header fields beside the
 -- usual ones
-pub record Carries (version : Version) (name path : List ℕ) (fields : ℕ → Entries FieldValue) (refused : Option NetError) (message : Message) (request : Request (List ℕ)) : Type 0 where
+pub record Carries (version : Version) (name path : List ℕ) (fields : ℕ → Entries FieldValue) (refused : Option NetError)
+    (message : Message) (request : Request (List ℕ)) : Type 0 where
   pub head : IsRequest version name path (fields (length (message_bytes (with_id_0 message)))) (request_head request)
   pub body : request_body request ≡ message_bytes (with_id_0 message)
   pub short : length (request_body request) ≤ 65535

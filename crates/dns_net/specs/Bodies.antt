@@ -79,12 +79,14 @@ AsksNext told before answer after = GivesPiece (told before) (told after) answer
 -- how far a body was read: these calls, each of which gave a piece, gave these bytes
 pub data ReadsUpTo {B : Type 0} (next : B → Result (Option (List ℕ)) IoFault → B → Type 0) (before : B) : List ℕ → B → Type 0 where
   begun : ReadsUpTo next before [] before
-  went_on : {between after : B} {bytes piece : List ℕ} → ReadsUpTo next before bytes between → next between (Ok (Some piece)) after → ReadsUpTo next before (bytes ++ piece) after
+  went_on : {between after : B} {bytes piece : List ℕ} → ReadsUpTo next before bytes between
+      → next between (Ok (Some piece)) after → ReadsUpTo next before (bytes ++ piece) after
 
 -- how the reading of a body ends that gave these bytes so far: by the one call behind them, and nothing is read after it. At
 -- the end of the body they are as many as was said, or they are not; a piece came with which they are more than 65,535; or
 -- the call failed. Want of memory may come in that call, where room is made for its piece, or before the first call.
-abbrev pub EndsReading : {B : Type 0} → (B → Result (Option (List ℕ)) IoFault → B → Type 0) → Option ℕ → List ℕ → B → Result (List ℕ) NetError → B → Type 0
+abbrev pub EndsReading : {B : Type 0} → (B → Result (Option (List ℕ)) IoFault → B → Type 0)
+    → Option ℕ → List ℕ → B → Result (List ℕ) NetError → B → Type 0
 EndsReading next said kept between (Ok bytes) after =
     next between (Ok None) after × (bytes ≡ kept) × (is_said said (length kept) ≡ true)
 EndsReading next said kept between (Err (BadRequest Length)) after =
@@ -100,7 +102,8 @@ EndsReading next said kept between (Err _) after = ⊥
 
 -- what was asked of a body that is fetched, from the first call to the last: pieces of at most 65,535 bytes in all, and then
 -- the call that ends it
-pub record IsReadOnce {B : Type 0} (next : B → Result (Option (List ℕ)) IoFault → B → Type 0) (said : Option ℕ) (before : B) (result : Result (List ℕ) NetError) (after : B) : Type 0 where
+pub record IsReadOnce {B : Type 0} (next : B → Result (Option (List ℕ)) IoFault → B → Type 0) (said : Option ℕ) (before : B)
+    (result : Result (List ℕ) NetError) (after : B) : Type 0 where
   pub kept : List ℕ
   pub between : B
   pub given : ReadsUpTo next before kept between

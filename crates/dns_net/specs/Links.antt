@@ -10,7 +10,8 @@ use Rattle.dns_net.specs.declared.link.LinkCall.{LinkCall}
 use Rattle.dns_net.specs.declared.link.LinkCall.TheVariants.{Exchanged, Returned}
 
 -- an exchange is told with its request and limit, but where memory ran out
-abbrev pub TellsAsked : {B : Type 0} → Option (List (LinkCall B)) → Option (List (LinkCall B)) → Request (List ℕ) → Option ℕ → Result (Response B) LinkFault → Type 0
+abbrev pub TellsAsked : {B : Type 0} → Option (List (LinkCall B)) → Option (List (LinkCall B))
+    → Request (List ℕ) → Option ℕ → Result (Response B) LinkFault → Type 0
 TellsAsked before now request limit (Err OutOfMemory) = Keeps before now
 TellsAsked before now request limit result = Grows before now (Exchanged request limit ∷ [])
 

@@ -68,7 +68,8 @@ GivesResponse [] result after = ⊥
 GivesResponse (response ∷ rest) result after = (result ≡ Ok response) × (after ≡ rest)
 
 -- what the exchange of this number answers, where these fail and these are late, and which responses are left
-abbrev pub Answers : List ℕ → List ℕ → ℕ → List (Response BodyState) → Result (Response BodyState) LinkFault → List (Response BodyState) → Type 0
+abbrev pub Answers : List ℕ → List ℕ → ℕ → List (Response BodyState)
+    → Result (Response BodyState) LinkFault → List (Response BodyState) → Type 0
 Answers failing late number before result after =
     MatchBool (list_any (λ one. nat_eq one number) failing)
     ((result ≡ Err LinkFailed) × (after ≡ before))
@@ -78,7 +79,11 @@ Answers failing late number before result after =
 
 -- the link after an exchange is told and counted, with these responses left
 abbrev pub asked : LinkState → Request (List ℕ) → Option ℕ → List (Response BodyState) → LinkState
-asked l request limit rest = record l { responses = rest; calls = l.calls ++ Exchanged request limit ∷ []; exchanges = one_more l.exchanges }
+asked l request limit rest = record l {
+  responses = rest;
+  calls = l.calls ++ Exchanged request limit ∷ [];
+  exchanges = one_more l.exchanges;
+}
 
 -- and after its answer: a body is given out, or there is one more fault
 abbrev pub answered : LinkState → Result (Response BodyState) LinkFault → LinkState
@@ -95,4 +100,8 @@ ExchangeNext before request limit result after =
 -- the link after a body came back
 abbrev pub returned : LinkState → BodyState → LinkState
 returned l body =
-    record l { calls = l.calls ++ Returned body ∷ []; given_out = l.given_out - 1; faults = if nat_lt 0 body.faults then one_more l.faults else l.faults }
+    record l {
+      calls = l.calls ++ Returned body ∷ [];
+      given_out = l.given_out - 1;
+      faults = if nat_lt 0 body.faults then one_more l.faults else l.faults;
+    }

@@ -33,7 +33,15 @@ impl Model for MemoryLink {
 
     ghost Value = { LinkState };
 
-    ghost view = { λ l. record { responses = l.responses; failing = l.failing.items; late = l.late.items; calls = l.calls.items; given_out = l.given_out; exchanges = l.exchanges; faults = l.faults } };
+    ghost view = { λ l. record {
+      responses = l.responses;
+      failing = l.failing.items;
+      late = l.late.items;
+      calls = l.calls.items;
+      given_out = l.given_out;
+      exchanges = l.exchanges;
+      faults = l.faults;
+    } };
 
     ghost invariant = { λ l. (vec_len l.calls + l.given_out ≤ vec_capacity l.calls) × AreFresh l.responses };
 }

@@ -31,7 +31,8 @@ pub record StreamsOf (O Out In : Type 0) : Type 1 where
   pub opens : O → Option ℕ → Result (Out × In) LinkFault → O → Type 0
 
 -- an opening is told with its limit, but where memory ran out
-abbrev pub TellsOpened : {S R : Type 0} → Option (List (StreamCall S R)) → Option (List (StreamCall S R)) → Option ℕ → Result (S × R) LinkFault → Type 0
+abbrev pub TellsOpened : {S R : Type 0} → Option (List (StreamCall S R))
+    → Option (List (StreamCall S R)) → Option ℕ → Result (S × R) LinkFault → Type 0
 TellsOpened before now limit (Err OutOfMemory) = Keeps before now
 TellsOpened before now limit result = Grows before now (Opened limit ∷ [])
 
@@ -90,7 +91,8 @@ stream_of halves = record { send = halves.0; recv = halves.1; is_ended = false; 
 -- the next accepted stream, none at the end, or a fault
 abbrev pub GivesStream : {S R : Type 0} → Option (List (S × R)) → Option (List (S × R)) → Option (Result (QuicStream S R) NetError) → Type 0
 GivesStream before now None = Told (λ left rest. (left ≡ []) × (rest ≡ [])) before now
-GivesStream before now (Some (Ok stream)) = (stream ≡ stream_of (stream.send, stream.recv)) × Takes before now ((stream.send, stream.recv) ∷ [])
+GivesStream before now (Some (Ok stream)) =
+    (stream ≡ stream_of (stream.send, stream.recv)) × Takes before now ((stream.send, stream.recv) ∷ [])
 GivesStream before now (Some (Err fault)) = IsIoFault fault × Keeps before now
 
 -- the cause of an answer where there may be none

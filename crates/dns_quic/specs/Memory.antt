@@ -43,7 +43,8 @@ with_bytes s bytes = record s { taken = s.taken ++ bytes }
 abbrev pub WriteNext : SendState → List ℕ → Result (Unit {0}) IoFault → SendState → Type 0
 WriteNext before bytes result after =
     MatchBool (next_fails before.failing before.calls)
-    ((result ≡ Err Failed) × ((after ≡ with_bytes (failed_call before) (take (min (length bytes) before.partly) bytes)) ⊎ (after ≡ failed_call before)))
+    ((result ≡ Err Failed)
+    × ((after ≡ with_bytes (failed_call before) (take (min (length bytes) before.partly) bytes)) ⊎ (after ≡ failed_call before)))
     (MatchResult result
     (λ _. after ≡ with_bytes (called before) bytes)
     (λ fault. (fault ≡ OutOfMemory) × (after ≡ called before)))
@@ -136,7 +137,8 @@ OpensNext [] result after = ⊥
 OpensNext (halves ∷ rest) result after = (result ≡ Ok halves) × (after ≡ rest)
 
 -- what the opening of this number answers, where these fail and these are late, and which streams are left
-abbrev pub Answers : List ℕ → List ℕ → ℕ → List (SendState × RecvState) → Result (SendState × RecvState) LinkFault → List (SendState × RecvState) → Type 0
+abbrev pub Answers : List ℕ → List ℕ → ℕ → List (SendState × RecvState)
+    → Result (SendState × RecvState) LinkFault → List (SendState × RecvState) → Type 0
 Answers failing late number before result after =
     MatchBool (list_any (λ one. nat_eq one number) failing)
     ((result ≡ Err LinkFailed) × (after ≡ before))
@@ -171,4 +173,8 @@ AcceptNext before result after =
 -- the connection after halves came back
 abbrev pub returned : StreamsState → SendState → RecvState → StreamsState
 returned c out back =
-    record c { calls = c.calls ++ Returned out back ∷ []; given_out = c.given_out - 1; faults = if nat_lt 0 out.faults || nat_lt 0 back.faults then one_more c.faults else c.faults }
+    record c {
+      calls = c.calls ++ Returned out back ∷ [];
+      given_out = c.given_out - 1;
+      faults = if nat_lt 0 out.faults || nat_lt 0 back.faults then one_more c.faults else c.faults;
+    }

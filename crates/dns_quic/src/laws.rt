@@ -17,5 +17,6 @@ pub fn codes_read_back()
 /// fails and memory lasts.
 pub fn messages_received()
     ensures { (message more rest : List ℕ) (result : Result (List ℕ) Fault) → length message ≤ 65535 → IsReceived result
-        → ReceivesFrame result (frame_of message ++ more) rest → ¬ (IsErrOf result Io) → ¬ (IsErrOf result OutOfMemory) → (result ≡ Ok message) × (rest ≡ more) }
+        → ReceivesFrame result (frame_of message ++ more) rest → ¬ (IsErrOf result Io)
+        → ¬ (IsErrOf result OutOfMemory) → (result ≡ Ok message) × (rest ≡ more) }
 {}

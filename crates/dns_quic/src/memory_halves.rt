@@ -29,7 +29,14 @@ impl Model for MemorySend {
 
     ghost Value = { SendState };
 
-    ghost view = { λ s. record { taken = s.bytes; partly = s.partly; ends = s.ends.items; failing = s.failing.items; calls = s.calls; faults = s.faults } };
+    ghost view = { λ s. record {
+      taken = s.bytes;
+      partly = s.partly;
+      ends = s.ends.items;
+      failing = s.failing.items;
+      calls = s.calls;
+      faults = s.faults;
+    } };
 }
 
 impl MemorySend {
@@ -150,7 +157,14 @@ impl Model for MemoryRecv {
 
     ghost Value = { RecvState };
 
-    ghost view = { λ r. record { left = drop r.place r.bytes; step = r.step; stops = r.stops.items; failing = r.failing.items; calls = r.calls; faults = r.faults } };
+    ghost view = { λ r. record {
+      left = drop r.place r.bytes;
+      step = r.step;
+      stops = r.stops.items;
+      failing = r.failing.items;
+      calls = r.calls;
+      faults = r.faults;
+    } };
 
     ghost invariant = { λ r. (r.place ≤ length r.bytes) × (0 < r.step) };
 }

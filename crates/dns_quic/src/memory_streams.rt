@@ -35,7 +35,19 @@ impl Model for MemoryStreams {
 
     ghost Value = { StreamsState };
 
-    ghost view = { λ c. record { opening = c.opening; coming = c.coming; failing = c.failing.items; late = c.late.items; failing_accepts = c.failing_accepts.items; calls = c.calls.items; closed = c.closed; given_out = c.given_out; opens = c.opens; accepts = c.accepts; faults = c.faults } };
+    ghost view = { λ c. record {
+      opening = c.opening;
+      coming = c.coming;
+      failing = c.failing.items;
+      late = c.late.items;
+      failing_accepts = c.failing_accepts.items;
+      calls = c.calls.items;
+      closed = c.closed;
+      given_out = c.given_out;
+      opens = c.opens;
+      accepts = c.accepts;
+      faults = c.faults;
+    } };
 
     ghost invariant = { λ c. (vec_len c.calls + c.given_out ≤ vec_capacity c.calls) × AreFresh c.opening };
 }

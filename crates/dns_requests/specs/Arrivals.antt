@@ -32,7 +32,8 @@ asks_of c arrivals = asks_through c arrivals (length arrivals)
 
 -- what was read, each read in time, and none behind the last message that a connection may have: the first reading of the clock, and
 -- then the reads, a reading behind each of them. However their bytes were cut, the messages are the first frames of all of them
-pub record Hears {S C : Type 0} (source : SourceOf S) (clock : ClockOf C) (peer : Peer) (limit : ℕ) (s : S) (c : C) (heard : S) (ticked : C) : Type 0 where
+pub record Hears {S C : Type 0} (source : SourceOf S) (clock : ClockOf C) (peer : Peer) (limit : ℕ) (s : S) (c : C) (heard : S)
+    (ticked : C) : Type 0 where
   pub began : ℕ
   pub arrivals : List Arrival
   pub pieces : AllByRecursion (λ a. IsPiece a.piece) arrivals
@@ -45,7 +46,8 @@ pub record Hears {S C : Type 0} (source : SourceOf S) (clock : ClockOf C) (peer 
   pub messages : map (λ a. a.bytes) (asks_of (opened peer limit began) arrivals) ≡ first_messages most_messages (bytes_of arrivals)
 
 -- the messages of what was read
-abbrev pub heard : {S C : Type 0} → {source : SourceOf S} → {clock : ClockOf C} → {peer : Peer} → {limit : ℕ} → {s : S} → {c : C} → {source_now : S} → {clock_now : C}
+abbrev pub heard : {S C : Type 0} → {source : SourceOf S} → {clock : ClockOf C}
+    → {peer : Peer} → {limit : ℕ} → {s : S} → {c : C} → {source_now : S} → {clock_now : C}
     → Hears source clock peer limit s c source_now clock_now → List Ask
 heard {peer = peer} {limit = limit} h = asks_of (opened peer limit h.began) h.arrivals
 
@@ -59,7 +61,8 @@ pub record Receives {S : Type 0} (source : SourceOf S) (before after : S) (piece
 
 -- no bytes came: the read that was made failed, or found no memory, if one was made at all
 abbrev pub ReceivesNot : {S : Type 0} → SourceOf S → S → S → ServeFault → Type 0
-ReceivesNot source before after Read = source.reads before room (Err io.Failed) after × Rose (source.told before).faults (source.told after).faults
+ReceivesNot source before after Read =
+    source.reads before room (Err io.Failed) after × Rose (source.told before).faults (source.told after).faults
 ReceivesNot source before after OutOfMemory =
     ((after ≡ before) ⊎ source.reads before room (Err io.OutOfMemory) after) × ((source.told after).faults ≡ (source.told before).faults)
 ReceivesNot source before after _ = ⊥

@@ -38,7 +38,8 @@ CountsWriting before now (Err OutOfMemory) = now ≡ before
 CountsWriting before now (Err _) = ⊥
 
 -- the meanings of a handler, a source, a sink and a clock
-module _ {H S W C : Type 0} (serves : H → Ask → Settled → H → Type 0) (skips : H → H → Type 0) (source : SourceOf S) (sink : SinkOf W) (clock : ClockOf C)
+module _ {H S W C : Type 0} (serves : H → Ask → Settled → H → Type 0) (skips : H → H → Type 0) (source : SourceOf S)
+    (sink : SinkOf W) (clock : ClockOf C)
     (terms : Terms) (before after : Parts H S W C) where
   -- what was read, up to a source and a clock
   abbrev pub HearsUpTo : S → C → Type 0
@@ -146,7 +147,8 @@ module _ {H S W C : Type 0} (serves : H → Ask → Settled → H → Type 0) (s
     pub within : length hears.arrivals ≤ terms.reads
     pub refused : (after.source ≡ source_heard) ⊎ source.reads source_heard room (Err io.OutOfMemory) after.source
     pub kept : TakesNone source_heard
-    pub answers : BreaksOff serves skips before.handler (heard hears) after.handler (sink.told before.sink).taken (sink.told after.sink).taken
+    pub answers : BreaksOff serves skips before.handler (heard hears) after.handler
+        (sink.told before.sink).taken (sink.told after.sink).taken
     pub source_calm : IsSourceCalm
     pub sink_calm : IsSinkCalm
 

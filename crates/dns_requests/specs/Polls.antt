@@ -31,7 +31,8 @@ base_by base now (Ready None) = base
 base_by base now Pending = base
 
 -- one asking: the stream is asked once, and what it answers is told
-pub record PollsOnce {S T F : Type 0} (polls : S → ℕ → Poll (Option (Result T F)) → S → Type 0) (before : UnderLimit S) (now : ℕ) (result : Poll (Option (Result T (TimeoutFault F)))) (after : UnderLimit S) : Type 0 where
+pub record PollsOnce {S T F : Type 0} (polls : S → ℕ → Poll (Option (Result T F)) → S → Type 0) (before : UnderLimit S) (now : ℕ)
+    (result : Poll (Option (Result T (TimeoutFault F)))) (after : UnderLimit S) : Type 0 where
   pub answer : Poll (Option (Result T F))
   pub asked : polls before.stream now answer after.stream
   pub told : result ≡ told_by (unwrap_or before.base now) before.timeout now answer

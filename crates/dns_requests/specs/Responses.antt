@@ -46,12 +46,14 @@ info_of code bytes = record {
 -- the reply was taken whole
 abbrev pub IsSent : Protocol → Reply → ℕ → Option (List ℕ) → Option (List ℕ) → ResponseInfo → Type 0
 IsSent protocol reply limit before now info =
-    (bytes : List ℕ) × Written (sent_reply protocol reply) limit bytes × Grows before now (sent_as protocol bytes) × (info ≡ info_of reply.code bytes)
+    (bytes : List ℕ) × Written (sent_reply protocol reply) limit bytes
+    × Grows before now (sent_as protocol bytes) × (info ≡ info_of reply.code bytes)
 
 -- a front of it was taken
 abbrev pub IsBegun : Protocol → Reply → ℕ → Option (List ℕ) → Option (List ℕ) → Type 0
 IsBegun protocol reply limit before now =
-    (bytes : List ℕ) × Written (sent_reply protocol reply) limit bytes × ((rest : List ℕ) × GrowsByPrefix before now (sent_as protocol bytes) rest)
+    (bytes : List ℕ) × Written (sent_reply protocol reply) limit bytes
+    × ((rest : List ℕ) × GrowsByPrefix before now (sent_as protocol bytes) rest)
 
 -- how sending ends by a fault: of the sink, or for want of memory, also before anything was written
 abbrev pub BreaksOff : Protocol → Reply → ℕ → Option (List ℕ) → Option (List ℕ) → NetError → Type 0
@@ -67,7 +69,8 @@ CountsSending before now (Err OutOfMemory) = now ≡ before
 CountsSending before now (Err _) = ⊥
 
 -- what sending a reply does
-pub record SendsResponse {W : Type 0} (sink : SinkOf W) (before : HandleOf W) (reply : Reply) (limit : ℕ) (result : Result ResponseInfo NetError) (after : HandleOf W) : Type 0 where
+pub record SendsResponse {W : Type 0} (sink : SinkOf W) (before : HandleOf W) (reply : Reply) (limit : ℕ)
+    (result : Result ResponseInfo NetError) (after : HandleOf W) : Type 0 where
   pub same : after ≡ record before { sink = after.sink }
   pub sent : MatchResult result
       (IsSent before.protocol reply limit (sink.told before.sink).taken (sink.told after.sink).taken)

@@ -6,13 +6,15 @@ use Rattle.dns_book.specs.declared.ask.Settled.{Settled}
 use Rattle.dns_server_core.specs.FrameRuns.{Run}
 
 -- all of them were settled, and a sink took exactly the bytes of their replies
-pub record Answers {H : Type 0} (serves : H → Ask → Settled → H → Type 0) (before : H) (asks : List Ask) (after : H) (taken now : Option (List ℕ)) : Type 0 where
+pub record Answers {H : Type 0} (serves : H → Ask → Settled → H → Type 0) (before : H) (asks : List Ask) (after : H)
+    (taken now : Option (List ℕ)) : Type 0 where
   pub bytes : List ℕ
   pub run : Run serves before asks bytes after
   pub sent : Grows taken now bytes
 
 -- all of them were settled, and a sink took a front of the bytes of their replies
-pub record AnswersPartly {H : Type 0} (serves : H → Ask → Settled → H → Type 0) (before : H) (asks : List Ask) (after : H) (taken now : Option (List ℕ)) : Type 0 where
+pub record AnswersPartly {H : Type 0} (serves : H → Ask → Settled → H → Type 0) (before : H) (asks : List Ask) (after : H)
+    (taken now : Option (List ℕ)) : Type 0 where
   pub bytes : List ℕ
   pub run : Run serves before asks bytes after
   pub unsent : List ℕ
@@ -20,7 +22,8 @@ pub record AnswersPartly {H : Type 0} (serves : H → Ask → Settled → H → 
 
 -- the first of them were settled, and behind these came at most one call that found no memory; a sink took a front of the bytes
 -- of their replies
-pub record BreaksOff {H : Type 0} (serves : H → Ask → Settled → H → Type 0) (skips : H → H → Type 0) (before : H) (asks : List Ask) (after : H) (taken now : Option (List ℕ)) : Type 0 where
+pub record BreaksOff {H : Type 0} (serves : H → Ask → Settled → H → Type 0) (skips : H → H → Type 0) (before : H) (asks : List Ask)
+    (after : H) (taken now : Option (List ℕ)) : Type 0 where
   pub first : List Ask
   pub others : List Ask
   pub parts : asks ≡ first ++ others

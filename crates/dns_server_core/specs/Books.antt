@@ -7,7 +7,8 @@ use Rattle.dns_server_core.specs.declared.event.Out.{Out}
 use Rattle.dns_server_core.specs.Runs.{Completed, Run}
 
 -- how many steps of a run bring records that the keeper failed to take: each is an update that gets ServFail (RFC 2136 3.8)
-abbrev pub failures : {K : Type 0} → (keeper : KeeperOf K) → (access : Access) → (before : SeenOf K) → (asks : List Completed) → (outs : List Out)
+abbrev pub failures : {K : Type 0} → (keeper : KeeperOf K) → (access : Access)
+    → (before : SeenOf K) → (asks : List Completed) → (outs : List Out)
     → (after : SeenOf K) → Run (Settles keeper access) before asks outs after → ℕ
 failures keeper access before [] outs after ran = 0
 failures keeper access before (c ∷ cs) outs after ran = (if ran.3.failed then 1 else 0) + failures keeper access ran.1 cs ran.2 after ran.5

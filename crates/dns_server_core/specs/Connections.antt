@@ -17,9 +17,9 @@ use Rattle.dns_server_core.specs.Runs.{Completed}
 abbrev pub most_messages : ℕ
 most_messages = 100
 
--- a connection: its number, the other end, for how many milliseconds it may stay without a whole message (0 is without limit), the moment of
--- its acceptance or of the last piece that completed a message, the bytes that are not yet a message, and how many messages were completed
--- since its acceptance
+-- a connection: its number, the other end, for how many milliseconds it may stay without a whole message (0 is without limit), the moment
+-- of its acceptance or of the last piece that completed a message, the bytes that are not yet a message, and how many messages were
+-- completed since its acceptance
 pub record Connection : Type 0 where
   pub number : ℕ
   pub peer : Peer
@@ -142,7 +142,9 @@ in_time c pieces (suc i) = in_time c pieces i && (may_go_on c pieces i && is_wit
 -- the messages that the piece behind the first ones completes, where all through it are in time
 unfoldable pub completed : Connection → List Arrival → ℕ → List (List ℕ)
 completed c pieces i =
-    if in_time c pieces (suc i) then drop (whole c pieces i) (take (whole c pieces (suc i)) (frames (total c pieces (suc i))).messages) else []
+    if in_time c pieces (suc i)
+    then drop (whole c pieces i) (take (whole c pieces (suc i)) (frames (total c pieces (suc i))).messages)
+    else []
 
 -- the messages that one more event completes
 abbrev pub completed_with : Turn → Connection → Bool → List Arrival → List (List ℕ)
@@ -152,11 +154,13 @@ completed_with Other c ended pieces = []
 
 -- the messages of one connection that an event completes
 abbrev pub completed_by : Event → Start → List (List ℕ)
-completed_by e s = completed_with (turn_of s.connection.number e) s.connection (is_ended s.connection.number s.later) (byte_events s.connection.number s.later)
+completed_by e s = completed_with (turn_of s.connection.number e) s.connection
+    (is_ended s.connection.number s.later) (byte_events s.connection.number s.later)
 
 -- a message of a connection, whose reply goes there
 abbrev pub message_on : ℕ → Peer → ℕ → List ℕ → Completed
-message_on number peer at message = record { to = to.Conn number; ask = record { bytes = message; source = peer; protocol = Tcp; at = at; client = 0 } }
+message_on number peer at message =
+    record { to = to.Conn number; ask = record { bytes = message; source = peer; protocol = Tcp; at = at; client = 0 } }
 
 abbrev pub message_of : ℕ → Connection → List ℕ → Completed
 message_of at c = message_on c.number c.peer at
@@ -166,13 +170,15 @@ abbrev pub datagram_by : Event → List Completed
 datagram_by (Accepted at conn peer limit) = []
 datagram_by (Bytes at conn piece) = []
 datagram_by (Ended at conn) = []
-datagram_by (Datagram at peer bytes) = record { to = to.Peer peer; ask = record { bytes = bytes; source = peer; protocol = Udp; at = at; client = 0 } } ∷ []
+datagram_by (Datagram at peer bytes) =
+    record { to = to.Peer peer; ask = record { bytes = bytes; source = peer; protocol = Udp; at = at; client = 0 } } ∷ []
 datagram_by (Tick at) = []
 datagram_by (Stop at) = []
 
 -- the messages that an event completes behind these events
 abbrev pub completed_at : List Connection → List Event → Event → List Completed
-completed_at connections before e = datagram_by e ++ flat_map (λ s. map (message_of (moment e) s.connection) (completed_by e s)) (starts connections before)
+completed_at connections before e =
+    datagram_by e ++ flat_map (λ s. map (message_of (moment e) s.connection) (completed_by e s)) (starts connections before)
 
 abbrev pub done_from : List Connection → List Event → List Event → List Completed
 done_from connections before [] = []
@@ -199,7 +205,8 @@ unfoldable pub left_at : ℕ → Start → Option Connection
 left_at last s = if is_ended s.connection.number s.later || has_stop s.later then None
     else if in_time s.connection (byte_events s.connection.number s.later) (length (byte_events s.connection.number s.later))
     && (may_go_on s.connection (byte_events s.connection.number s.later) (length (byte_events s.connection.number s.later))
-    && is_within s.connection.limit (base s.connection (byte_events s.connection.number s.later) (length (byte_events s.connection.number s.later))) last)
+    && is_within s.connection.limit
+    (base s.connection (byte_events s.connection.number s.later) (length (byte_events s.connection.number s.later))) last)
     then Some (left_by s.connection (byte_events s.connection.number s.later)) else None
 
 -- what is kept after a list

@@ -33,13 +33,16 @@ Run {H} serves before (ask ∷ asks) bytes after = (settled : Settled) × (betwe
     × serves before ask settled between × (bytes ≡ frame_for settled.reply ++ others) × Run serves between asks others after
 
 -- all of them were settled, and the bytes of their replies added to those that there were
-pub record Adds {H : Type 0} (serves : H → Ask → Settled → H → Type 0) (before : H) (asks : List Ask) (after : H) (old new : List ℕ) : Type 0 where
+pub record Adds {H : Type 0} (serves : H → Ask → Settled → H → Type 0) (before : H) (asks : List Ask) (after : H)
+    (old new : List ℕ) : Type 0 where
   pub bytes : List ℕ
   pub run : Run serves before asks bytes after
   pub added : new ≡ old ++ bytes
 
--- the first of them were settled, and the bytes of their replies added to those that there were; behind these came at most one call that found no memory
-pub record Halts {H : Type 0} (serves : H → Ask → Settled → H → Type 0) (skips : H → H → Type 0) (before : H) (asks : List Ask) (after : H) (old new : List ℕ) : Type 0 where
+-- the first of them were settled, and the bytes of their replies added to those that there were; behind these came at most one call that
+-- found no memory
+pub record Halts {H : Type 0} (serves : H → Ask → Settled → H → Type 0) (skips : H → H → Type 0) (before : H) (asks : List Ask)
+    (after : H) (old new : List ℕ) : Type 0 where
   pub first : List Ask
   pub others : List Ask
   pub parts : asks ≡ first ++ others
@@ -50,7 +53,8 @@ pub record Halts {H : Type 0} (serves : H → Ask → Settled → H → Type 0) 
   pub end : (after ≡ last) ⊎ skips last after
 
 -- the first of all messages were settled, and these are left
-pub record AddsFront {H : Type 0} (serves : H → Ask → Settled → H → Type 0) (before : H) (all : List Ask) (after : H) (left : List Ask) (old new : List ℕ) : Type 0 where
+pub record AddsFront {H : Type 0} (serves : H → Ask → Settled → H → Type 0) (before : H) (all : List Ask) (after : H)
+    (left : List Ask) (old new : List ℕ) : Type 0 where
   pub first : List Ask
   pub parts : all ≡ first ++ left
   pub adds : Adds serves before first after old new

@@ -14,19 +14,22 @@ pub record ResponderOf (H : Type 0) : Type 0 where
   pub settled : ℕ
 
 -- these messages were settled and counted, and the same sources are let in
-pub record Hands {H : Type 0} (serves : Access → H → Ask → Settled → H → Type 0) (before : ResponderOf H) (asks : List Completed) (after : ResponderOf H) : Type 0 where
+pub record Hands {H : Type 0} (serves : Access → H → Ask → Settled → H → Type 0) (before : ResponderOf H) (asks : List Completed)
+    (after : ResponderOf H) : Type 0 where
   pub answered : Answers (serves before.access) before.handler asks after.handler before.outs after.outs
   pub counted : after.settled ≡ before.settled + length asks
   pub access : after.access ≡ before.access
 
 -- those of all that stand before the rest
-pub record HandsFront {H : Type 0} (serves : Access → H → Ask → Settled → H → Type 0) (before : ResponderOf H) (all : List Completed) (after : ResponderOf H) (rest : List Completed) : Type 0 where
+pub record HandsFront {H : Type 0} (serves : Access → H → Ask → Settled → H → Type 0) (before : ResponderOf H) (all : List Completed)
+    (after : ResponderOf H) (rest : List Completed) : Type 0 where
   pub front : List Completed
   pub parts : all ≡ front ++ rest
   pub handed : Hands serves before front after
 
 -- a front of all, and at most one call that found no memory behind it
-pub record Breaks {H : Type 0} (serves : Access → H → Ask → Settled → H → Type 0) (skips : H → H → Type 0) (before : ResponderOf H) (all : List Completed) (after : ResponderOf H) : Type 0 where
+pub record Breaks {H : Type 0} (serves : Access → H → Ask → Settled → H → Type 0) (skips : H → H → Type 0) (before : ResponderOf H)
+    (all : List Completed) (after : ResponderOf H) : Type 0 where
   pub last : H
   pub rest : List Completed
   pub front : HandsFront serves before all (record after { handler = last }) rest

@@ -1,8 +1,8 @@
 -- Runs over the messages that a list of events completes.
-use Rattle.std.specs.Prelude.{◌≡◌, ℕ, List, [], ◌∷◌, ◌++◌, length, Option, Some, None, Bool, true, false}
-use Rattle.std.specs.Int.{w16, to_be_bytes}
+use Rattle.std.specs.Prelude.{◌≡◌, ℕ, List, [], ◌∷◌, ◌++◌, Option, Some, None, Bool, true, false}
 use Rattle.dns_book.specs.declared.ask.Ask.{Ask}
 use Rattle.dns_book.specs.declared.ask.Settled.{Settled}
+use Rattle.dns_frames.specs.Frames.{frame_of}
 use Rattle.dns_server_core.specs.declared.event.Out.{Out}
 use Rattle.dns_server_core.specs.declared.event.Receiver.{Receiver}
 use Rattle.dns_server_core.specs.declared.event.Receiver.TheVariants.{Conn, Peer}
@@ -14,7 +14,7 @@ pub record Completed : Type 0 where
 
 -- a reply as it is sent: behind its length on a connection (RFC 1035 4.2.2), plain to a peer
 abbrev pub sent_to : Receiver → List ℕ → List ℕ
-sent_to (Conn number) bytes = to_be_bytes w16 (length bytes) ++ bytes
+sent_to (Conn number) bytes = frame_of bytes
 sent_to (Peer peer) bytes = bytes
 
 -- whether a reply goes over a connection
@@ -34,7 +34,8 @@ Run {H} serves before (c ∷ cs) outs after = (settled : Settled) × (between : 
     × serves before c.ask settled between × (outs ≡ outs_of c.to settled.reply ++ others) × Run serves between cs others after
 
 -- a run whose replies were added to those that there were
-pub record Answers {H : Type 0} (serves : H → Ask → Settled → H → Type 0) (before : H) (asks : List Completed) (after : H) (old new : List Out) : Type 0 where
+pub record Answers {H : Type 0} (serves : H → Ask → Settled → H → Type 0) (before : H) (asks : List Completed) (after : H)
+    (old new : List Out) : Type 0 where
   pub outs : List Out
   pub run : Run serves before asks outs after
   pub added : new ≡ old ++ outs

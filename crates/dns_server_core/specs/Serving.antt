@@ -31,7 +31,8 @@ pub record IsCutOff (before : Kept) (events : List Event) (after : Kept) : Type 
 
 -- memory ran out behind the first messages of a list, count of them: a run over these, and at most one call behind it that
 -- found no memory
-pub record StopsAt {H : Type 0} (serves : H → Ask → Settled → H → Type 0) (skips : H → H → Type 0) (before : ServerOf H) (events : List Event) (after : ServerOf H) (old new : List Out) (count : ℕ) : Type 0 where
+pub record StopsAt {H : Type 0} (serves : H → Ask → Settled → H → Type 0) (skips : H → H → Type 0) (before : ServerOf H)
+    (events : List Event) (after : ServerOf H) (old new : List Out) (count : ℕ) : Type 0 where
   pub running : before.kept.stopped ≡ false
   pub some : count ≤ length (done before.kept events)
   pub last : H
@@ -40,6 +41,7 @@ pub record StopsAt {H : Type 0} (serves : H → Ask → Settled → H → Type 0
   pub cut_off : IsCutOff before.kept events after.kept
 
 -- what stands where a list was not served to its end: after a stop that an earlier list took, everything as it was
-abbrev pub Leaves : {H : Type 0} → (H → Ask → Settled → H → Type 0) → (H → H → Type 0) → ServerOf H → List Event → ServerOf H → List Out → List Out → RunFault → Type 0
+abbrev pub Leaves : {H : Type 0} → (H → Ask → Settled → H → Type 0) → (H → H → Type 0)
+    → ServerOf H → List Event → ServerOf H → List Out → List Out → RunFault → Type 0
 Leaves serves skips before events after old new Stopped = (before.kept.stopped ≡ true) × (after ≡ before) × (new ≡ old)
 Leaves serves skips before events after old new (OutOfMemory count) = StopsAt serves skips before events after old new count

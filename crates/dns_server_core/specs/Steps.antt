@@ -55,7 +55,8 @@ piece_at at piece = Piece (record { at = at; piece = piece })
 
 -- the connection with one more piece of its bytes
 abbrev pub with_piece : Connection → List ℕ → Connection
-with_piece conn piece = record { number = conn.number; peer = conn.peer; limit = conn.limit; base = conn.base; rest = conn.rest ++ piece; taken = conn.taken }
+with_piece conn piece =
+    record { number = conn.number; peer = conn.peer; limit = conn.limit; base = conn.base; rest = conn.rest ++ piece; taken = conn.taken }
 
 -- a connection hears a piece at a moment: in time, the piece stands behind its unread bytes; past its base and its limit, nothing changes
 abbrev pub HearsPiece : Connection → ℕ → List ℕ → Heard → Connection → Type 0
@@ -71,7 +72,8 @@ abbrev pub heard_messages : ℕ → Connection → Turn → List Completed
 heard_messages at conn turn = map (message_of at conn) (heard conn turn)
 
 abbrev pub completed_now : Event → List Connection → List Completed
-completed_now e connections = datagram_by e ++ flat_map (λ conn. map (message_of (moment e) conn) (heard conn (turn_of conn.number e))) connections
+completed_now e connections =
+    datagram_by e ++ flat_map (λ conn. map (message_of (moment e) conn) (heard conn (turn_of conn.number e))) connections
 
 abbrev pub open_next : Event → List Connection → List Connection
 open_next e connections = filter_map (step e) connections ++ accepted e

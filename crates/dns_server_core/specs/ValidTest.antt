@@ -25,4 +25,5 @@ is_next last greatest stopped e = not stopped && (fits e && (nat_le last (moment
 
 abbrev pub are_valid : ℕ → Option ℕ → Bool → List Event → Bool
 are_valid last greatest stopped [] = true
-are_valid last greatest stopped (e ∷ es) = is_next last greatest stopped e && are_valid (moment e) (last_number greatest (number_in e)) (is_stop e) es
+are_valid last greatest stopped (e ∷ es) =
+    is_next last greatest stopped e && are_valid (moment e) (last_number greatest (number_in e)) (is_stop e) es

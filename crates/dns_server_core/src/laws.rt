@@ -14,5 +14,6 @@ pub fn completed_messages()
     // So the replies are those of the bytes, however the bytes are cut.
     ensures cut { (kept : Kept) (front back : List Event) (at number : ℕ) (piece more : List ℕ) → IsKept kept
         → Valid kept (front ++ Bytes at number (piece ++ more) ∷ back)
-        → done kept (front ++ Bytes at number (piece ++ more) ∷ back) ≡ done kept (front ++ Bytes at number piece ∷ Bytes at number more ∷ back) }
+        → done kept (front ++ Bytes at number (piece ++ more) ∷ back)
+        ≡ done kept (front ++ Bytes at number piece ∷ Bytes at number more ∷ back) }
 {}

@@ -133,8 +133,10 @@ impl<T: RequestHandler> Server<T> {
     pub fn cut_pieces(&self)
         ensures { (front back : List Happening) (at number : ℕ) (piece more : List ℕ) (later : T) (old new : List Sent)
             → Valid self.now.kept (front ++ Piece at number (piece ++ more) ∷ back)
-            → Answers (T.serves self.now.access) self.now.handler (done self.now.kept (front ++ Piece at number (piece ++ more) ∷ back)) later old new
-            ↔ Answers (T.serves self.now.access) self.now.handler (done self.now.kept (front ++ Piece at number piece ∷ Piece at number more ∷ back)) later old new }
+            → Answers (T.serves self.now.access) self.now.handler
+            (done self.now.kept (front ++ Piece at number (piece ++ more) ∷ back)) later old new
+            ↔ Answers (T.serves self.now.access) self.now.handler
+            (done self.now.kept (front ++ Piece at number piece ∷ Piece at number more ∷ back)) later old new }
     {
         self.sessions.keeps_order();
     }

@@ -46,7 +46,14 @@ impl Model for Session {
 
     ghost Value = { Connection };
 
-    ghost view = { λ s. record { number = s.number; peer = s.peer; limit = s.limit; base = s.base; rest = s.unread.items; taken = s.taken } };
+    ghost view = { λ s. record {
+      number = s.number;
+      peer = s.peer;
+      limit = s.limit;
+      base = s.base;
+      rest = s.unread.items;
+      taken = s.taken;
+    } };
 }
 
 impl Session {

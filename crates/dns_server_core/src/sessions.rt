@@ -40,7 +40,12 @@ impl Model for Sessions {
 
     ghost view = { λ s. record { last = s.last; greatest = s.greatest; stopped = s.stopped; connections = s.connections.items } };
 
-    ghost invariant = { λ s. IsKept (record { last = s.last; greatest = s.greatest; stopped = s.stopped; connections = s.connections.items }) };
+    ghost invariant = { λ s. IsKept (record {
+      last = s.last;
+      greatest = s.greatest;
+      stopped = s.stopped;
+      connections = s.connections.items;
+    }) };
 }
 
 impl Sessions {

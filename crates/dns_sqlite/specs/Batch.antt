@@ -82,7 +82,8 @@ module _ (client serial : ℕ) (stamp : List ℕ) where
 -- inside a transaction, on a clean disk: the id is that of the first row that was put
 abbrev pub NamesFirst : {S : Type 0} → Ghosts S → Held S → Held S → Result ℤ Error → Type 0
 NamesFirst g old new result =
-    HasCleanDisk (state g new) → IsTrue (state g old).in_transaction → HasTables (state g old).now → IfOk result (λ id. id ≡ next_rowid ((state g old).now.trees 1))
+    HasCleanDisk (state g new) → IsTrue (state g old).in_transaction → HasTables (state g old).now
+    → IfOk result (λ id. id ≡ next_rowid ((state g old).now.trees 1))
 
 -- a batch of records is added in a transaction, whole or not at all
 abbrev pub AddsBatch : {S T : Type 0} → Ghosts S → ℕ → ℕ → List ℕ → List (List ℕ) → Held S → Held S → Result T Error → Type 0

@@ -58,11 +58,14 @@ pub record WasAsked {S : Type 0} (g : Ghosts S) (old new : Held S) : Type 0 wher
 -- these are a page of the rows that the query goes on to show, if it stands at its start
 abbrev pub FindsPage : {S : Type 0} → Ghosts S → Held S → Held S → List Row → Type 0
 FindsPage g old new rows =
-    HasCleanDisk (state g new) → IsTrue (state g old).is_open → HasRecords (state g old).now → (id : ℤ) → HasGiven g from_text (Int id ∷ []) old [] → HasPage id ((state g old).now.trees 1) rows
+    HasCleanDisk (state g new) → IsTrue (state g old).is_open → HasRecords (state g old).now → (id : ℤ)
+    → HasGiven g from_text (Int id ∷ []) old [] → HasPage id ((state g old).now.trees 1) rows
 
 -- these are a page of the rows from this id on, and the connection is as it was
 abbrev pub ShowsPage : {S : Type 0} → Ghosts S → ℤ → Held S → Held S → List Row → Type 0
-ShowsPage g id old new rows = HasCleanDisk (state g new) → HasRecords (state g old).now → HasPage id ((state g old).now.trees 1) rows × IsUnchanged (state g old) (state g new)
+ShowsPage g id old new rows =
+    HasCleanDisk (state g new) → HasRecords (state g old).now
+    → HasPage id ((state g old).now.trees 1) rows × IsUnchanged (state g old) (state g new)
 
 -- the batches from the first one on whose first is not below this id
 abbrev pub batches_from : ℤ → List BatchRow → List BatchRow
@@ -77,8 +80,10 @@ AreFrontOf (b ∷ front) all = (rest : List BatchRow) × (all ≡ b ∷ front ++
 -- these are batches from this id on, none of which is passed over, where the table has batches by ascending first; where there is one, it is
 -- among them
 abbrev pub AreBatchesIn : ℤ → List Shown → List BatchRow → Type 0
-AreBatchesIn id table found = (batches : List BatchRow) → AreByFirst batches → table ≡ map stored_batch batches → AreFrontOf found (batches_from id batches)
+AreBatchesIn id table found =
+    (batches : List BatchRow) → AreByFirst batches → table ≡ map stored_batch batches → AreFrontOf found (batches_from id batches)
 
 -- so it is of the table of batches
 abbrev pub ShowsBatches : {S : Type 0} → Ghosts S → ℤ → Held S → Held S → List BatchRow → Type 0
-ShowsBatches g id old new found = HasCleanDisk (state g new) → HasTables (state g old).now → AreBatchesIn id ((state g old).now.trees 2) found
+ShowsBatches g id old new found =
+    HasCleanDisk (state g new) → HasTables (state g old).now → AreBatchesIn id ((state g old).now.trees 2) found

@@ -16,11 +16,20 @@ use Rattle.dns_sqlite.specs.declared.shape.Shape.TheVariants.{Empty, VersionAlon
 
 -- a column of this name and kind, with no default
 abbrev pub column_of : List ℕ → Kind → Bool → Column
-column_of name kind not_null = record { name = name; kind = kind; is_strict = false; not_null = not_null; default = Null; collation = Binary }
+column_of name kind not_null = record {
+  name = name;
+  kind = kind;
+  is_strict = false;
+  not_null = not_null;
+  default = Null;
+  collation = Binary;
+}
 
 -- the first three columns of a row
 abbrev pub AreNumbers : Column → Column → Column → Type 0
-AreNumbers id client serial = (id ≡ column_of (codes "id") Integer false) × (client ≡ column_of (codes "client_id") Integer true) × (serial ≡ column_of (codes "soa_serial") Integer true)
+AreNumbers id client serial =
+    (id ≡ column_of (codes "id") Integer false) × (client ≡ column_of (codes "client_id") Integer true)
+    × (serial ≡ column_of (codes "soa_serial") Integer true)
 
 -- no constraint but those of its columns
 pub record IsPlainTable (t : Table) : Type 0 where

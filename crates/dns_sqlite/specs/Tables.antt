@@ -20,7 +20,14 @@ abbrev pub versions : Table
 versions = record {
   name = codes "tdns_schema";
   tree = 0;
-  columns = (record { name = codes "version"; kind = Integer; is_strict = false; not_null = true; default = Null; collation = Binary }) ∷ [];
+  columns = (record {
+    name = codes "version";
+    kind = Integer;
+    is_strict = false;
+    not_null = true;
+    default = Null;
+    collation = Binary;
+  }) ∷ [];
   key = None;
   primary = [];
   uniques = [];
@@ -110,7 +117,9 @@ by_key = on (λ (o : Row × Row). o.0) (key_cmp 0 ((record { collation = Binary;
 
 -- so many of the rows that are not below, or as many as there are, in the order of their ids
 abbrev pub HasRows : ℕ → ℤ → List Row → List Row → Type 0
-HasRows count id rows found = (ordered : List (Row × Row)) × IsPermutation (map seen (filter (not_below id) rows)) ordered × IsSorted by_key ordered × (found ≡ take count (map (λ (o : Row × Row). o.1) ordered))
+HasRows count id rows found =
+    (ordered : List (Row × Row)) × IsPermutation (map seen (filter (not_below id) rows)) ordered
+    × IsSorted by_key ordered × (found ≡ take count (map (λ (o : Row × Row). o.1) ordered))
 
 -- the first of them
 abbrev pub HasRow : ℤ → List Row → List Row → Type 0
@@ -132,7 +141,9 @@ batch_seen r = (column r 0 ∷ [], column r 0 ∷ column r 2 ∷ [])
 
 -- 128 of the batches whose firsts are not below this id, or as many as there are, in the order of their firsts
 abbrev pub HasBatchesFrom : ℤ → List Row → List Row → Type 0
-HasBatchesFrom id rows found = (ordered : List (Row × Row)) × IsPermutation (map batch_seen (filter (not_below id) rows)) ordered × IsSorted by_key ordered × (found ≡ take 128 (map (λ (o : Row × Row). o.1) ordered))
+HasBatchesFrom id rows found =
+    (ordered : List (Row × Row)) × IsPermutation (map batch_seen (filter (not_below id) rows)) ordered
+    × IsSorted by_key ordered × (found ≡ take 128 (map (λ (o : Row × Row). o.1) ordered))
 
 -- what a query shows of a batch
 abbrev pub shown_batch : BatchRow → Row

@@ -96,11 +96,14 @@ version_text = codes "SELECT rowid, version FROM tdns_schema"
 -- the rows that this query shows of a database
 abbrev pub ShowsVersions : Database → List Row → Type 0
 ShowsVersions d rows =
-    (c : Compiled) × (understood d.schema version_text ≡ Ok c) × (now : ℕ) × (db : Database) × IsSourceOf (reads_listing d.schema version_text) d db × Reads c.command db (timed [] c.formats now) rows
+    (c : Compiled) × (understood d.schema version_text ≡ Ok c) × (now : ℕ) × (db : Database)
+    × IsSourceOf (reads_listing d.schema version_text) d db × Reads c.command db (timed [] c.formats now) rows
 
 -- the rows of the table of the version, in some order
 abbrev pub ShowsAll : List Row → List Row → Type 0
-ShowsAll tree rows = (ordered : List (Row × Row)) × IsPermutation (map (λ (r : Row). ([], column r 0 ∷ column r 1 ∷ [])) tree) ordered × (rows ≡ map (λ (o : Row × Row). o.1) ordered)
+ShowsAll tree rows =
+    (ordered : List (Row × Row)) × IsPermutation (map (λ (r : Row). ([], column r 0 ∷ column r 1 ∷ [])) tree) ordered
+    × (rows ≡ map (λ (o : Row × Row). o.1) ordered)
 
 -- the connection refused the query of the version with this error
 abbrev pub RefusesVersions : State → State → Error → Type 0
@@ -141,7 +144,8 @@ version_of (r ∷ s ∷ more) = None
 -- the version of a database: that of no table where there is no table of the version, whatever else there is, and else that in its one row
 abbrev pub IsAtVersion : ℤ → Database → Type 0
 IsAtVersion n d =
-    ((n ≡ version_none) × (has_versions d.schema ≡ false)) ⊎ ((has_versions d.schema ≡ true) × (rows : List Row) × ShowsVersions d rows × (version_of rows ≡ Some n))
+    ((n ≡ version_none) × (has_versions d.schema ≡ false))
+    ⊎ ((has_versions d.schema ≡ true) × (rows : List Row) × ShowsVersions d rows × (version_of rows ≡ Some n))
 
 -- the table of the version is there, and has not one row, or its number is none of a journal
 pub record LacksVersion (d : Database) : Type 0 where
@@ -157,7 +161,9 @@ FitsTables n d = HasVersions d.schema → IsVersion n (d.trees 0)
 
 -- the query of the version shows these rows; where the tables are those of a journal, they are all that the table of the version has
 abbrev pub TellsVersions : {S : Type 0} → Ghosts S → Held S → Held S → List Row → Type 0
-TellsVersions g old new rows = HasCleanDisk (state g new) → ShowsVersions (state g old).now rows × (HasVersions (state g old).now.schema → ShowsAll ((state g old).now.trees 0) rows)
+TellsVersions g old new rows =
+    HasCleanDisk (state g new) → ShowsVersions (state g old).now rows
+    × (HasVersions (state g old).now.schema → ShowsAll ((state g old).now.trees 0) rows)
 
 -- it refused the query of the version with this error
 abbrev pub RefusedWith : {S : Type 0} → Ghosts S → Held S → Held S → Error → Type 0

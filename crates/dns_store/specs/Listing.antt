@@ -40,7 +40,8 @@ AreSound origin told = IfSome told.rows (StandOrNone origin)
 -- not cover them; the keeper failed; or memory ran out
 abbrev pub IsUnsound : KeeperTold → KeeperTold → List (List ℕ) → OpenKind → Type 0
 IsUnsound before after origin (Recovery row kind) =
-    (HadRows before.rows after.rows × AreRefused before.rows after.rows origin row kind) ⊎ AreUncovered (StandOrNone origin) before after row kind
+    (HadRows before.rows after.rows × AreRefused before.rows after.rows origin row kind)
+    ⊎ AreUncovered (StandOrNone origin) before after row kind
 IsUnsound before after origin KeeperFault = Unit {0}
 IsUnsound before after origin NoZone = ⊥
 IsUnsound before after origin OutOfMemory = Unit {0}

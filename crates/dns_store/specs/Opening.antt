@@ -42,7 +42,10 @@ pub record Recovers {K : Type 0} (keeper : KeeperOf K) (before : KeeperTold) (or
 
 -- the rows are no zone's of this origin, where they are told: they end at this row, for this reason
 abbrev pub AreRefused : Option (List Row) → Option (List Row) → List (List ℕ) → ℤ → ReplayKind → Type 0
-AreRefused before after origin row kind = Told (λ old new. Replays (fold_of origin) old (Err (record { row = row; kind = kind }))) before after
+AreRefused before after origin row kind = Told (λ old new. Replays (fold_of origin) old (Err (record {
+  row = row;
+  kind = kind;
+}))) before after
 
 -- what the count of faults of a keeper says of the cause for which its journal was not opened: it rose where the keeper failed, and
 -- stood still where it did not
@@ -77,7 +80,8 @@ AreUnread before after origin OutOfMemory = Unit {0}
 -- why a journal was not read back: its rows are no zone's; they are, but its batches do not cover them; the keeper failed; or memory ran
 -- out
 abbrev pub IsUnread : KeeperTold → KeeperTold → List (List ℕ) → OpenKind → Type 0
-IsUnread before after origin (Recovery row kind) = AreRefused before.rows after.rows origin row kind ⊎ AreUncovered (Stand origin) before after row kind
+IsUnread before after origin (Recovery row kind) =
+    AreRefused before.rows after.rows origin row kind ⊎ AreUncovered (Stand origin) before after row kind
 IsUnread before after origin KeeperFault = Unit {0}
 IsUnread before after origin NoZone = ⊥
 IsUnread before after origin OutOfMemory = Unit {0}
@@ -88,17 +92,20 @@ pub record RecoversNot (before now : KeeperTold) (origin : List (List ℕ)) (kin
   pub unopened : IsUnopened before now kind
 
 -- a journal was opened: one without rows and batches was begun with the given zone, which has this origin, and one with rows was read back
-pub data Opens {K : Type 0} (keeper : KeeperOf K) (before : KeeperTold) (origin : List (List ℕ)) (given : Option Contents) (moment : ℕ) (store : StoreOf K)
+pub data Opens {K : Type 0} (keeper : KeeperOf K) (before : KeeperTold) (origin : List (List ℕ)) (given : Option Contents)
+    (moment : ℕ) (store : StoreOf K)
     : Type 0 where
   begun : (zone : Contents) → given ≡ Some zone → zone.origin ≡ fold_of origin → Begins keeper before zone moment store
       → Opens keeper before origin given moment store
-  recovered : HadRows before.rows (keeper.told store.keeper).rows → Recovers keeper before origin store → Opens keeper before origin given moment store
+  recovered : HadRows before.rows (keeper.told store.keeper).rows
+      → Recovers keeper before origin store → Opens keeper before origin given moment store
 
 -- why a journal was not opened: its rows are no zone's; they are, or there are none, but its batches do not cover them; the keeper failed;
 -- it has neither rows nor batches, and no zone was given; or memory ran out
 abbrev pub IsUnfound : KeeperTold → KeeperTold → List (List ℕ) → Option Contents → OpenKind → Type 0
 IsUnfound before after origin given (Recovery row kind) =
-    (HadRows before.rows after.rows × AreRefused before.rows after.rows origin row kind) ⊎ AreUncovered (StandOrNone origin) before after row kind
+    (HadRows before.rows after.rows × AreRefused before.rows after.rows origin row kind)
+    ⊎ AreUncovered (StandOrNone origin) before after row kind
 IsUnfound before after origin given KeeperFault = Unit {0}
 IsUnfound before after origin given NoZone = HadNothing before after × (given ≡ None)
 IsUnfound before after origin given OutOfMemory = Unit {0}

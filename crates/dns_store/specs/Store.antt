@@ -45,7 +45,8 @@ stored_with before held batch = record { keeper = held; zone = zone_with before.
 
 -- the batch of an update came into the journal, all with the serial that it leaves and as one of its batches, the zone is what it makes of
 -- it, and no fault of the keeper was counted
-pub record IsGrown {K : Type 0} (keeper : KeeperOf K) (before : StoreOf K) (client moment : ℕ) (batch : List Record) (after : StoreOf K) : Type 0 where
+pub record IsGrown {K : Type 0} (keeper : KeeperOf K) (before : StoreOf K) (client moment : ℕ) (batch : List Record)
+    (after : StoreOf K) : Type 0 where
   pub some : 0 < length batch
   pub grown : GrowsByBatch (keeper.told before.keeper).rows (keeper.told after.keeper).rows client
       (serial_after_batch before.zone.origin before.zone.records batch) moment batch

@@ -20,4 +20,5 @@ CountsRows told v done rows = (told.count ≡ length done.batch) × (length v.ro
 -- the terms of a seat that has counted what was done name a book, its members and where it began
 abbrev pub NamesCounted : {K : Type 0} → KeeperOf K → View → Done → SeenOf K → List Member → ℕ → Type 0
 NamesCounted keeper v done book members start =
-    Names keeper v.terms (v.rows ++ done.batch) (with_member (with_head (settled v.rows done) v.accounts) v.low v.members) book members start
+    Names keeper v.terms (v.rows ++ done.batch)
+    (with_member (with_head (settled v.rows done) v.accounts) v.low v.members) book members start

@@ -51,7 +51,8 @@ pub record IsBatch (number count : ℕ) (before after : List Row) : Type 0 where
   pub theirs : all_bear number batch ≡ true
 
 -- what a settle by this number did to the book, whatever it answered: so many rows came, whose places are those of the receipt
-pub record Advances {K : Type 0} (keeper : KeeperOf K) (number : ℕ) (before : SeenOf K) (receipt : Option Receipt) (count : ℕ) (after : SeenOf K) : Type 0 where
+pub record Advances {K : Type 0} (keeper : KeeperOf K) (number : ℕ) (before : SeenOf K) (receipt : Option Receipt) (count : ℕ)
+    (after : SeenOf K) : Type 0 where
   pub rows : Told (IsBatch number count) (keeper.told before.keeper).rows (keeper.told after.keeper).rows
   pub counted : after.row_count ≡ before.row_count + count
   pub places : places_of (listed receipt) ≡ places_from (before.row_count + 1) count

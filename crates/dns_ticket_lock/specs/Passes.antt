@@ -1,6 +1,5 @@
 -- What contracts see of a shared book and of its passes.
-use Rattle.std.specs.Prelude.{◌≡◌, ◌<◌, ◌+◌, true, drop, length, ℕ, List, []}
-use Rattle.std.proofs.Common.{append-nil, refl, sym}
+use Rattle.std.specs.Prelude.{◌≡◌, ◌<◌, ◌+◌, true, drop, length, ℕ, List}
 use mathlib.Core.Option.{some}
 use lib.ListN.{get_elem?}
 use Rattle.atomic_table.specs.Seated.{TableId}
@@ -46,7 +45,8 @@ pub record IsSame (before after : PassSeen) : Type 0 where
   pub number : after.number ≡ before.number
 
 -- one message was settled by the pass
-pub record SettledBy {K : Type 0} (keeper : KeeperOf K) (access : Access) (before : PassSeen) (ask : Ask) (settled : Settled) (after : PassSeen) : Type 0 where
+pub record SettledBy {K : Type 0} (keeper : KeeperOf K) (access : Access) (before : PassSeen) (ask : Ask) (settled : Settled)
+    (after : PassSeen) : Type 0 where
   pub same : IsSame before after
   pub account : SettledAs keeper before.terms access before.number before.account ask settled after.account
 
@@ -54,13 +54,6 @@ pub record SettledBy {K : Type 0} (keeper : KeeperOf K) (access : Access) (befor
 pub record LeftBy (before after : PassSeen) : Type 0 where
   pub same : IsSame before after
   pub account : LeftAs before.account after.account
-
--- a pass with which nothing was done
-pub LeftBy-same : (p : PassSeen) → LeftBy p p
-LeftBy-same p = record {
-  same = record { book = refl; terms = refl; number = refl };
-  account = record { seen = ([], sym (append-nil p.account.seen)); receipts = refl; faults = refl; mark = λ m. m };
-}
 
 -- the passes of the book, the first with the number 1, and so on
 abbrev pub InOrder : BookId → List PassSeen → Type 0
@@ -96,7 +89,8 @@ pub record ClosedFor {K : Type 0} (keeper : KeeperOf K) (t : Terms) (passes : Li
   pub named : NamesRows keeper book rows
   pub began : StartsWith rows t.rows
   pub seen : (i : ℕ) (p : PassSeen) → get_elem? passes i ≡ some p → StartsWith rows p.account.seen
-  pub places : (i : ℕ) (p : PassSeen) → get_elem? passes i ≡ some p → bearing p.number (length t.rows + 1) (drop (length t.rows) rows) ≡ places_of p.account.receipts
+  pub places : (i : ℕ) (p : PassSeen) → get_elem? passes i ≡ some p
+      → bearing p.number (length t.rows + 1) (drop (length t.rows) rows) ≡ places_of p.account.receipts
   pub numbered : all_within t.seats (drop (length t.rows) rows) ≡ true
   pub rise : t.start + total pass_faults passes ≡ (keeper.told book.keeper).faults
   pub marked : (i : ℕ) (p : PassSeen) → get_elem? passes i ≡ some p → p.account.marked ≡ true → (keeper.told book.keeper).faults ≡ last

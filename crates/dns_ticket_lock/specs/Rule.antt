@@ -151,10 +151,12 @@ abbrev pub NoneHas : List View → Type 0
 NoneHas views = (seat : ℕ) (w : View) → get_elem? views seat ≡ some w → has_book w.phase ≡ false
 
 -- the book is at home and no seat has it, or one seat has it or has counted, whose view names the rows and members
-abbrev pub IsHome : {H : Type 0} → Naming H → Terms → List (mathlib.Core.Option.Option (Option H)) → List View → List Row → List Member → Type 0
+abbrev pub IsHome : {H : Type 0} → Naming H → Terms
+    → List (mathlib.Core.Option.Option (Option H)) → List View → List Row → List Member → Type 0
 IsHome {H} N t homes views rows members =
     ((h : H) × (homes ≡ some (Some h) ∷ []) × N t rows members h × NoneHas views)
-    ⊎ ((homes ≡ none ∷ []) × (holder : ℕ) × (w : View) × (get_elem? views holder ≡ some w) × (has_book w.phase ≡ true) × (w.rows ≡ rows) × (w.members ≡ members))
+    ⊎ ((homes ≡ none ∷ []) × (holder : ℕ) × (w : View) × (get_elem? views holder ≡ some w)
+    × (has_book w.phase ≡ true) × (w.rows ≡ rows) × (w.members ≡ members))
 
 -- what holds between any two steps
 pub record Kept {H : Type 0} (N : Naming H) (t : Terms) (s : State (Option H) View) : Type 0 where
@@ -191,7 +193,8 @@ Takes N v rows members h = N v.terms rows members h × FindsOwn v.accounts v.low
 abbrev pub LooksAt : {H : Type 0} → Naming H → Me (Option H) View → ℕ → Me (Option H) View → Type 0
 LooksAt {H} N me found after =
     MatchBool (found == me.0.ticket)
-    ((h : H) × (rows : List Row) × (members : List Member) × (after ≡ (has rows members me.0, (0, Some h) ∷ [])) × Takes N me.0 rows members h)
+    ((h : H) × (rows : List Row) × (members : List Member)
+    × (after ≡ (has rows members me.0, (0, Some h) ∷ [])) × Takes N me.0 rows members h)
     (after ≡ me)
 
 abbrev pub Looks : {H : Type 0} → Naming H → Step (Option H) → Me (Option H) View → ℕ → Me (Option H) View → Type 0

@@ -31,7 +31,8 @@ pub record HasTerms {K : Type 0} (t : Terms) (book : SeenOf K) : Type 0 where
   pub updates : book.allow_update ≡ t.allow_update
 
 -- a book with these terms, rows, members and start
-pub record Names {K : Type 0} (keeper : KeeperOf K) (t : Terms) (rows : List Row) (members : List Member) (book : SeenOf K) (its_members : List Member) (its_start : ℕ) : Type 0 where
+pub record Names {K : Type 0} (keeper : KeeperOf K) (t : Terms) (rows : List Row) (members : List Member) (book : SeenOf K)
+    (its_members : List Member) (its_start : ℕ) : Type 0 where
   pub has_rows : NamesRows keeper book rows
   pub has_members : its_members ≡ members
   pub same_start : its_start ≡ t.start
@@ -39,14 +40,20 @@ pub record Names {K : Type 0} (keeper : KeeperOf K) (t : Terms) (rows : List Row
 
 -- what a settle did, by the book after it
 abbrev pub done_by : {K : Type 0} → KeeperOf K → ℕ → List Row → SeenOf K → Told → Done
-done_by keeper number rows book told = record { batch = batch_after number rows (keeper.told book.keeper).rows told.count; receipt = told.receipt; rise = told.rise; mark = told.mark }
+done_by keeper number rows book told = record {
+  batch = batch_after number rows (keeper.told book.keeper).rows told.count;
+  receipt = told.receipt;
+  rise = told.rise;
+  mark = told.mark;
+}
 
 -- One message is settled by the book, with this number as its client, on rows that begin with all that the number had seen: `before`
 -- is its account before the call, and `after` the one after it. Its new account has seen the rows as the book then has them, has
 -- the receipt, if there is one, behind its receipts, and has counted by how much the keeper's count of faults rose in this call.
 -- Where the keeper failed, that is more than nothing, or the count stands at its last value, which the account keeps as a mark; where it
 -- did not fail, it is nothing.
-pub record SettledAs {K : Type 0} (keeper : KeeperOf K) (t : Terms) (access : Access) (number : ℕ) (before : Account) (ask : Ask) (settled : Settled) (after : Account) : Type 0 where
+pub record SettledAs {K : Type 0} (keeper : KeeperOf K) (t : Terms) (access : Access) (number : ℕ) (before : Account) (ask : Ask)
+    (settled : Settled) (after : Account) : Type 0 where
   pub book : SeenOf K
   pub rows : List Row
   pub later : SeenOf K
@@ -81,7 +88,8 @@ pub record ClosedAs {K : Type 0} (keeper : KeeperOf K) (t : Terms) (accounts : L
   pub terms : HasTerms t book
   pub began : StartsWith rows t.rows
   pub seen : (k : ℕ) (a : Account) → get_elem? accounts k ≡ some a → StartsWith rows a.seen
-  pub places : (k : ℕ) (a : Account) → get_elem? accounts k ≡ some a → bearing (k + 1) (length t.rows + 1) (drop (length t.rows) rows) ≡ places_of a.receipts
+  pub places : (k : ℕ) (a : Account) → get_elem? accounts k ≡ some a
+      → bearing (k + 1) (length t.rows + 1) (drop (length t.rows) rows) ≡ places_of a.receipts
   pub numbered : all_within t.seats (drop (length t.rows) rows) ≡ true
   pub rise : t.start + total faults_of accounts ≡ (keeper.told book.keeper).faults
   pub marked : (k : ℕ) (a : Account) → get_elem? accounts k ≡ some a → a.marked ≡ true → (keeper.told book.keeper).faults ≡ last

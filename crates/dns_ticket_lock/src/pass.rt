@@ -25,7 +25,8 @@ impl<K: Keeper> Model for TicketBook<K> {
 
     ghost view = { λ b. record { id = b.table.shared.table_id; terms = terms_of b.table.shared.key.views } };
 
-    ghost invariant = { λ b. (b.table.shared.table_id.words ≡ 3) × (b.table.shared.table_id.slots ≡ 1) × (0 < (terms_of b.table.shared.key.views).seats) × ((terms_of b.table.shared.key.views).seats ≤ 1024) };
+    ghost invariant = { λ b. (b.table.shared.table_id.words ≡ 3) × (b.table.shared.table_id.slots ≡ 1)
+        × (0 < (terms_of b.table.shared.key.views).seats) × ((terms_of b.table.shared.key.views).seats ≤ 1024) };
 }
 
 /// The right to settle by one number of a shared book.
@@ -44,7 +45,12 @@ impl Model for Pass {
 
     ghost Value = { PassSeen };
 
-    ghost view = { λ p. record { book = p.badge.table_id; terms = (view_of p.badge.views).terms; number = p.number; account = own (view_of p.badge.views).accounts } };
+    ghost view = { λ p. record {
+      book = p.badge.table_id;
+      terms = (view_of p.badge.views).terms;
+      number = p.number;
+      account = own (view_of p.badge.views).accounts;
+    } };
 
     ghost invariant = { λ p. (length (own (view_of p.badge.views).accounts).seen ≡ p.seen) × Rests p.badge.views p.number };
 }

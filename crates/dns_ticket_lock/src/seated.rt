@@ -54,13 +54,17 @@ impl<'a, K: Keeper, R: Wait> Seated<'a, K, R> {
 /// Each message is settled by [`TicketBook::settle`]. Where it finds no memory, the pass has the receipts and faults that it had
 /// and has seen no less, and a mark stays.
 impl<'a, K: Keeper, R: Wait> RequestHandler for Seated<'a, K, R> {
-    ghost use Rattle.dns_ticket_lock.specs.Passes.{SettledBy, LeftBy, LeftBy-same};
+    ghost use Rattle.std.proofs.Common.{[], append-nil, refl, sym};
+    ghost use Rattle.dns_ticket_lock.specs.Passes.{SettledBy, LeftBy};
 
     ghost serves = { SettledBy K.keeper };
 
     ghost skips = { LeftBy };
 
-    ghost skips_same = { LeftBy-same };
+    ghost skips_same = { λ p. record {
+      same = record { book = refl; terms = refl; number = refl };
+      account = record { seen = ([], sym (append-nil p.account.seen)); receipts = refl; faults = refl; mark = λ m. m };
+    } };
 
     fn handle_request(
         &mut self,

@@ -43,7 +43,8 @@ fn share_out<T: Carried>(
 ) -> Vec<Pass>
     requires board { (board.now.table_id.words ≡ 3) × (board.now.table_id.slots ≡ 1) × (first.table_id ≡ board.now.table_id) }
     requires first { (first.me.1 ≡ []) × (first.me.0.phase ≡ Idle) × (first.me.0.low ≡ 0)
-        × (first.me.0.accounts ≡ replicate seats (fresh (terms_of board.now.key.views))) × (first.me.0.terms ≡ terms_of board.now.key.views) }
+        × (first.me.0.accounts ≡ replicate seats (fresh (terms_of board.now.key.views)))
+        × (first.me.0.terms ≡ terms_of board.now.key.views) }
     requires some { (0 < seats) × (seats ≤ 1024) }
     requires seen { length (terms_of board.now.key.views).rows ≡ seen }
     requires room { (seats ≤ vec_capacity passes) × (passes.items ≡ []) }

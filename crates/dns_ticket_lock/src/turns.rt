@@ -30,7 +30,8 @@ pub(crate) fn begin_turn<T: Carried, R: Wait>(
     requires idle { (seat.old.me.1 ≡ []) × (seat.old.me.0.phase ≡ Idle) × (0 < length seat.old.me.0.accounts) }
     ensures same { seat.new.table_id ≡ seat.old.table_id }
     ensures took { (ticket : ℕ) × (rows : _) × (members : _)
-        × (seat.new.me ≡ (has rows members (waits ticket seat.old.me.0), (0, None) ∷ [])) × Takes T.names seat.old.me.0 rows members result }
+        × (seat.new.me ≡ (has rows members (waits ticket seat.old.me.0), (0, None) ∷ []))
+        × Takes T.names seat.old.me.0 rows members result }
 {
     let ticket = draw(board, seat);
     wait_for_turn(rt, board, seat, ticket);

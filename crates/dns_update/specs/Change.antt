@@ -24,7 +24,8 @@ put records r = put_over (is_rival r) r records
 
 -- a deletion of class ANY takes all sets of a name where the type is ANY, else a set
 abbrev pub is_taken_by_any : List (List ℕ) → Record → Record → Bool
-is_taken_by_any origin r s = if r.rtype == record_type.ANY then is_taken_with_name origin r.name s else is_taken_with_set origin r.name r.rtype s
+is_taken_by_any origin r s =
+    if r.rtype == record_type.ANY then is_taken_with_name origin r.name s else is_taken_with_set origin r.name r.rtype s
 
 -- it is an NS record of the origin, which has so many
 abbrev pub is_only_ns : List (List ℕ) → ℕ → Record → Bool
@@ -88,7 +89,8 @@ changes origin records (r ∷ rs) = changes origin (change origin records (fold_
 
 -- the two are equal in each field, the case of letters included
 abbrev pub is_same_record : Record → Record → Bool
-is_same_record r s = lists_eq r.name s.name && ((r.rtype == s.rtype) && ((r.class == s.class) && ((r.ttl == s.ttl) && data_eq r.rdata s.rdata)))
+is_same_record r s =
+    lists_eq r.name s.name && ((r.rtype == s.rtype) && ((r.class == s.class) && ((r.ttl == s.ttl) && data_eq r.rdata s.rdata)))
 
 abbrev pub are_same_records : List Record → List Record → Bool
 are_same_records = pointwise is_same_record

@@ -28,7 +28,11 @@ count_of test origin records (r ∷ rs) = count_if (test origin records r) + cou
 -- the counts of a batch
 abbrev pub modified_of : List (List ℕ) → List Record → List Record → Modified
 modified_of origin records batch =
-    record { added = count_of adds origin records batch; updated = count_of updates origin records batch; deleted = count_of deletes origin records batch }
+    record {
+      added = count_of adds origin records batch;
+      updated = count_of updates origin records batch;
+      deleted = count_of deletes origin records batch;
+    }
 
 -- the counts with one record more, after which there are more records or not
 abbrev pub modified_with : Modified → Record → Bool → Modified

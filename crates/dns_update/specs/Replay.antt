@@ -125,8 +125,11 @@ if_whole r end size = if end == size then Some r else None
 -- what the row at a place does, whatever was before it and comes behind it
 abbrev pub Does : List (List ℕ) → ℕ → Row → RowEffect → Type 0
 Does origin place row Snapshot = (records : List Record) → RunsTo origin place records (row ∷ []) (Ok [])
-Does origin place row (Change one serial) = MayCome origin one × ((records : List Record) → RunsTo origin place records (row ∷ []) (Ok (set_serial serial (step origin records one))))
-Does origin place row (Refused kind) = (records : List Record) (rows : List Row) → RunsTo origin place records (row ∷ rows) (refused row kind)
+Does origin place row (Change one serial) =
+    MayCome origin one × ((records : List Record)
+    → RunsTo origin place records (row ∷ []) (Ok (set_serial serial (step origin records one))))
+Does origin place row (Refused kind) =
+    (records : List Record) (rows : List Row) → RunsTo origin place records (row ∷ rows) (refused row kind)
 
 -- the end of a run: there is an SOA, or the last row is refused
 abbrev pub with_soa : ℤ → Result (List Record) Refusal → Result (List Record) Refusal

@@ -11,7 +11,8 @@ use Rattle.dns_update.specs.Modified.{modified_of}
 use Rattle.dns_update.specs.Verdict.{prescan}
 
 -- of the update records of a zone some are left to be done: the others made a batch, which led to the records that there are
-pub record IsUnderWay (before : Contents) (updates rest : List Record) (now : Contents) (batch : List Record) (modified : Modified) : Type 0 where
+pub record IsUnderWay (before : Contents) (updates rest : List Record) (now : Contents) (batch : List Record)
+    (modified : Modified) : Type 0 where
   pub origin : now.origin ≡ before.origin
   pub zone : IsZone now.origin now.records
   pub passes : prescan now.origin rest ≡ Passes

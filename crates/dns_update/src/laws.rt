@@ -127,7 +127,8 @@ pub fn replays()
         (message : Message) (allow_update : Bool)
         → IsZone origin records → AllByRecursion ReadsBack message.authority
         → verdict_of (record { origin = origin; records = records }) message allow_update ≡ Passes → Replays origin rows (Ok records)
-        → Replays origin (appended rows client (serial_after origin records message.authority) stamp (batch_of origin records message.authority))
+        → Replays origin (appended rows client (serial_after origin records message.authority) stamp
+        (batch_of origin records message.authority))
         (Ok (applied origin records (batch_of origin records message.authority) (serial_after origin records message.authority))) }
 {}
 

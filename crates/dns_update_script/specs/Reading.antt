@@ -24,7 +24,11 @@ pub record Standing : Type 0 where
 abbrev pub kept : Standing → Line → Standing
 kept s Nothing = record s { lines = s.lines + 1 }
 kept s (Zone name) = record s { lines = s.lines + 1; zone = Some name }
-kept s (Prerequisite r) = record s { lines = s.lines + 1; prerequisites = s.prerequisites ++ r ∷ []; first = option_or s.first (Some (s.lines + 1)) }
+kept s (Prerequisite r) = record s {
+  lines = s.lines + 1;
+  prerequisites = s.prerequisites ++ r ∷ [];
+  first = option_or s.first (Some (s.lines + 1));
+}
 kept s (Change r) = record s { lines = s.lines + 1; changes = s.changes ++ r ∷ []; first = option_or s.first (Some (s.lines + 1)) }
 kept s Send = record s { lines = s.lines + 1; prerequisites = []; changes = []; first = None }
 
@@ -57,4 +61,5 @@ given_by state lines = ahead state.sendings.items (sendings_behind (standing sta
 
 -- what the script gives behind a line that says this
 abbrev pub given_behind : Reading → Line → List (List ℕ) → Result (List Sending) ScriptFault
-given_behind state said lines = ahead state.sendings.items (sent_at (standing state) said (sendings_behind (kept (standing state) said) lines))
+given_behind state said lines =
+    ahead state.sendings.items (sent_at (standing state) said (sendings_behind (kept (standing state) said) lines))

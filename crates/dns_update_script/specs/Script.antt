@@ -49,7 +49,11 @@ unsent front = after_last is_send front
 -- what a `send` behind these lines sends to the zone: the prerequisites and changes since the `send` before, in order
 abbrev pub sending_to : Option (List (List ℕ)) → List Line → Result Sending ScriptKind
 sending_to None lines = Err NoZone
-sending_to (Some zone) lines = Ok (record { zone = zone; prerequisites = filter_map prerequisite_in lines; changes = filter_map change_in lines })
+sending_to (Some zone) lines = Ok (record {
+  zone = zone;
+  prerequisites = filter_map prerequisite_in lines;
+  changes = filter_map change_in lines;
+})
 
 abbrev pub sending_behind : List Line → Result Sending ScriptKind
 sending_behind front = sending_to (last_zone front) (unsent front)
@@ -81,7 +85,8 @@ sent front said more = more
 -- the sendings of lines that stand behind these, or the first fault
 abbrev pub sendings_from : List Line → List (List ℕ) → Result (List Sending) ScriptFault
 sendings_from front [] = ended (first_unsent front)
-sendings_from front (line ∷ lines) = at_line (length front + 1) (line_of line) (λ said. sent front said (sendings_from (front ++ said ∷ []) lines))
+sendings_from front (line ∷ lines) =
+    at_line (length front + 1) (line_of line) (λ said. sent front said (sendings_from (front ++ said ∷ []) lines))
 
 -- the sendings of a script, or the number of the first line at fault, from 1, and what is wrong with it
 abbrev pub script_of : List ℕ → Result (List Sending) ScriptFault
