@@ -1,0 +1,23 @@
+use Rattle.dns_network.proofs.Causes.{ended, gone_read, gone_written, nothing_taken, stopped, unwatched, was_shut_now}
+use Rattle.dns_network.proofs.laws.causes.Goals as goal
+
+pub returns-clause-ended : goal.returns-clause-ended
+returns-clause-ended c = ended
+
+pub returns-clause-not_read : goal.returns-clause-not_read
+returns-clause-not_read c = gone_read
+
+pub returns-clause-not_written : goal.returns-clause-not_written
+returns-clause-not_written c = gone_written
+
+pub returns-clause-nothing_taken : goal.returns-clause-nothing_taken
+returns-clause-nothing_taken c = nothing_taken
+
+pub returns-clause-unwatched : goal.returns-clause-unwatched
+returns-clause-unwatched c = unwatched
+
+pub returns-clause-shut : goal.returns-clause-shut
+returns-clause-shut c = was_shut_now
+
+pub returns-clause-stopped : goal.returns-clause-stopped
+returns-clause-stopped c = stopped
