@@ -17,7 +17,7 @@ use Rattle.dns_sqlite.specs.Versions.{current_version}
 use Rattle.dns_sqlite.specs.Batch.{next_batch, ArePut, batch, IsGrown, MayGrow, Grows}
 use Rattle.dns_sqlite.proofs.Rows.{put_appends, keyed_before}
 use Rattle.dns_keeper.specs.declared.row.Row.{Row}
-use Rattle.dns_stamp.specs.Stamp.{IsStampOf}
+use Rattle.dns_keeper.specs.Stamp.{IsStampOf}
 use Rattle.dns_keeper.specs.declared.batch_row.BatchRow.{BatchRow}
 use Rattle.dns_keeper.specs.Rows.{appended, last_id, rows_of as batch_of}
 use Rattle.dns_keeper.specs.Batches.{put_batch, batches_with}

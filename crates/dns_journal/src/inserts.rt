@@ -92,7 +92,7 @@ impl<S: Alter> Journal<S> {
         if all.is_empty() {
             return Ok(());
         }
-        let stamp = dns_stamp::stamp(self.alloc, moment)?;
+        let stamp = dns_keeper::stamp(self.alloc, moment)?;
         self.page = Page::empty(self.alloc);
         self.batches = BatchPage::none(self.alloc);
         match insert_batch(

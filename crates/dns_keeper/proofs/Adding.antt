@@ -7,7 +7,7 @@ use Rattle.dns_keeper.specs.declared.batch_row.BatchRow.{BatchRow}
 use Rattle.dns_keeper.specs.Rows.{last_id, rows_of, AreAscending}
 use Rattle.dns_keeper.specs.Batches.{put_batch, batches_with}
 use Rattle.dns_keeper.specs.Keeping.{HasBatch, IsStampFor}
-use Rattle.dns_stamp.specs.Stamp.{IsStampOf}
+use Rattle.dns_keeper.specs.Stamp.{IsStampOf}
 use Rattle.dns_keeper.specs.Packed.{joined, GrowsBehind}
 use Rattle.dns_keeper.proofs.Ascending.{ascending_appended, last_id-next}
 use Rattle.dns_keeper.proofs.Packing.{joined_more}

@@ -1,7 +1,7 @@
 -- What a keeper tells of itself, and what its calls do to its rows, where it tells them afterwards, and to its count of faults.
 use Rattle.std.specs.Prelude.{◌≡◌, ◌+ℤ◌, ℕ, ℤ, pos, ◌≤◌, List, [], ◌∷◌, Option, Some, None, IfSome, Result, Ok, Err}
 use Rattle.dns_io.specs.Told.{Rose, Told}
-use Rattle.dns_stamp.specs.Stamp.{IsStampOf}
+use Rattle.dns_keeper.specs.Stamp.{IsStampOf}
 use Rattle.dns_wire.specs.declared.record.Record.{Record}
 use Rattle.dns_keeper.specs.declared.row.Row.{Row}
 use Rattle.dns_keeper.specs.declared.batch_row.BatchRow.{BatchRow}

@@ -7,3 +7,4 @@ pub mod Memory
 pub mod RunsSoFar
 pub mod Cutting
 pub mod Packed
+pub mod Stamp

@@ -1,4 +1,4 @@
-//! What the batches of a journal obey: each law is a call that does nothing and whose contract is the law.
+//! What the batches and the stamps of a journal obey: each law is a call that does nothing and whose contract is the law.
 
 ghost use Rattle.std.specs.Prelude.{◌≡◌, ◌↔◌, ◌+ℤ◌, ◌++◌, ◌∷◌, [], ℕ, ℤ, pos, List, length, None};
 ghost use Rattle.dns_wire.specs.declared.record.Record.{Record};
@@ -6,6 +6,12 @@ ghost use Rattle.dns_keeper.specs.declared.row.Row.{Row as JournalRow};
 ghost use Rattle.dns_keeper.specs.declared.batch_row.BatchRow.{BatchRow as Batch};
 ghost use Rattle.dns_keeper.specs.Rows.{AreAscending, last_id, appended};
 ghost use Rattle.dns_keeper.specs.Batches.{AreByFirst, batches_with, runs_of, IsRun, Covers, uncovered, AreNumbered};
+ghost use Rattle.dns_keeper.specs.Stamp.{IsStampOf};
+
+/// A moment has one stamp.
+pub fn one_stamp()
+    ensures { (moment : ℕ) (a b : List ℕ) → IsStampOf moment a → IsStampOf moment b → a ≡ b }
+{}
 
 /// What holds of the runs of rows.
 pub fn runs()

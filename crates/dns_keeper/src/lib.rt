@@ -10,6 +10,7 @@ mod memory;
 mod packed_rows;
 mod row;
 mod row_runs;
+mod stamping;
 
 pub use batch_row::BatchRow;
 pub use coverage::Coverage;
@@ -17,3 +18,4 @@ pub use keeper::{KeepFault, Keeper};
 pub use memory::MemoryKeeper;
 pub use row::Row;
 pub use row_runs::{RowRuns, runs_in};
+pub use stamping::stamp;

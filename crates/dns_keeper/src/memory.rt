@@ -6,7 +6,7 @@ ghost use Rattle.std.specs.Int.{w64};
 ghost use Rattle.std.specs.Option.{option_copied};
 ghost use Rattle.dns_wire.specs.WireFormat.{AreShort};
 ghost use Rattle.dns_keeper.specs.declared.keeper.KeepFault.TheVariants.{Failed};
-ghost use Rattle.dns_stamp.specs.Stamp.{IsStampOf};
+ghost use Rattle.dns_keeper.specs.Stamp.{IsStampOf};
 ghost use Rattle.dns_keeper.specs.Rows.{last_id, first_of, first_from, AreAscending};
 ghost use Rattle.dns_keeper.specs.Batches.{AreByFirst, begins_at, put_batch, batches_with, runs_of};
 ghost use Rattle.dns_keeper.specs.Calls.{Appends, ReadsRow, ReadsBatch};
@@ -19,6 +19,7 @@ use crate::keeper::{KeepFault, Keeper};
 use crate::packed_rows::{PackedRows, first_packed};
 use crate::row::Row;
 use crate::row_runs::runs_in;
+use crate::stamping::stamp;
 use dns_io::{Octets, OutOfMemory};
 use dns_wire::{Record, Records};
 use std::alloc::Global;
@@ -267,7 +268,7 @@ fn stamp_of(alloc: Global, moment: u64) -> Result<Octets, OutOfMemory>
     requires { moment < 2 ^ 47 }
     ensures { IfOk result (IsStampOf moment) }
 {
-    let text = dns_stamp::stamp(alloc, moment)?;
+    let text = stamp(alloc, moment)?;
     Octets::from_slice(alloc, text.as_bytes())
 }
 

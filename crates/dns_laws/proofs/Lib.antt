@@ -1,0 +1,9 @@
+pub mod OneReceiver
+pub mod OwnMessages
+pub mod Unchanged
+pub mod AlikeBooks
+pub mod OwnRuns
+pub mod Isolating
+pub mod Through
+pub mod InTurn
+pub mod OneOfMany

@@ -1,3 +1,0 @@
-pub mod Through
-pub mod InTurn
-pub mod OneOfMany
