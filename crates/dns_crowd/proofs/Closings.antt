@@ -14,7 +14,7 @@ use Rattle.std.specs.Prelude.{IfOk}
 use Rattle.dns_io.specs.declared.fault.OutOfMemory.{OutOfMemory}
 use Rattle.dns_io.specs.Told.{Grows, Keeps}
 use Rattle.dns_io.proofs.ToldContents.{Grows-Keeps, Grows-more, Grows-nothing, Keeps-Grows}
-use Rattle.dns_merge.proofs.InTurn.{twice}
+use Rattle.dns_laws.proofs.InTurn.{twice}
 use Rattle.dns_readiness.specs.declared.came.Came.{Came}
 use Rattle.dns_readiness.specs.declared.came.Came.TheVariants as came
 use Rattle.dns_readiness.specs.Came.{number_of}

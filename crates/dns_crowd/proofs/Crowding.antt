@@ -20,8 +20,8 @@ use Rattle.dns_server_core.specs.Order.{IsUpTo}
 use Rattle.dns_server_core.specs.Steps.{completed_now, open_next}
 use Rattle.dns_server_core.specs.Valid.{IsAbove, Rises}
 use Rattle.dns_server_core.proofs.Running.{Run-append}
-use Rattle.dns_merge.proofs.InTurn.{left_open, next_timely, now_timely}
-use Rattle.dns_merge.proofs.Through.{done_through, opens, pendings-opens, through}
+use Rattle.dns_laws.proofs.InTurn.{left_open, next_timely, now_timely}
+use Rattle.dns_laws.proofs.Through.{done_through, opens, pendings-opens, through}
 use Rattle.dns_crowd.specs.Crowds.{CrowdTold, MayCome}
 use Rattle.dns_crowd.specs.Replies.{sent_bytes}
 use Rattle.dns_crowd.specs.Turns.{Attends, ClosesAs, EndsBy, GoesOn, IsShut, Shuts, Works, numbers_of, stands_behind, timely}

@@ -9,3 +9,4 @@ mod ToCome
 mod Timed
 mod Late
 mod Shutting
+mod Placed

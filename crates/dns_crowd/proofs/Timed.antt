@@ -1,8 +1,10 @@
 -- Connections stand in the order of the moments at which they are still within their time.
-use Rattle.std.proofs.Common.{◌≡◌, ◌≢◌, ◌≤◌, ◌<◌, ◌+◌, ◌||◌, ◌⊎◌, ℕ, zero, suc, List, [], ◌∷◌, ◌++◌, get_or, Bool, true, false, Some, None, cond, eqb, leb, inl, inr, refl, sym, ap, subst, arith}
-use Rattle.std.specs.List.{AllByRecursion, Contains, cons_option, filter_map}
+use Rattle.std.proofs.Common.{◌≡◌, ◌≢◌, ◌≤◌, ◌<◌, ◌+◌, ◌||◌, ◌⊎◌, ℕ, zero, suc, List, [], ◌∷◌, ◌++◌, get_or, Bool, true, false, Some, None, Result, Ok, Err, cond, leb, inl, inr, refl, sym, ap, subst, arith}
+use Rattle.std.specs.List.{AllByRecursion, Contains, filter, filter_map}
+use Rattle.std.specs.Result.{OnErr, OnOk}
+use Rattle.dns_io.specs.declared.fault.OutOfMemory.{OutOfMemory}
 use Rattle.std.specs.List.Sorted.{IsPermutation}
-use Rattle.std.proofs.lemmas.Bool.{eq-eqb, leb-true, le-leb}
+use Rattle.std.proofs.lemmas.Bool.{leb-true, le-leb}
 use Rattle.std.proofs.lemmas.List.Elements.{Contains-append_cases, Contains-append_right}
 use Rattle.std.proofs.lemmas.List.Sorted.{Contains-permutation}
 use Rattle.dns_server_core.specs.declared.event.Event.{Event}
@@ -11,8 +13,7 @@ use Rattle.dns_server_core.specs.Connections.{Connection, Piece, Over, Other, is
 use Rattle.dns_server_core.specs.Events.{moment}
 use Rattle.dns_server_core.specs.Steps.{base_by, fed_by, messages_in, moved, step}
 use Rattle.dns_server_core.proofs.KeptOrder.{all_kept, all_push, all_weaker}
-use Rattle.dns_readiness.specs.Order.{LetsGoOf}
-use Rattle.dns_crowd.specs.Tables.{IsTimed, KeepsTimes}
+use Rattle.dns_crowd.specs.Tables.{IsTimed, KeepsEntries, KeepsTimes}
 
 -- what is within a limit is so at each earlier moment, and behind a later base
 within_so : (no_limit : Bool) (at later bound farther : ℕ) → (no_limit || leb later bound) ≡ true → at ≤ later → bound ≤ farther → (no_limit || leb at farther) ≡ true
@@ -88,18 +89,41 @@ put_wider y o p m x h = Contains-permutation (y ∷ o) p x m (Contains-append_ri
 pub put_has : (y : ℕ × ℕ) (o p : List (ℕ × ℕ)) → IsPermutation (y ∷ o) p → Contains p y
 put_has y o p m = Contains-permutation (y ∷ o) p y m (0, omega arith, refl)
 
-pub more_timed : (e : Event) (y : ℕ × ℕ) (o p : List (ℕ × ℕ)) (ks : List Connection) → IsPermutation (y ∷ o) p → KeepsTimes e o ks p ks
-more_timed e y o p ks m = λ last l h.
-    all_weaker (IsTimed (moment e) o) (IsTimed (moment e) p) (timed_wider (moment e) o p (put_wider y o p m)) ks (same_timed e o ks last l h)
+-- what stood in the order stands there still
+entries_timed : (last : ℕ) (o p : List (ℕ × ℕ)) (ks : List Connection) → KeepsEntries ks o p → AllByRecursion (IsTimed last o) ks → AllByRecursion (IsTimed last p) ks
+entries_timed last o p [] e h = tt
+entries_timed last o p (k ∷ ks) e h = (
+  record { base = h.0.base; at = h.0.at; within = h.0.within; stands = e.0 h.0.at h.0.stands },
+  entries_timed last o p ks e.1 h.1,
+)
 
-pub pushed_timed : (e : Event) (y : ℕ × ℕ) (o p : List (ℕ × ℕ)) (ks : List Connection) (k : Connection) → IsPermutation (y ∷ o) p → IsTimed (moment e) p k → KeepsTimes e o ks p (ks ++ k ∷ [])
-pushed_timed e y o p ks k m t = λ last l h. all_push (IsTimed (moment e) p) ks (k ∷ []) (more_timed e y o p ks m last l h) (t, tt)
+pub entries_kept : (e : Event) (o p : List (ℕ × ℕ)) (ks : List Connection) → KeepsEntries ks o p → KeepsTimes e o ks p ks
+entries_kept e o p ks m = λ last l h. entries_timed (moment e) o p ks m (same_timed e o ks last l h)
+
+pub pushed_timed : (e : Event) (o p : List (ℕ × ℕ)) (ks : List Connection) (k : Connection) → KeepsEntries ks o p → IsTimed (moment e) p k → KeepsTimes e o ks p (ks ++ k ∷ [])
+pushed_timed e o p ks k m t = λ last l h. all_push (IsTimed (moment e) p) ks (k ∷ []) (entries_kept e o p ks m last l h) (t, tt)
+
+pub all_entries : (o p : List (ℕ × ℕ)) → ((x : ℕ × ℕ) → Contains o x → Contains p x) → (ks : List Connection) → KeepsEntries ks o p
+all_entries o p f [] = tt
+all_entries o p f (k ∷ ks) = (λ at c. f (at, k.number) c, all_entries o p f ks)
+
+pub entries_more : (o p q : List (ℕ × ℕ)) (ks : List Connection) → KeepsEntries ks o p → KeepsEntries ks p q → KeepsEntries ks o q
+entries_more o p q [] e f = tt
+entries_more o p q (k ∷ ks) e f = (λ at c. f.0 at (e.0 at c), entries_more o p q ks e.1 f.1)
+
+pub put_entries : (result : Result (Unit {0}) OutOfMemory) (x : ℕ × ℕ) (o p : List (ℕ × ℕ)) (ks : List Connection) → OnOk result (IsPermutation (x ∷ o) p) → OnErr result (p ≡ o) → KeepsEntries ks o p
+put_entries (Ok y) x o p ks m e = all_entries o p (put_wider x o p m) ks
+put_entries (Err fault) x o p ks m e = all_entries o p (λ y c. subst (λ (l : List (ℕ × ℕ)). Contains {X = ℕ × ℕ} l y) (sym e) c) ks
+
+pub put_stands : (result : Result (Unit {0}) OutOfMemory) (x : ℕ × ℕ) (o p : List (ℕ × ℕ)) → OnOk result (IsPermutation (x ∷ o) p) → OnOk result (Contains p x)
+put_stands (Ok y) x o p m = put_has x o p m
+put_stands (Err fault) x o p m = tt
 
 -- one that begins
 pub new_timed : (at until : ℕ) (p : List (ℕ × ℕ)) (k : Connection) → k.base ≤ at → is_within k.limit k.base until ≡ true → Contains {X = ℕ × ℕ} p (until, k.number) → IsTimed at p k
 new_timed at until p k b w h = record { base = b; at = until; within = w; stands = h }
 
--- the order lets one of a number go
+-- the one at the front of the order
 only_at : (x y : ℕ × ℕ) (i : ℕ) → i < 1 → get_or (x ∷ []) i y ≡ y → x ≡ y
 only_at x y zero l e = e
 only_at x y (suc i) l e = absurd (omega arith)
@@ -111,43 +135,25 @@ other_front at n till m p ne (inr h) = h
 pub behind_front : (at n till m : ℕ) (p : List (ℕ × ℕ)) → m ≢ n → Contains {X = ℕ × ℕ} ((at, n) ∷ p) (till, m) → Contains {X = ℕ × ℕ} p (till, m)
 behind_front at n till m p ne h = other_front at n till m p ne (Contains-append_cases ((at, n) ∷ []) p (till, m) h)
 
-stays_there : (n till m : ℕ) (o p : List (ℕ × ℕ)) → LetsGoOf n o p → m ≢ n → Contains {X = ℕ × ℕ} o (till, m) → Contains {X = ℕ × ℕ} p (till, m)
-stays_there n till m o p (inl g) ne h = subst (λ (l : List (ℕ × ℕ)). Contains {X = ℕ × ℕ} l (till, m)) (sym g.0) h
-stays_there n till m o p (inr g) ne h = behind_front g.0 n till m p ne (Contains-permutation o ((g.0, n) ∷ p) (till, m) g.1 h)
-
-pub timed_without : (n last : ℕ) (o p : List (ℕ × ℕ)) → LetsGoOf n o p → (ks : List Connection) → AllByRecursion (λ k. k.number ≢ n) ks → AllByRecursion (IsTimed last o) ks
-    → AllByRecursion (IsTimed last p) ks
-timed_without n last o p g [] a h = tt
-timed_without n last o p g (k ∷ ks) a h = (
-  record { base = h.0.base; at = h.0.at; within = h.0.within; stands = stays_there n h.0.at k.number o p g a.0 h.0.stands },
-  timed_without n last o p g ks a.1 h.1,
-)
-
-gone_one : (mine : Bool) (n : ℕ) (k : Connection) (ks : List Connection) → eqb n k.number ≡ mine → AllByRecursion (λ j. j.number ≢ n) ks
-    → AllByRecursion (λ j. j.number ≢ n) (cons_option (moved k (cond mine Over Other)) ks)
-gone_one true n k ks e h = h
-gone_one false n k ks e h = (λ q. absurd (let f : eqb n k.number ≡ true = eq-eqb n k.number (sym q) in cc), h)
-
-pub ended_gone : (at n : ℕ) (ks : List Connection) → AllByRecursion (λ k. k.number ≢ n) (filter_map (step (Ended at n)) ks)
-ended_gone at n [] = tt
-ended_gone at n (k ∷ ks) = gone_one (eqb n k.number) n k (filter_map (step (Ended at n)) ks) refl (ended_gone at n ks)
-
 ended_same : (mine : Bool) (k l : Connection) → moved k (cond mine Over Other) ≡ Some l → k ≡ l
 ended_same true k l e = absurd cc
 ended_same false k l e = cc
 
--- a connection that ends is gone from both
-pub forget_kept : (last at n : ℕ) (o p : List (ℕ × ℕ)) (ks : List Connection) → LetsGoOf n o p → AllByRecursion (IsTimed last o) ks → AllByRecursion (IsTimed last p) (filter_map (step (Ended at n)) ks)
-forget_kept last at n o p ks g h =
-    timed_without n last o p g (filter_map (step (Ended at n)) ks) (ended_gone at n ks)
-    (all_kept (IsTimed last o) (step (Ended at n)) (λ k l e t. subst (IsTimed last o) (ended_same _ k l e) t) ks h)
-
-pub forget_timed : (at n : ℕ) (o p : List (ℕ × ℕ)) (ks : List Connection) → LetsGoOf n o p → KeepsTimes (Ended at n) o ks p (filter_map (step (Ended at n)) ks)
-forget_timed at n o p ks g = λ last l h.
-    timed_without n at o p g (filter_map (step (Ended at n)) ks) (ended_gone at n ks) (kept_timed (Ended at n) o ks last l h)
-
-pub over_timed : (e : Event) (n : ℕ) (o p : List (ℕ × ℕ)) (ks ls : List Connection) → ls ≡ filter_map (step e) ks → AllByRecursion (λ k. k.number ≢ n) ls → LetsGoOf n o p → KeepsTimes e o ks p ls
-over_timed e n o p ks ls s a g = λ last l h. timed_without n (moment e) o p g ls a (subst (AllByRecursion (IsTimed (moment e) o)) (sym s) (kept_timed e o ks last l h))
+-- a connection that ends is among the others no more
+pub ended_kept : (last at n : ℕ) (o : List (ℕ × ℕ)) (ks : List Connection) → AllByRecursion (IsTimed last o) ks → AllByRecursion (IsTimed last o) (filter_map (step (Ended at n)) ks)
+ended_kept last at n o ks h = all_kept (IsTimed last o) (step (Ended at n)) (λ k l e t. subst (IsTimed last o) (ended_same _ k l e) t) ks h
 
 pub times_same : (e : Event) (o p : List (ℕ × ℕ)) (ks ls ms : List Connection) → ms ≡ ls → KeepsTimes e o ks p ls → KeepsTimes e o ks p ms
 times_same e o p ks ls ms s h = subst (KeepsTimes e o ks p) (sym s) h
+
+-- those of which a test says `true` stay
+stays_one : (b : Bool) (test : ℕ × ℕ → Bool) (x y : ℕ × ℕ) (o : List (ℕ × ℕ)) → test y ≡ b → test x ≡ true → (Contains {X = ℕ × ℕ} (y ∷ []) x ⊎ Contains o x) → (Contains o x → Contains (filter test o) x)
+    → Contains {X = ℕ × ℕ} (cond b (y ∷ filter test o) (filter test o)) x
+stays_one true test x y o e h (inl c) f = (0, omega arith, only_at y x c.0 c.1 c.2)
+stays_one true test x y o e h (inr c) f = Contains-append_right (y ∷ []) (filter test o) x (f c)
+stays_one false test x y o e h (inl c) f = absurd (let same : y ≡ x = only_at y x c.0 c.1 c.2 in cc)
+stays_one false test x y o e h (inr c) f = f c
+
+pub stays_in : (test : ℕ × ℕ → Bool) (o : List (ℕ × ℕ)) (x : ℕ × ℕ) → test x ≡ true → Contains o x → Contains (filter test o) x
+stays_in test [] x h c = absurd (let l = c.1 in omega (arith, l))
+stays_in test (y ∷ o) x h c = stays_one (test y) test x y o refl h (Contains-append_cases (y ∷ []) o x c) (stays_in test o x h)

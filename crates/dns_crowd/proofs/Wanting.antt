@@ -15,7 +15,7 @@ use Rattle.dns_server_core.specs.Events.{moment}
 use Rattle.dns_server_core.specs.Runs.{Completed, Run}
 use Rattle.dns_server_core.specs.Steps.{completed_now, open_next, step}
 use Rattle.dns_server_core.proofs.ConnectionTurns.{idle_next}
-use Rattle.dns_merge.proofs.InTurn.{next_timely, now_timely}
+use Rattle.dns_laws.proofs.InTurn.{next_timely, now_timely}
 use Rattle.dns_crowd.specs.Crowds.{CrowdTold}
 use Rattle.dns_crowd.specs.Replies.{Falters, sent_bytes}
 use Rattle.dns_crowd.specs.Turns.{Attends, Fate, Served, Unsent, Unsettled, Handled, Holds, SettlesBy, SettlesEach, Treats, Working, lost, open_by, timely}

@@ -3,3 +3,4 @@ pub mod Replies
 pub mod Turns
 pub mod Memory
 pub mod Tables
+pub mod Slots

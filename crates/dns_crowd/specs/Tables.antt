@@ -21,6 +21,14 @@ pub record IsTable (kept : Kept) (order : List (ℕ × ℕ)) : Type 0 where
   pub moment : kept.last < 2 ^ 47
   pub timed : AllByRecursion (IsTimed kept.last order) kept.connections
 
+-- a number is greater than those of all connections
+abbrev pub IsAboveAll : ℕ → List Connection → Type 0
+IsAboveAll number connections = AllByRecursion (λ k. k.number < number) connections
+
+-- what of these connections stood in the order stands there still
+abbrev pub KeepsEntries : List Connection → List (ℕ × ℕ) → List (ℕ × ℕ) → Type 0
+KeepsEntries connections before after = AllByRecursion (λ k. (at : ℕ) → Contains before (at, k.number) → Contains after (at, k.number)) connections
+
 -- those that stood in the order before an event do so behind it
 abbrev pub KeepsTimes : Event → List (ℕ × ℕ) → List Connection → List (ℕ × ℕ) → List Connection → Type 0
 KeepsTimes e order connections order_now connections_now =

@@ -1,43 +1,39 @@
 //! The open connections of a crowd.
 
 ghost use Rattle.std.specs.Prelude.{◌≡◌, ◌≤◌, ◌<◌, ◌++◌, ◌^◌, ◌∷◌, [], length, not, true, IfOk, OnErr, OnOk, if◌then◌else◌};
-ghost use Rattle.std.specs.List.{filter_map};
+ghost use Rattle.std.specs.List.{AllByRecursion, Contains};
 ghost use Rattle.dns_crowd.specs.Crowds.{MayCome, event_of};
 ghost use Rattle.dns_crowd.specs.Replies.{Falters, RepliesTo};
 ghost use Rattle.dns_readiness.specs.Came.{count_of, number_of};
 ghost use Rattle.dns_edges.specs.Edges.{HasCause};
-ghost use Rattle.dns_crowd.specs.Tables.{KeepsTimes};
+ghost use Rattle.dns_crowd.specs.Tables.{IsAboveAll, KeepsEntries, KeepsTimes};
 ghost use Rattle.dns_crowd.specs.Turns.{Holds, IsDone, IsShut, IsUnasked, Shuts, ShutsAll};
 ghost use Rattle.dns_crowd.specs.Turns.{done_by, late_by, lost, next_lost, numbers_of, stays_by};
-ghost use Rattle.dns_readiness.specs.Order.{LetsGoOf};
 ghost use Rattle.dns_server_core.specs.Connections.{accepted, is_safe, new_kept};
 ghost use Rattle.dns_server_core.specs.Events.{moment, number_in};
-ghost use Rattle.dns_server_core.specs.Order.{Climbs, next};
-ghost use Rattle.dns_server_core.specs.Steps.{completed_now, open_next, step};
+ghost use Rattle.dns_server_core.specs.Order.{next};
+ghost use Rattle.dns_server_core.specs.Steps.{completed_now, open_next};
 ghost use Rattle.dns_server_core.specs.declared.event.Event.TheVariants as event;
 
 use crate::crowd::Crowd;
 use crate::deadlines::{close_late, last_within};
-use crate::serving::serve_piece;
+use crate::sessions::Sessions;
 use dns_book::AccessControl;
 use dns_io::{IoFault, OutOfMemory, Peer};
 use dns_readiness::{Came, Order};
-use dns_server_core::{RequestHandler, Session, end, is_safe, place_of};
+use dns_server_core::{RequestHandler, Session, is_safe};
 use std::alloc::Global;
 use std::marker::Model;
 
-/// For how many connections there is room from the beginning, where memory is found for it: a table that grows leaves room behind that is
-/// too small for the next one.
-const RESERVED: usize = 4_096;
-
 /// The open connections, in order of their numbers, the order in which their time is over, and the last moment and the greatest number that
 /// came. One whose time is over may still stand among them, until it is let go: it completes nothing. Each stands in the order once, at a
-/// moment at which it is still within its time: one that completes a message is put off when that moment is past, and not before.
+/// moment at which it is still within its time: one that completes a message is put off when that moment is past, and not before. One that
+/// is gone may stand in the order still, and is passed over at its moment: so each that goes takes few steps, however many are open.
 #[derive(Drop)]
 pub(crate) struct Connections {
     last: u64,
     greatest: Option<u32>,
-    sessions: Vec<Session>,
+    sessions: Sessions,
     order: Order,
     alloc: Global,
 }
@@ -49,13 +45,13 @@ impl Model for Connections {
 
     ghost Value = { Kept };
 
-    ghost view = { λ s. record { last = s.last; greatest = s.greatest; stopped = false; connections = s.sessions.items } };
+    ghost view = { λ s. record { last = s.last; greatest = s.greatest; stopped = false; connections = s.sessions } };
 
     ghost invariant = { λ s. IsTable (record {
       last = s.last;
       greatest = s.greatest;
       stopped = false;
-      connections = s.sessions.items;
+      connections = s.sessions;
     }) s.order };
 }
 
@@ -64,12 +60,10 @@ impl Connections {
     pub(crate) fn new(alloc: Global) -> Connections
         ensures { result ≡ new_kept }
     {
-        let mut sessions = Vec::new(alloc);
-        let _room = sessions.reserve(RESERVED);
         Connections {
             last: 0,
             greatest: None,
-            sessions,
+            sessions: Sessions::new(alloc),
             order: Order::new(alloc),
             alloc,
         }
@@ -127,7 +121,7 @@ impl Connections {
         ensures { self.new ≡ record self.old { connections = lost (event_of room.now came.now) self.old.connections } }
     {
         match came {
-            Came::Bytes { at, conn, .. } => forget(&mut self.sessions, &mut self.order, *at, *conn),
+            Came::Bytes { at, conn, .. } => self.sessions.end(*at, *conn),
             _ => {}
         }
     }
@@ -165,27 +159,27 @@ fn apply<H: RequestHandler>(
     alloc: Global,
     handler: &mut H,
     access: &AccessControl,
-    sessions: &mut Vec<Session>,
+    sessions: &mut Sessions,
     order: &mut Order,
     came: &Came,
     room: &[u8],
     replies: &mut Vec<u8>,
 ) -> Result<bool, OutOfMemory>
-    requires climbs { Climbs sessions.old.items }
     requires size { count_of came.now ≤ length room.now }
     requires moment { moment (event_of room.now came.now) < 2 ^ 47 }
-    ensures ok { OnOk result (sessions.new.items ≡ open_next (event_of room.now came.now) sessions.old.items) }
+    requires above { AllByRecursion (λ n. IsAboveAll n sessions.old) (number_in (event_of room.now came.now)) }
+    ensures ok { OnOk result (sessions.new ≡ open_next (event_of room.now came.now) sessions.old) }
     ensures ran { OnOk result (RepliesTo (H.serves access.now) handler.old
-        (completed_now (event_of room.now came.now) sessions.old.items) handler.new (number_of came.now)
+        (completed_now (event_of room.now came.now) sessions.old) handler.new (number_of came.now)
         replies.old.items replies.new.items) }
     ensures done { IfOk result (λ is_done. is_done ≡ true →
-        IsDone (event_of room.now came.now) sessions.old.items sessions.new.items) }
-    ensures shuts { IfOk result (λ is_done. done_by (event_of room.now came.now) sessions.old.items
+        IsDone (event_of room.now came.now) sessions.old sessions.new) }
+    ensures shuts { IfOk result (λ is_done. done_by (event_of room.now came.now) sessions.old
         ≡ (if is_done then number_of came.now ∷ [] else [])) }
-    ensures err { OnErr result (sessions.new.items ≡ lost (event_of room.now came.now) sessions.old.items) }
+    ensures err { OnErr result (sessions.new ≡ lost (event_of room.now came.now) sessions.old) }
     ensures halted { OnErr result (Falters (H.serves access.now) H.skips handler.old
-        (completed_now (event_of room.now came.now) sessions.old.items) handler.new) }
-    ensures timed { KeepsTimes (event_of room.now came.now) order.old sessions.old.items order.new sessions.new.items }
+        (completed_now (event_of room.now came.now) sessions.old) handler.new) }
+    ensures timed { KeepsTimes (event_of room.now came.now) order.old sessions.old order.new sessions.new }
 {
     match came {
         Came::Accepted {
@@ -196,11 +190,11 @@ fn apply<H: RequestHandler>(
         } => accept(alloc, sessions, order, *at, *conn, *peer, *limit),
         Came::Bytes { at, conn, count } => {
             let (piece, _) = room.split_at(*count);
-            let is_done = receive(handler, access, sessions, order, *at, *conn, piece, replies)?;
+            let is_done = sessions.hear(handler, access, *at, *conn, piece, replies)?;
             Ok(is_done)
         }
         Came::Ended { at, conn } => {
-            forget(sessions, order, *at, *conn);
+            sessions.end(*at, *conn);
             Ok(false)
         }
         Came::Tick { at: _ } => Ok(false),
@@ -210,7 +204,7 @@ fn apply<H: RequestHandler>(
 /// A connection from a safe peer is open from now on; one from another is to be closed.
 fn accept(
     alloc: Global,
-    sessions: &mut Vec<Session>,
+    sessions: &mut Sessions,
     order: &mut Order,
     at: u64,
     number: u32,
@@ -218,70 +212,49 @@ fn accept(
     limit: u64,
 ) -> Result<bool, OutOfMemory>
     requires moment { at < 2 ^ 47 }
-    ensures ok { OnOk result (sessions.new.items ≡ sessions.old.items ++ accepted (event.Accepted at number peer limit)) }
+    requires above { IsAboveAll number sessions.old }
+    ensures ok { OnOk result (sessions.new ≡ sessions.old ++ accepted (event.Accepted at number peer limit)) }
     ensures done { IfOk result (λ is_done. is_done ≡ not (is_safe peer)) }
-    ensures err { OnErr result (sessions.new.items ≡ sessions.old.items) }
-    ensures timed { KeepsTimes (event.Accepted at number peer limit) order.old sessions.old.items order.new sessions.new.items }
+    ensures err { OnErr result (sessions.new ≡ sessions.old) }
+    ensures timed { KeepsTimes (event.Accepted at number peer limit) order.old sessions.old order.new sessions.new }
 {
     if !is_safe(&peer) {
         return Ok(true);
     }
     let session = Session::open(alloc, number, peer, limit, at);
     let until = last_within(&session, at);
-    order.put(until, number)?;
+    put_in_order(order, &*sessions, until, number)?;
     sessions.push(session)?;
     Ok(false)
 }
 
-/// Receives a piece of the bytes of the connection of a number, and says whether it is to be closed: the piece came too late, or brought
-/// its last message.
-fn receive<H: RequestHandler>(
-    handler: &mut H,
-    access: &AccessControl,
-    sessions: &mut Vec<Session>,
+/// Puts a connection into the order.
+fn put_in_order(
     order: &mut Order,
-    at: u64,
+    sessions: &Sessions,
+    until: u64,
     number: u32,
-    piece: &[u8],
-    replies: &mut Vec<u8>,
-) -> Result<bool, OutOfMemory>
-    requires climbs { Climbs sessions.old.items }
-    requires moment { at < 2 ^ 47 }
-    ensures ok { OnOk result (sessions.new.items ≡ filter_map (step (event.Bytes at number piece.now)) sessions.old.items) }
-    ensures ran { OnOk result (RepliesTo (H.serves access.now) handler.old
-        (completed_now (event.Bytes at number piece.now) sessions.old.items) handler.new number replies.old.items replies.new.items) }
-    ensures done { IfOk result (λ is_done. is_done ≡ true → IsShut (numbers_of sessions.old.items) sessions.new.items number) }
-    ensures shuts { IfOk result (λ is_done. done_by (event.Bytes at number piece.now) sessions.old.items
-        ≡ (if is_done then number ∷ [] else [])) }
-    ensures err { OnErr result (sessions.new.items ≡ filter_map (step (event.Ended at number)) sessions.old.items) }
-    ensures halted { OnErr result (Falters (H.serves access.now) H.skips handler.old
-        (completed_now (event.Bytes at number piece.now) sessions.old.items) handler.new) }
-    ensures timed { KeepsTimes (event.Bytes at number piece.now) order.old sessions.old.items order.new sessions.new.items }
+) -> Result<(), OutOfMemory>
+    ensures ok { OnOk result (Contains order.new (until, number)) }
+    ensures kept { KeepsEntries sessions.now order.old order.new }
 {
-    if let Some(i) = place_of(sessions, number) {
-        let stays = match serve_piece(handler, access, &mut sessions[i], at, piece, replies) {
-            Ok(stays) => stays,
-            Err(fault) => {
-                sessions.remove(i);
-                order.let_go(number);
-                return Err(fault);
-            }
-        };
-        if !stays {
-            sessions.remove(i);
-            order.let_go(number);
-            return Ok(true);
-        }
-    }
-    Ok(false)
+    tidy(order, sessions);
+    order.put(until, number)
 }
 
-/// The connection of a number ends: it is open no more, and stands in the order no more.
-fn forget(sessions: &mut Vec<Session>, order: &mut Order, at: u64, number: u32)
-    requires { Climbs sessions.old.items }
-    ensures left { sessions.new.items ≡ filter_map (step (event.Ended at number)) sessions.old.items }
-    ensures gone { LetsGoOf number order.old order.new }
+/// Lets go of the entries of those that are gone, where they are more than the others.
+fn tidy(order: &mut Order, sessions: &Sessions)
+    ensures { KeepsEntries sessions.now order.old order.new }
 {
-    end(sessions, at, number);
-    order.let_go(number);
+    if order.len() / 2 <= sessions.count() {
+        return;
+    }
+    sweep(order, sessions);
+}
+
+/// Lets go of the entries of those that are gone.
+fn sweep(order: &mut Order, sessions: &Sessions)
+    ensures { KeepsEntries sessions.now order.old order.new }
+{
+    order.retain(|entry: &(u64, u32)| sessions.has(entry.1));
 }

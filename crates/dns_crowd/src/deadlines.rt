@@ -10,9 +10,10 @@ ghost use Rattle.dns_server_core.specs.Connections.{is_within};
 ghost use Rattle.dns_server_core.specs.Order.{Climbs};
 
 use crate::crowd::Crowd;
+use crate::sessions::Sessions;
 use dns_io::IoFault;
 use dns_readiness::Order;
-use dns_server_core::{Session, place_of};
+use dns_server_core::Session;
 
 /// How far in front of a moment the end of a connection's time is looked for, in milliseconds.
 const FARTHEST: u64 = 1 << 47;
@@ -20,18 +21,18 @@ const FARTHEST: u64 = 1 << 47;
 /// Closes those that are late by a moment, and lets them go. Looks only at those that stand in the order before it: each that is late, and
 /// each that completed a message since it was put there.
 pub(crate) fn close_late<C: Crowd>(
-    sessions: &mut Vec<Session>,
+    sessions: &mut Sessions,
     order: &mut Order,
     last: u64,
     crowd: &mut C,
 ) -> Result<(), IoFault>
     requires moment { last < 2 ^ 47 }
-    requires climbs { Climbs sessions.old.items }
-    requires timed { AllByRecursion (IsTimed last order.old) sessions.old.items }
-    ensures left { OnOk result (sessions.new.items ≡ timely last sessions.old.items) }
-    ensures all { OnOk result (ShutsAll (C.told crowd.old).closed (C.told crowd.new).closed (late_numbers last sessions.old.items)) }
-    ensures timed { AllByRecursion (IsTimed last order.new) sessions.new.items }
-    ensures kept { KeepsTable sessions.old.items sessions.new.items }
+    requires climbs { Climbs sessions.old }
+    requires timed { AllByRecursion (IsTimed last order.old) sessions.old }
+    ensures left { OnOk result (sessions.new ≡ timely last sessions.old) }
+    ensures all { OnOk result (ShutsAll (C.told crowd.old).closed (C.told crowd.new).closed (late_numbers last sessions.old)) }
+    ensures timed { AllByRecursion (IsTimed last order.new) sessions.new }
+    ensures kept { KeepsTable sessions.old sessions.new }
     ensures unasked { OnOk result (IsUnasked (C.told crowd.old) (C.told crowd.new)) }
     ensures held { Holds (C.told crowd.old) (C.told crowd.new) }
     ensures cause { HasCause (C.told crowd.old).faults (C.told crowd.new).faults result }
@@ -48,38 +49,38 @@ pub(crate) fn close_late<C: Crowd>(
 /// Closes the connection that stands first in the order, if it is late by a moment, and lets it go; else it is put off to the end of its
 /// time.
 fn close_first<C: Crowd>(
-    sessions: &mut Vec<Session>,
+    sessions: &mut Sessions,
     order: &mut Order,
     number: u32,
     last: u64,
     crowd: &mut C,
 ) -> Result<(), IoFault>
     requires moment { last < 2 ^ 47 }
-    requires climbs { Climbs sessions.old.items }
-    requires timed { AllByRecursion (IsTimed last order.old) sessions.old.items }
+    requires climbs { Climbs sessions.old }
+    requires timed { AllByRecursion (IsTimed last order.old) sessions.old }
     requires first { IsFirstBefore last number order.old }
-    ensures alike { timely last sessions.new.items ≡ timely last sessions.old.items }
+    ensures alike { timely last sessions.new ≡ timely last sessions.old }
     ensures shut { OnOk result (ShutsSome (C.told crowd.old).closed (C.told crowd.new).closed
-        (late_numbers last sessions.old.items) (late_numbers last sessions.new.items)) }
-    ensures climbs { Climbs sessions.new.items }
-    ensures timed { AllByRecursion (IsTimed last order.new) sessions.new.items }
-    ensures kept { KeepsTable sessions.old.items sessions.new.items }
+        (late_numbers last sessions.old) (late_numbers last sessions.new)) }
+    ensures climbs { Climbs sessions.new }
+    ensures timed { AllByRecursion (IsTimed last order.new) sessions.new }
+    ensures kept { KeepsTable sessions.old sessions.new }
     ensures fewer { count_before last order.new < count_before last order.old }
     ensures unasked { OnOk result (IsUnasked (C.told crowd.old) (C.told crowd.new)) }
     ensures held { Holds (C.told crowd.old) (C.told crowd.new) }
     ensures cause { HasCause (C.told crowd.old).faults (C.told crowd.new).faults result }
 {
-    let Some(i) = place_of(sessions, number) else {
+    let Some(session) = sessions.find(number) else {
         order.take_first();
         return Ok(());
     };
-    if sessions[i].is_within(last) {
-        let until = last_within(&sessions[i], last);
+    if session.is_within(last) {
+        let until = last_within(session, last);
         order.put_off(until);
         return Ok(());
     }
     order.take_first();
-    sessions.remove(i);
+    sessions.end(last, number);
     crowd.close(number)
 }
 

@@ -7,6 +7,7 @@ mod crowd;
 mod deadlines;
 mod memory_crowd;
 mod serving;
+mod sessions;
 mod socket_crowd;
 mod worker;
 

@@ -1,6 +1,6 @@
 -- Entries in the order of their moments.
-use Rattle.std.proofs.Common.{◌≡◌, ◌≤◌, ◌<◌, ℕ, zero, suc, List, [], ◌∷◌, ◌++◌, length, take, drop, get_or, arith, subst}
-use Rattle.std.specs.List.{AllByRecursion, insert, remove}
+use Rattle.std.proofs.Common.{◌≡◌, ◌≤◌, ◌<◌, ℕ, zero, suc, Bool, true, false, List, [], ◌∷◌, ◌++◌, length, take, drop, get_or, arith, subst}
+use Rattle.std.specs.List.{AllByRecursion, insert, items_where_true}
 use Rattle.dns_readiness.specs.Order.{IsInOrder}
 
 pub all_weaker : (P Q : ℕ × ℕ → Type 0) → ((e : ℕ × ℕ) → P e → Q e) → (es : List (ℕ × ℕ)) → AllByRecursion P es → AllByRecursion Q es
@@ -36,14 +36,18 @@ in_order_insert (e ∷ es) (suc i) y o a b = (
   in_order_insert es i y o.1 a.1 b,
 )
 
-pub in_order_remove : (es : List (ℕ × ℕ)) (i : ℕ) → IsInOrder es → IsInOrder (remove es i)
-in_order_remove [] zero o = tt
-in_order_remove [] (suc i) o = tt
-in_order_remove (e ∷ es) zero o = o.1
-in_order_remove (e ∷ es) (suc i) o = (
-  all_push (λ f. e.0 ≤ f.0) (take i es) (drop (suc i) es) (all_take (λ f. e.0 ≤ f.0) es i o.0) (all_drop (λ f. e.0 ≤ f.0) es (suc i) o.0),
-  in_order_remove es i o.1,
-)
+-- what is left of entries by answers
+all_where : (P : ℕ × ℕ → Type 0) (bs : List Bool) (es : List (ℕ × ℕ)) → AllByRecursion P es → AllByRecursion P (items_where_true bs es)
+all_where P [] es h = tt
+all_where P (b ∷ bs) [] h = tt
+all_where P (true ∷ bs) (e ∷ es) h = (h.0, all_where P bs es h.1)
+all_where P (false ∷ bs) (e ∷ es) h = all_where P bs es h.1
+
+pub in_order_where : (bs : List Bool) (es : List (ℕ × ℕ)) → IsInOrder es → IsInOrder (items_where_true bs es)
+in_order_where [] es o = tt
+in_order_where (b ∷ bs) [] o = tt
+in_order_where (true ∷ bs) (e ∷ es) o = (all_where (λ f. e.0 ≤ f.0) bs es o.0, in_order_where bs es o.1)
+in_order_where (false ∷ bs) (e ∷ es) o = in_order_where bs es o.1
 
 -- those through a place whose moment is no later
 pub all_through : (es : List (ℕ × ℕ)) (i : ℕ) (d : ℕ × ℕ) (at : ℕ) → IsInOrder es → i < length es → (get_or es i d).0 ≤ at → AllByRecursion (λ e. e.0 ≤ at) (take (suc i) es)

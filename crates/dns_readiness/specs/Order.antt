@@ -1,7 +1,6 @@
 -- Numbers in the order of their moments.
-use Rattle.std.specs.Prelude.{◌≡◌, ◌≢◌, ◌≤◌, ◌<◌, ◌⊎◌, ℕ, List, [], ◌∷◌}
+use Rattle.std.specs.Prelude.{◌≡◌, ◌≤◌, ◌<◌, ℕ, List, [], ◌∷◌}
 use Rattle.std.specs.List.{AllByRecursion}
-use Rattle.std.specs.List.Sorted.{IsPermutation}
 
 -- each entry is a moment and a number, and no moment is behind a later one
 abbrev pub IsInOrder : List (ℕ × ℕ) → Type 0
@@ -14,8 +13,3 @@ pub record IsFirstBefore (moment number : ℕ) (entries : List (ℕ × ℕ)) : T
   pub others : List (ℕ × ℕ)
   pub is : entries ≡ (at, number) ∷ others
   pub before : at < moment
-
--- one entry of a number goes, where there is one, and all others stay
-abbrev pub LetsGoOf : ℕ → List (ℕ × ℕ) → List (ℕ × ℕ) → Type 0
-LetsGoOf number before after = ((after ≡ before) × AllByRecursion (λ e. e.1 ≢ number) before)
-    ⊎ ((at : ℕ) × IsPermutation before ((at, number) ∷ after))

@@ -1,18 +1,26 @@
 //! One connection of the operating system.
 
-ghost use Rattle.std.specs.Prelude.{◌≡◌, ◌≤◌, ◌-◌, max, length, true, false, ℕ, OnErr};
-ghost use Rattle.dns_readiness.specs.Decisions.{most_unsent};
-ghost use Rattle.dns_readiness.specs.Links.{closed_from, drained_from, end_of, is_over, is_served, is_watched, since};
+ghost use Rattle.std.specs.Prelude.{◌≡◌, ◌≤◌, ◌<◌, length, true, false, ℕ, None, IfOk, IfSome, OnErr, OnOk};
+ghost use Rattle.dns_readiness.specs.Links.{closed_from, drained_from, end_of, ended, is_free, is_idle, is_late, is_over, is_overdue, left_of, mark};
+ghost use Rattle.dns_readiness.specs.Links.{Sends, is_served, is_slow, is_watched, may_leave, owed_behind, owed_with, owes, since, stands, taken_from, whole_of};
 ghost use Rattle.dns_readiness.specs.declared.came.Came.TheVariants.{Bytes};
 
 use crate::came::Came;
-use crate::decisions::{Outcome, is_late, is_too_much, transfer_after};
+use crate::decisions::{Outcome, transfer_after};
+use crate::owed::Owed;
 use dns_io::OutOfMemory;
 use mio::net::TcpStream;
+use mio::{Interest, Registry, Token};
 use std::alloc::Global;
-use std::io::Write;
+use std::io::{self, Read, Write};
 use std::marker::Model;
 use std::net::Shutdown;
+
+/// For how many milliseconds a connection that is closed may still send.
+const DRAINING: u64 = 1_000;
+
+/// So many bytes more are to be taken within a millisecond more: 16 KB a second.
+const BYTES_A_MILLISECOND: u64 = 16;
 
 /// How far a connection has come.
 #[derive(Clone, Copy, Debug, PartialEq, Eq)]
@@ -23,15 +31,19 @@ pub(crate) enum Stage {
     Closing,
     /// All was written, and what its peer still sends is dropped.
     Draining,
+    /// It ended, and has no stream any more.
+    Ended,
 }
 
-/// A stream, and what its peer did not take yet.
+/// A stream, and what its peer did not take yet. While there is something, nothing is read: so it is owed at most the replies to the
+/// messages that one read completes, and no message is settled whose reply would be thrown away.
 #[derive(Drop)]
 pub(crate) struct Link {
     pub(crate) number: u32,
-    pub(crate) stream: TcpStream,
-    /// What its peer did not take yet. While there is something, nothing is read.
-    pub(crate) unsent: Vec<u8>,
+    /// None where it ended.
+    pub(crate) stream: Option<TcpStream>,
+    /// What its peer did not take yet, where there is something.
+    pub(crate) owed: Option<Owed>,
     /// When it last sent or took something, or was shut down.
     pub(crate) heard: u64,
     pub(crate) stage: Stage,
@@ -44,15 +56,31 @@ pub(crate) struct Link {
 }
 
 impl Model for Link {
-    ghost use Rattle.std.specs.Prelude.{length};
     ghost use Rattle.dns_readiness.specs.Decisions.{LinkSeen};
 
     ghost Value = { LinkSeen };
 
-    ghost view = { λ l. record { number = l.number; heard = l.heard; owed = length l.unsent.items; stage = l.stage; broken = l.broken } };
+    ghost view = { λ l. record { number = l.number; heard = l.heard; owed = l.owed; stage = l.stage; broken = l.broken } };
 }
 
 impl Link {
+    /// One that was accepted at this moment.
+    pub(crate) fn new(number: u32, stream: TcpStream, now: u64) -> Link
+        ensures stands { stands result ≡ true }
+        ensures number { result.number ≡ number }
+    {
+        Link {
+            number,
+            stream: Some(stream),
+            owed: None,
+            heard: now,
+            stage: Stage::Open,
+            broken: false,
+            last: false,
+            noted: false,
+        }
+    }
+
     /// Its number.
     pub(crate) fn number(&self) -> u32
         ensures { result ≡ self.now.number }
@@ -60,11 +88,44 @@ impl Link {
         self.number
     }
 
-    /// How many bytes it is owed.
-    pub(crate) fn owed(&self) -> usize
-        ensures { result ≡ self.now.owed }
+    /// Whether it is owed nothing.
+    pub(crate) fn is_free(&self) -> bool
+        ensures { result ≡ is_free self.now }
     {
-        self.unsent.len()
+        self.owed.is_none()
+    }
+
+    /// Whether it stands: it did not end.
+    pub(crate) fn stands(&self) -> bool
+        ensures { result ≡ stands self.now }
+    {
+        match self.stage {
+            Stage::Open => true,
+            Stage::Closing => true,
+            Stage::Draining => true,
+            Stage::Ended => false,
+        }
+    }
+
+    /// Whether it stands, and is owed nothing.
+    pub(crate) fn is_idle(&self) -> bool
+        ensures { result ≡ is_idle self.now }
+    {
+        self.stands() && self.is_free()
+    }
+
+    /// Whether it stands, and was owed something for longer than the patience.
+    pub(crate) fn is_overdue(&self, patience: u64, now: u64) -> bool
+        ensures { result ≡ is_overdue patience now self.now }
+    {
+        self.stands() && !self.is_free() && now.saturating_sub(self.mark()) > patience
+    }
+
+    /// Whether it can give way to another.
+    pub(crate) fn may_leave(&self, patience: u64, now: u64) -> bool
+        ensures { result ≡ may_leave patience now self.now }
+    {
+        self.is_idle() || self.is_overdue(patience, now)
     }
 
     /// Since when it was silent: one that is closed, and to which all was written, counts as silent for ever.
@@ -75,6 +136,27 @@ impl Link {
             Stage::Open => self.heard,
             Stage::Closing => self.heard,
             Stage::Draining => 0,
+            Stage::Ended => 0,
+        }
+    }
+
+    /// When it began to be owed something.
+    pub(crate) fn mark(&self) -> u64
+        ensures { result ≡ mark self.now }
+    {
+        match &self.owed {
+            Some(owed) => owed.marked(),
+            None => 0,
+        }
+    }
+
+    /// How many bytes it was owed since then.
+    fn whole(&self) -> u64
+        ensures { result ≡ whole_of self.now.owed }
+    {
+        match &self.owed {
+            Some(owed) => owed.whole(),
+            None => 0,
         }
     }
 
@@ -89,18 +171,23 @@ impl Link {
         }
     }
 
-    /// That it ended, where it is told.
-    pub(crate) fn end(&self, at: u64) -> Option<Came>
-        ensures { result ≡ end_of self.now.stage at self.now.number }
+    /// It ends: its stream and what it is owed are let go. What is told of it, where something is.
+    pub(crate) fn end(&mut self, at: u64) -> Option<Came>
+        ensures told { result ≡ end_of self.old.stage at self.old.number }
+        ensures left { self.new ≡ ended self.old }
     {
-        if self.is_served() {
-            Some(Came::Ended {
+        let is_served = self.is_served();
+        self.stage = Stage::Ended;
+        self.stream = None;
+        self.owed = None;
+        self.broken = false;
+        if is_served {
+            return Some(Came::Ended {
                 at,
                 conn: self.number,
-            })
-        } else {
-            None
+            });
         }
+        None
     }
 
     /// Whether it is served, so that its end is told: it was not closed before.
@@ -111,7 +198,13 @@ impl Link {
             Stage::Open => true,
             Stage::Closing => false,
             Stage::Draining => false,
+            Stage::Ended => false,
         }
+    }
+
+    /// Whether it takes bytes for its peer: it is served, and did not break.
+    pub(crate) fn takes(&self) -> bool {
+        self.is_served() && !self.broken
     }
 
     /// Whether it is owed something, was closed, or broke: no other can be over, whatever the time.
@@ -119,21 +212,43 @@ impl Link {
         ensures is { result ≡ is_watched self.now }
         ensures others { result ≡ false → (patience now : ℕ) → is_over patience now self.now ≡ false }
     {
-        self.broken || !self.unsent.is_empty() || !self.is_served()
+        self.stands() && (self.broken || !self.is_free() || !self.is_served())
     }
 
-    /// Whether it is over: it broke, or it was silent for too long.
+    /// Whether it is over: it broke, or it is late.
     pub(crate) fn is_over(&self, patience: u64, now: u64) -> bool
         ensures { result ≡ is_over patience now self.now }
     {
-        self.broken || is_late(self.stage, self.unsent.len(), self.heard, patience, now)
+        self.stands() && (self.broken || self.is_late(patience, now))
+    }
+
+    /// Whether it is over by its silence.
+    fn is_late(&self, patience: u64, now: u64) -> bool
+        ensures { result ≡ is_late patience now self.now }
+    {
+        match self.stage {
+            Stage::Open => self.is_slow(patience, now),
+            Stage::Closing => self.is_slow(patience, now),
+            Stage::Draining => now.saturating_sub(self.heard) > DRAINING,
+            Stage::Ended => false,
+        }
+    }
+
+    /// Whether its peer takes too little of what it is owed.
+    fn is_slow(&self, patience: u64, now: u64) -> bool
+        ensures { result ≡ is_slow patience now self.now }
+    {
+        let silent = now.saturating_sub(self.heard);
+        let owing = now.saturating_sub(self.mark()) as u128;
+        let time = patience as u128 + (self.whole() / BYTES_A_MILLISECOND) as u128;
+        !self.is_free() && (silent > patience || owing > time)
     }
 
     /// It is over, and what it is owed is let go.
     pub(crate) fn break_off(&mut self)
-        ensures { self.new ≡ record self.old { owed = 0; broken = true } }
+        ensures { self.new ≡ record self.old { owed = None; broken = true } }
     {
-        self.unsent.clear();
+        self.owed = None;
         self.broken = true;
     }
 
@@ -144,18 +259,81 @@ impl Link {
         self.heard = now;
     }
 
+    /// It is ready, and its peer sends no more, where `last` says so; whether it was noted to be read again changes where `noted` says so.
+    pub(crate) fn ready(&mut self, last: bool, noted: bool)
+        ensures { self.new ≡ self.old }
+    {
+        self.last = self.last || last;
+        self.noted = self.noted && !noted;
+    }
+
+    /// Reads what came over it.
+    pub(crate) fn read(&mut self, room: &mut [u8]) -> io::Result<usize>
+        ensures count { IfOk result (λ count. count ≤ length room.new) }
+        ensures room { length room.new ≡ length room.old }
+        ensures same { self.new ≡ self.old }
+    {
+        match &mut self.stream {
+            Some(stream) => stream.read(room),
+            None => Ok(0),
+        }
+    }
+
+    /// Writes what its peer takes at once of what it is owed; how many bytes that are.
+    pub(crate) fn write_unsent(&mut self) -> io::Result<usize>
+        ensures count { IfOk result (λ count. count ≤ length (left_of self.old.owed)) }
+        ensures same { self.new ≡ self.old }
+    {
+        match (&mut self.stream, &self.owed) {
+            (Some(stream), Some(owed)) => stream.write(owed.as_slice()),
+            _ => Ok(0),
+        }
+    }
+
+    /// Asks again for what it waits for: to be written where it is owed something, and else to be read.
+    pub(crate) fn listen_again(&mut self, registry: &Registry) -> io::Result<()>
+        ensures { self.new ≡ self.old }
+    {
+        let interest = if self.is_free() {
+            Interest::READABLE
+        } else {
+            Interest::WRITABLE
+        };
+        let token = Token(self.number as usize);
+        match &mut self.stream {
+            Some(stream) => registry.reregister(stream, token, interest),
+            None => Ok(()),
+        }
+    }
+
     /// Its peer took so many bytes of those that it is owed.
-    pub(crate) fn take(&mut self, alloc: Global, count: usize, now: u64)
-        requires { count ≤ self.old.owed }
-        ensures { self.new ≡ drained_from self.old.stage now (record self.old { owed = self.old.owed - count; heard = now }) }
+    pub(crate) fn take(&mut self, count: usize, now: u64)
+        requires { count ≤ length (left_of self.old.owed) }
+        ensures { self.new ≡ taken_from count now self.old }
     {
         self.heard = now;
-        if count < self.unsent.len() {
-            self.unsent.drain(..count);
-        } else {
-            self.unsent = Vec::new(alloc);
+        if !self.leaves(count) {
+            self.owed = None;
         }
         self.drain_if_due(now);
+    }
+
+    /// Its peer took so many bytes of those that it is owed; whether some are left.
+    fn leaves(&mut self, count: usize) -> bool
+        requires { count ≤ length (left_of self.old.owed) }
+        ensures some { result ≡ true → self.new ≡ record self.old { owed = owed_behind count self.old.owed } }
+        ensures none { result ≡ false → (self.new ≡ self.old) × (owed_behind count self.old.owed ≡ None) }
+    {
+        match &mut self.owed {
+            Some(owed) => {
+                if count < owed.len() {
+                    owed.take(count);
+                    return true;
+                }
+                false
+            }
+            None => false,
+        }
     }
 
     /// It is closed, where it is served, once all is written.
@@ -174,52 +352,90 @@ impl Link {
     fn drain_if_due(&mut self, now: u64)
         ensures { self.new ≡ drained_from self.old.stage now self.old }
     {
-        if self.stage == Stage::Closing && self.unsent.is_empty() {
+        if self.stage == Stage::Closing && self.is_free() {
             self.stage = Stage::Draining;
             self.heard = now;
-            let _ = self.stream.shutdown(Shutdown::Write);
+            if let Some(stream) = &self.stream {
+                let _ = stream.shutdown(Shutdown::Write);
+            }
         }
     }
 
-    /// Writes as much of these bytes as the peer takes at once, where it is owed nothing, and keeps the rest. One that would have too much
-    /// to wait for is over, and so is one whose rest finds no memory.
-    pub(crate) fn send(&mut self, bytes: &[u8]) -> Result<(), OutOfMemory>
-        ensures bound { self.new.owed ≤ max self.old.owed most_unsent }
-        ensures number { self.new.number ≡ self.old.number }
-        ensures over { OnErr result (self.new.broken ≡ true) }
+    /// Writes as much of these bytes as the peer takes at once, where it is owed nothing, and keeps the rest. One whose rest finds no memory
+    /// is over.
+    pub(crate) fn send(&mut self, alloc: Global, bytes: &[u8], now: u64) -> Result<(), OutOfMemory>
+        ensures sent { OnOk result (Sends bytes.now now self.old self.new) }
+        ensures over { OnErr result (self.new ≡ record self.old { owed = None; broken = true }) }
+        ensures same { self.new ≡ record self.old { owed = self.new.owed; broken = self.new.broken } }
     {
-        let taken = self.write_some(bytes);
+        let Some(taken) = self.write_some(bytes) else {
+            self.broken = true;
+            return Ok(());
+        };
         let (_, left) = bytes.split_at(taken);
-        if left.is_empty() || self.broken {
-            return Ok(());
-        }
-        if is_too_much(self.unsent.len(), left.len()) {
-            self.break_off();
-            return Ok(());
-        }
-        if self.unsent.extend_from_slice(left).is_err() {
-            self.break_off();
-            return Err(OutOfMemory);
-        }
-        Ok(())
+        self.keep(alloc, left, now)
     }
 
-    /// Writes as much of these bytes as the peer takes at once, where it is owed nothing; how many that are.
-    fn write_some(&mut self, bytes: &[u8]) -> usize
-        ensures count { result ≤ length bytes.now }
-        ensures same { self.new ≡ record self.old { broken = self.new.broken } }
+    /// Keeps these bytes until its peer takes them.
+    fn keep(&mut self, alloc: Global, left: &[u8], now: u64) -> Result<(), OutOfMemory>
+        ensures kept { OnOk result (self.new ≡ owes now left.now self.old) }
+        ensures over { OnErr result (self.new ≡ record self.old { owed = None; broken = true }) }
+        ensures same { self.new ≡ record self.old { owed = self.new.owed; broken = self.new.broken } }
     {
-        if !self.unsent.is_empty() {
-            return 0;
+        if left.is_empty() {
+            return Ok(());
         }
-        match self.stream.write(bytes) {
-            Ok(count) => count,
+        match self.owe(alloc, left, now) {
+            Ok(()) => Ok(()),
+            Err(fault) => {
+                self.break_off();
+                Err(fault)
+            }
+        }
+    }
+
+    /// It is owed these bytes more. Where memory runs out, nothing has changed.
+    fn owe(&mut self, alloc: Global, bytes: &[u8], now: u64) -> Result<(), OutOfMemory>
+        ensures ok { OnOk result (self.new ≡ record self.old { owed = owed_with now bytes.now self.old.owed }) }
+        ensures err { OnErr result (self.new ≡ self.old) }
+    {
+        match &mut self.owed {
+            Some(owed) => owed.add(bytes),
+            None => {
+                self.owed = Some(Owed::new(alloc, bytes, now)?);
+                Ok(())
+            }
+        }
+    }
+
+    /// Writes as much of these bytes as the peer takes at once, where it is owed nothing; how many that are. `None` where the connection broke.
+    fn write_some(&mut self, bytes: &[u8]) -> Option<usize>
+        ensures count { IfSome result (λ taken. taken ≤ length bytes.now) }
+        ensures order { IfSome result (λ taken. is_free self.old ≡ false → taken ≡ 0) }
+        ensures same { self.new ≡ self.old }
+    {
+        if !self.is_free() {
+            return Some(0);
+        }
+        match self.write_now(bytes) {
+            Ok(count) => Some(count),
             Err(error) => {
                 if transfer_after(error.kind()) == Outcome::Over {
-                    self.broken = true;
+                    return None;
                 }
-                0
+                Some(0)
             }
+        }
+    }
+
+    /// Writes what its peer takes at once of these bytes; how many that are.
+    fn write_now(&mut self, bytes: &[u8]) -> io::Result<usize>
+        ensures count { IfOk result (λ count. count ≤ length bytes.now) }
+        ensures same { self.new ≡ self.old }
+    {
+        match &mut self.stream {
+            Some(stream) => stream.write(bytes),
+            None => Ok(0),
         }
     }
 }

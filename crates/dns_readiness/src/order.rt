@@ -1,9 +1,11 @@
 //! Numbers in the order of their moments.
 
-ghost use Rattle.std.specs.Prelude.{◌≡◌, ◌≤◌, ◌<◌, ◌∷◌, [], ◌≢◌, length, take, drop, slice_index_or, ℕ, List, OnOk, OnErr, IfSome, IfNone};
+ghost use Rattle.std.specs.Prelude.{◌≡◌, ◌≤◌, ◌<◌, ◌∷◌, [], length, take, drop, ℕ, List, OnOk, OnErr, IfSome, IfNone};
 ghost use Rattle.std.specs.List.{AllByRecursion};
 ghost use Rattle.std.specs.List.Sorted.{IsPermutation};
-ghost use Rattle.dns_readiness.specs.Order.{IsInOrder, IsFirstBefore, LetsGoOf};
+ghost use Rattle.std.specs.List.Retain.{IsFiltered};
+ghost use Rattle.std.specs.Fn.{CalledAt};
+ghost use Rattle.dns_readiness.specs.Order.{IsInOrder, IsFirstBefore};
 
 use dns_io::OutOfMemory;
 use std::alloc::Global;
@@ -39,6 +41,13 @@ impl Order {
         let mut entries = VecDeque::new(alloc);
         let _room = entries.reserve(RESERVED);
         Order { entries }
+    }
+
+    /// How many entries stand in it.
+    pub fn len(&self) -> usize
+        ensures { result ≡ length self.now }
+    {
+        self.entries.len()
     }
 
     /// Puts a number at a moment, behind those that are no later. Where memory runs out, nothing has changed.
@@ -84,13 +93,12 @@ impl Order {
         }
     }
 
-    /// Lets a number go, where it stands there: of several the last one. What stands behind it is looked at.
-    pub fn let_go(&mut self, number: u32)
-        ensures { LetsGoOf number self.old self.new }
+    /// Lets go of the entries of which a test says `false`; the others stay as they stand.
+    pub fn retain<F: FnMut(&(u64, u32)) -> bool>(&mut self, stays: F)
+        requires { F.IsAlwaysCallable stays }
+        ensures { IsFiltered (CalledAt F.FnMut) stays self.old self.new }
     {
-        if let Some(place) = last_of(&self.entries, number) {
-            self.entries.remove(place);
-        }
+        self.entries.retain(stays);
     }
 }
 
@@ -109,20 +117,4 @@ fn place_for(entries: &VecDeque<(u64, u32)>, at: u64) -> usize
         place -= 1;
     }
     place
-}
-
-/// Where a number stands last.
-fn last_of(entries: &VecDeque<(u64, u32)>, number: u32) -> Option<usize>
-    ensures inside { IfSome result (λ place. place < length entries.now.items) }
-    ensures found { IfSome result (λ place. (d : ℕ × ℕ) → (slice_index_or entries.now.items place d).1 ≡ number) }
-    ensures none { IfNone result (AllByRecursion (λ e. e.1 ≢ number) entries.now.items) }
-{
-    let mut place = entries.len();
-    while place > 0 {
-        place -= 1;
-        if entries[place].1 == number {
-            return Some(place);
-        }
-    }
-    None
 }

@@ -9,11 +9,11 @@ use Rattle.dns_crowd.proofs.deadlines.close_late.Given as goal
 abbrev pub invariant-loop-number : goal.invariant-loop-number
 invariant-loop-number g l =
     record {
-      climbs : Climbs l.sessions.items;
-      timed : AllByRecursion (IsTimed l.last l.order) l.sessions.items;
-      alike : timely l.last l.sessions.items ≡ timely l.last l.fn.sessions.items;
-      shut : ShutsSome (g.C.Crowd.told l.fn.crowd).closed (g.C.Crowd.told l.crowd).closed (late_numbers l.last l.fn.sessions.items) (late_numbers l.last l.sessions.items);
-      kept : KeepsTable l.fn.sessions.items l.sessions.items;
+      climbs : Climbs l.sessions;
+      timed : AllByRecursion (IsTimed l.last l.order) l.sessions;
+      alike : timely l.last l.sessions ≡ timely l.last l.fn.sessions;
+      shut : ShutsSome (g.C.Crowd.told l.fn.crowd).closed (g.C.Crowd.told l.crowd).closed (late_numbers l.last l.fn.sessions) (late_numbers l.last l.sessions);
+      kept : KeepsTable l.fn.sessions l.sessions;
       unasked : IsUnasked (g.C.Crowd.told l.fn.crowd) (g.C.Crowd.told l.crowd);
     }
 

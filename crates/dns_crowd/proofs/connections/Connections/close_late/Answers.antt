@@ -27,8 +27,8 @@ invariant_of-self-in-Tick g c = record {
 
 pub returns-in-Ok-clause-left : goal.returns-in-Ok-clause-left
 returns-in-Ok-clause-left g c =
-    let kept : Kept = record { last = c.self.inside.last; greatest = c.self.inside.greatest; stopped = false; connections = c.self.inside.sessions.items } in
-    let now : Kept = record kept { connections = c.close_late.new.sessions.items } in
+    let kept : Kept = record { last = c.self.inside.last; greatest = c.self.inside.greatest; stopped = false; connections = c.self.inside.sessions } in
+    let now : Kept = record kept { connections = c.close_late.new.sessions } in
     subst (λ (k : Kept). now ≡ record k { connections = stays_by (event_of [] c.args.came.now) k.last k.connections }) c.self.view_is
     (rw c.in-Tick.is (ap (λ (l : List Connection). record kept { connections = l }) c.in-Ok.ensures.left))
 
@@ -40,13 +40,13 @@ returns-in-Ok-clause-all g c =
 pub returns-in-Ok-clause-closed : goal.returns-in-Ok-clause-closed
 returns-in-Ok-clause-closed g c =
     let told = g.C.Crowd.told in
-    let late : List ℕ = late_numbers c.self.inside.last c.self.inside.sessions.items in
+    let late : List ℕ = late_numbers c.self.inside.last c.self.inside.sessions in
     let all = c.in-Ok.ensures.all in
-    subst (λ (k : Kept). Shuts (told c.args.crowd.now).closed (told c.close_late.new.crowd).closed (numbers_of k.connections) c.close_late.new.sessions.items) c.self.view_is
+    subst (λ (k : Kept). Shuts (told c.args.crowd.now).closed (told c.close_late.new.crowd).closed (numbers_of k.connections) c.close_late.new.sessions) c.self.view_is
     (record {
       closed = all.closed;
       grown = all.grown;
-      shut = all_moved (IsShut (numbers_of c.self.inside.sessions.items) c.close_late.new.sessions.items) late all.closed all.all
-          (subst (λ (l : List Connection). AllByRecursion (IsShut (numbers_of c.self.inside.sessions.items) l) late) (sym c.in-Ok.ensures.left)
-          (late_shut c.self.inside.last c.self.inside.sessions.items c.self.invariant.table.climbs));
+      shut = all_moved (IsShut (numbers_of c.self.inside.sessions) c.close_late.new.sessions) late all.closed all.all
+          (subst (λ (l : List Connection). AllByRecursion (IsShut (numbers_of c.self.inside.sessions) l) late) (sym c.in-Ok.ensures.left)
+          (late_shut c.self.inside.last c.self.inside.sessions c.self.invariant.table.climbs));
     })

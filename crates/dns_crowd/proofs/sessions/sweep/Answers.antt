@@ -1,0 +1,7 @@
+-- The closure tells each by its own word, and keeps nothing.
+use Rattle.std.proofs.Common.{rules}
+use Rattle.std.proofs.lemmas.Fn.{filter_same}
+use Rattle.dns_crowd.proofs.sessions.sweep.Goals as goal
+
+pub returns : goal.returns
+returns c = filter_same _ _ _ (λ x b f' k. search rules) _ _ c.retain.ensures.filtered
