@@ -13,29 +13,30 @@ use Rattle.dns_crowd.specs.Turns.{Fate, Served, Unsent, Unsettled, Handled, Sett
 use Rattle.dns_server.specs.declared.worker.Worker.{Worker}
 use Rattle.dns_server.proofs.FailedUpdates.{GrewBy, GrewBy-left, GrewBy-more, GrewBy-none, and_none, step_grew}
 use Rattle.dns_crowd_server.specs.Crews.{ServedCrowd}
+use Rattle.dns_crowd_server.specs.Stamps.{AtSomeMoment}
 use Rattle.dns_crowd_server.specs.FailedUpdates.{failed_by_crowd, failed_by_events, failed_by_fate, failed_by_messages}
 
 -- the meaning of a keeper, and who is let in
 module _ {K : Type 0} (keeper : KeeperOf K) (access : Access) where
-  messages_grew : (p : PassSeen) (asks : List Completed) (outs : List Out) (q : PassSeen) → (run : Run (SettledBy keeper access) p asks outs q)
+  messages_grew : (p : PassSeen) (asks : List Completed) (outs : List Out) (q : PassSeen) → (run : Run (AtSomeMoment (SettledBy keeper access)) p asks outs q)
       → GrewBy (failed_by_messages keeper access p asks outs q run) p q
   messages_grew p [] outs q run = GrewBy-none p q run.0
-  messages_grew p (c ∷ cs) outs q run = GrewBy-more _ _ _ p run.1 q refl (step_grew keeper access p c.ask run.0 run.1 run.3) (messages_grew run.1 cs run.2 q run.5)
+  messages_grew p (c ∷ cs) outs q run = GrewBy-more _ _ _ p run.1 q refl (step_grew keeper access p (record c.ask { at = run.3.0 }) run.0 run.1 run.3.2) (messages_grew run.1 cs run.2 q run.5)
 
-  falters_grew : (p : PassSeen) (asks : List Completed) (q : PassSeen) → (f : Falters (SettledBy keeper access) LeftBy p asks q)
+  falters_grew : (p : PassSeen) (asks : List Completed) (q : PassSeen) → (f : Falters (AtSomeMoment (SettledBy keeper access)) LeftBy p asks q)
       → GrewBy (failed_by_messages keeper access p f.first f.outs f.last f.run) p q
   falters_grew p asks q f =
       GrewBy-more _ 0 _ p f.last q (and_none _) (messages_grew p f.first f.outs f.last f.run)
       (⊎_elim (λ (e : q ≡ f.last). GrewBy-none f.last q e) (λ (l : LeftBy f.last q). GrewBy-left f.last q l) f.end)
 
-  fate_grew : (fate : Fate) (p : PassSeen) (asks : List Completed) (outs : List Out) (q : PassSeen) → (run : SettlesBy (SettledBy keeper access) LeftBy fate p asks outs q)
+  fate_grew : (fate : Fate) (p : PassSeen) (asks : List Completed) (outs : List Out) (q : PassSeen) → (run : SettlesBy (AtSomeMoment (SettledBy keeper access)) LeftBy fate p asks outs q)
       → GrewBy (failed_by_fate keeper access fate p asks outs q run) p q
   fate_grew Served p asks outs q run = messages_grew p asks outs q run
   fate_grew Unsent p asks outs q run = messages_grew p asks run.0.0 q run.0.1
   fate_grew Unsettled p asks outs q run = falters_grew p asks q run.0
 
   events_grew : (p : PassSeen) (connections : List Connection) (handled : List Handled) (outs : List Out) (q : PassSeen)
-      → (run : SettlesEach (SettledBy keeper access) LeftBy p connections handled outs q)
+      → (run : SettlesEach (AtSomeMoment (SettledBy keeper access)) LeftBy p connections handled outs q)
       → GrewBy (failed_by_events keeper access p connections handled outs q run) p q
   events_grew p connections [] outs q run = GrewBy-none p q run.0
   events_grew p connections (one ∷ others) outs q run =

@@ -17,6 +17,7 @@ use Rattle.dns_crowd.specs.Turns.{EndsBy}
 use Rattle.dns_server.specs.declared.worker.Worker.{Worker}
 use Rattle.dns_server.specs.Servers.{EndsReading, Matches, RoseAt, ServedSocket, first_fault, or_later, their_ports}
 use Rattle.dns_server.proofs.Answering.{or_failed, socket_rose}
+use Rattle.dns_crowd_server.specs.Stamps.{AtSomeMoment}
 use Rattle.dns_crowd_server.specs.Crews.{ServedCrowd}
 use Rattle.dns_crowd_server.specs.Hubs.{IsFreshCrowd, their_faults}
 use Rattle.dns_crowd_server.specs.Serving.{Crew, IsNewWorker, crew_answer}
@@ -45,7 +46,7 @@ module _ {P : Type 0} (t : Terms) (IsFresh : P → Type 0) (faults : P → ℕ) 
 -- the worker of a crowd
 crowd_rose : {K C : Type 0} (keeper : KeeperOf K) (crowd : C → CrowdTold) (access : Access) (a b : Worker C) → ServedCrowd keeper crowd access a b → b.answer ≡ Err Failed
     → RoseAt (λ port. (crowd port).faults) a b
-crowd_rose keeper crowd access a b s e = subst (EndsBy (SettledBy keeper access) crowd a.pass a.port b.pass b.port) e s.works.ends
+crowd_rose keeper crowd access a b s e = subst (EndsBy (AtSomeMoment (SettledBy keeper access)) crowd a.pass a.port b.pass b.port) e s.works.ends
 
 -- where the answer of a crew, or of reading beside it, is that one failed, the count of what took its ports back rose
 pub hub_rose : {K U C : Type 0} (keeper : KeeperOf K) (socket : U → UdpTold) (crowd : C → CrowdTold) (access : Access) (t : Terms) (before after : Crew U C)

@@ -1,5 +1,5 @@
 -- What opens sockets and crowds together, and takes them back.
-use Rattle.std.specs.Prelude.{◌≡◌, ◌+◌, ◌/◌, max, nat_eq, if◌then◌else◌, ℕ, List, [], ◌∷◌, length, Option, Some, None, Result, OnOk, OnErr}
+use Rattle.std.specs.Prelude.{◌≡◌, ◌+◌, ℕ, List, [], ◌∷◌, length, Option, Some, None, Result, OnOk, OnErr}
 use Rattle.std.specs.List.{sum_by}
 use Rattle.dns_io.specs.declared.io_fault.IoFault.{IoFault}
 use Rattle.dns_io.specs.declared.peer.Peer.{Peer}
@@ -24,10 +24,6 @@ crowds_of places = count_at places.workers places.tcp
 -- how many workers there are: one for the socket, and as many for the connections as are asked for
 abbrev pub seats_of : Places → ℕ
 seats_of places = sockets_of places + crowds_of places
-
--- the part of each of so many workers in so many connections, at least one
-abbrev pub part_of : ℕ → ℕ → ℕ
-part_of connections workers = if nat_eq workers 0 then 1 else max (connections / workers) 1
 
 -- a crowd that was not used yet: it took nothing, closed nothing, and no call failed
 pub record IsFreshCrowd (told : CrowdTold) : Type 0 where

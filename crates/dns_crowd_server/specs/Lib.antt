@@ -1,3 +1,4 @@
+pub mod Stamps
 pub mod Crews
 pub mod FailedUpdates
 pub mod Hubs

@@ -17,17 +17,18 @@ use dns_ports::{StopToken, UdpPort};
 use dns_server::{Worker, read_out, run_sockets};
 use dns_ticket_lock::TicketBook;
 use std::alloc::Global;
+use std::rt;
 use std::sync::Wait;
 use std::thread::{Threads, join_mut};
 
 /// Runs the workers of sockets and of crowds, each on a thread of its own, while the caller reads `until` to its end or first fault, and
-/// then stops the token; waits until all have ended. The answer is that of reading: an error says that no memory was found to read on.
+/// then stops the token; waits until all have ended. Where a worker ends it stops the token too: none goes on without the others. The answer is that of reading: an error says that no memory was found to read on.
 pub fn serve_crew<
     K: Keeper + Send,
     U: UdpPort + Send,
     C: Crowd + Send,
     E: Source,
-    R: Threads + Wait + Sync,
+    R: Threads + Wait + rt::Clock + Sync,
 >(
     rt: &R,
     alloc: Global,
@@ -51,20 +52,26 @@ pub fn serve_crew<
         &mut ||
             requires { AllByRecursion (IsOf book.now) (their_passes sockets.now)
                 × AllByRecursion (IsOf book.now) (their_passes crowds.now) }
-        { run_all(rt, alloc, book, access, sockets, crowds) },
+        { run_all(rt, alloc, book, access, sockets, crowds, token) },
         &mut || { read_out(rt, until, token) },
     );
     ended
 }
 
 /// Runs all workers, and waits until they have ended.
-fn run_all<K: Keeper + Send, U: UdpPort + Send, C: Crowd + Send, R: Threads + Wait + Sync>(
+fn run_all<
+    K: Keeper + Send,
+    U: UdpPort + Send,
+    C: Crowd + Send,
+    R: Threads + Wait + rt::Clock + Sync,
+>(
     rt: &R,
     alloc: Global,
     book: &TicketBook<K>,
     access: &AccessControl,
     sockets: &mut [Worker<U>],
     crowds: &mut [Worker<C>],
+    token: &StopToken,
 )
     requires sockets { AllByRecursion (IsOf book.now) (their_passes sockets.old) }
     requires crowds { AllByRecursion (IsOf book.now) (their_passes crowds.old) }
@@ -75,9 +82,28 @@ fn run_all<K: Keeper + Send, U: UdpPort + Send, C: Crowd + Send, R: Threads + Wa
         rt,
         &mut ||
             requires { AllByRecursion (IsOf book.now) (their_passes sockets.now) }
-        { run_sockets(rt, alloc, book, access, sockets) },
+        { end_sockets(rt, alloc, book, access, sockets, token) },
         &mut ||
             requires { AllByRecursion (IsOf book.now) (their_passes crowds.now) }
-        { run_crowds(rt, alloc, book, access, crowds) },
+        { run_crowds(rt, alloc, book, access, crowds, token) },
     );
+}
+
+/// Runs the workers of sockets, waits until they have ended, and then stops the token, where there were any.
+fn end_sockets<K: Keeper + Send, U: UdpPort + Send, R: Threads + Wait + Sync>(
+    rt: &R,
+    alloc: Global,
+    book: &TicketBook<K>,
+    access: &AccessControl,
+    sockets: &mut [Worker<U>],
+    token: &StopToken,
+)
+    requires { AllByRecursion (IsOf book.now) (their_passes sockets.old) }
+    ensures { Matches (ServedSocket K.keeper U.told access.now) sockets.old sockets.new }
+{
+    let is_none = sockets.is_empty();
+    run_sockets(rt, alloc, book, access, sockets);
+    if !is_none {
+        token.stop();
+    }
 }

@@ -5,7 +5,7 @@ ghost use Rattle.dns_ports.specs.Ports.{IsFreshSocket};
 ghost use Rattle.dns_crowd_server.specs.Hubs.{ClosesPlaces, CrowdHubTold, IsFreshCrowd, OpensPlaces, crowds_of, count_at, seats_of, sockets_of, their_faults};
 
 use dns_crowd::Crowd;
-use dns_io::{IoFault, Peer};
+use dns_io::{IoFault, OutOfMemory, Peer};
 use dns_ports::{StopToken, UdpPort};
 
 /// Where a server is to listen, and for how many connections.
@@ -54,6 +54,9 @@ pub trait CrowdHub {
     /// was taken back with a count above 0, goes up to `u64::MAX`. It always tells how many openings gave what was asked for, and how many
     /// failed, each up to `u64::MAX`.
     ghost told: { Self → CrowdHubTold Self.Udp Self.Connections };
+
+    /// A token that is to stop what it opens.
+    fn stop_token(&self) -> Result<StopToken, OutOfMemory>;
 
     /// Opens a socket at `udp`, where it is an address, and `workers` crowds at `tcp`, where it is one; this token stops them. After an
     /// error none of them is open.

@@ -6,12 +6,16 @@ mod crew;
 mod crowd_threads;
 mod hub;
 mod memory_hub;
+mod port_failure;
 mod rooms;
 mod serving;
 mod socket_hub;
+mod stamping;
 
 pub use crew::serve_crew;
 pub use hub::{CrowdHub, Places};
 pub use memory_hub::MemoryCrowdHub;
+pub use port_failure::PortFailure;
 pub use serving::{Served, serve_book};
 pub use socket_hub::SocketCrowdHub;
+pub use stamping::Stamped;

@@ -123,6 +123,10 @@ impl CrowdHub for MemoryCrowdHub {
 
     ghost told = { crowd_hub_told };
 
+    fn stop_token(&self) -> Result<StopToken, OutOfMemory> {
+        StopToken::new(self.alloc)
+    }
+
     fn open(
         &mut self,
         places: &Places,

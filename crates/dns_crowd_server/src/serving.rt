@@ -25,6 +25,7 @@ use dns_ports::{StopToken, UdpPort};
 use dns_server::{Worker, dismiss, first_fault, or_later};
 use dns_ticket_lock::{Pass, TicketBook};
 use std::alloc::Global;
+use std::rt;
 use std::sync::Wait;
 use std::thread::Threads;
 
@@ -41,8 +42,8 @@ pub struct Served<K: Keeper> {
 
 /// Serves a book at these places, 1 to 1,024 of them: opens sockets and crowds, has each served by a worker on a thread of its own, all by
 /// the one book, reads `until` to its end or first fault, then stops them, and hands all back to the hub. Messages that were taken are
-/// answered.
-pub fn serve_book<K: Keeper + Send, H: CrowdHub, E: Source, R: Threads + Wait + Sync>(
+/// answered, those over connections at the system's time. The token that stops them is the hub's: a worker that ends stops it too.
+pub fn serve_book<K: Keeper + Send, H: CrowdHub, E: Source, R: Threads + Wait + rt::Clock + Sync>(
     rt: &R,
     alloc: Global,
     book: Book<K>,
@@ -66,7 +67,7 @@ where
     let Ok(rooms) = Rooms::new(alloc, places) else {
         return unserved(book);
     };
-    let Ok(token) = StopToken::new(alloc) else {
+    let Ok(token) = hub.stop_token() else {
         return unserved(book);
     };
     let (shared, passes) = match TicketBook::new(alloc, book, places.seats()) {
@@ -113,7 +114,7 @@ struct Opened<K: Keeper, U, C> {
 }
 
 /// Takes a worker on for each port, in order, has all serve, dismisses them, and hands their ports back.
-fn serve_ports<K: Keeper + Send, H: CrowdHub, E: Source, R: Threads + Wait + Sync>(
+fn serve_ports<K: Keeper + Send, H: CrowdHub, E: Source, R: Threads + Wait + rt::Clock + Sync>(
     rt: &R,
     alloc: Global,
     opened: Opened<K, H::Udp, H::Connections>,
@@ -196,7 +197,7 @@ fn serve_workers<
     U: UdpPort + Send,
     C: Crowd + Send,
     E: Source,
-    R: Threads + Wait + Sync,
+    R: Threads + Wait + rt::Clock + Sync,
 >(
     rt: &R,
     alloc: Global,

@@ -64,7 +64,7 @@ ReadsCounted before room given after = after ≡ counted before given
 abbrev pub WritesCounted : OutputCounts → List ℕ → Result ℕ IoFault → OutputCounts → Type 0
 WritesCounted before bytes result after = (after.faults ≡ counted before.faults result) × (after.wants ≡ wanted before.wants result)
 
--- whether a receive or an accept is made again after an error of this kind, or the fault that it answers. It goes on where it was
+-- whether an accept is made again after an error of this kind, or the fault that it answers. It goes on where it was
 -- interrupted, where a wait ended with nothing, and where one peer is gone, or cannot be reached, which says nothing of the others
 -- (accept(2))
 abbrev pub arrival_after : ErrorKind → Result (Unit {0}) IoFault

@@ -20,7 +20,7 @@ pub fn faults_behind(faults: u64, port: u64) -> u64
     }
 }
 
-/// Whether a receive or an accept is made again after an error of this kind, or the fault that it answers.
+/// Whether an accept is made again after an error of this kind, or the fault that it answers.
 pub(crate) fn arrival_after(kind: ErrorKind) -> Result<(), IoFault>
     ensures { result ≡ arrival_after kind }
 {

@@ -7,9 +7,10 @@ ghost use Rattle.dns_ports.specs.Sockets.{untold_listener};
 
 use crate::address::{address_of, peer_at};
 use crate::connection::{ConnectionInput, ConnectionOutput, end};
-use crate::faults::{arrival_after, ready_after};
+use crate::faults::ready_after;
 use crate::patience::{Patience, one_wait};
 use crate::port::{Accepted, TcpPort};
+use crate::rests::rest_to_accept;
 use crate::stop_token::{StopToken, Waited};
 use dns_edges::{SystemClock, count};
 use dns_io::{IoFault, Peer};
@@ -20,10 +21,11 @@ use std::os::fd::OwnedFd;
 use std::time::Duration;
 use std::{io, rt};
 
-/// A listener of the operating system, which its token stops within 100 milliseconds.
+/// A listener of the operating system, which its token stops within 100 milliseconds, or a second while it rests.
 ///
 /// An accept passes over errors that one peer may cause, or that end a wait, and over a connection that is gone before it is
-/// made ready.
+/// made ready. Behind any other error it rests, from a millisecond to a second, and is made again; where it is still refused behind five
+/// seconds of rests it fails, and stops the token for all that hold it.
 #[derive(Drop)]
 pub struct ListenerPort<R> {
     listener: TcpListener,
@@ -107,7 +109,7 @@ impl<R: Net<Listener = TcpListener, Stream = TcpStream> + rt::Clock + Copy> List
     fn next(
         &self,
     ) -> Result<Option<Accepted<ConnectionInput, ConnectionOutput, SystemClock<R>>>, IoFault> {
-        match next_stream(&self.listener, &self.stop, &self.patience)? {
+        match next_stream(&self.runtime, &self.listener, &self.stop, &self.patience)? {
             Waited::Came((stream, from)) => Ok(Some(self.connection(stream, from)?)),
             Waited::Stopped(_) => Ok(None),
         }
@@ -187,12 +189,14 @@ fn bound<R: Net<Listener = TcpListener, Stream = TcpStream>>(
     Ok(TcpListener::from(OwnedFd::from(socket)))
 }
 
-/// The next stream that could be made ready, and its peer.
-fn next_stream(
+/// The next stream that could be made ready, and its peer. Where accepting fails it stops the token.
+fn next_stream<R: rt::Clock>(
+    runtime: &R,
     listener: &TcpListener,
     stop: &StopToken,
     patience: &Patience,
 ) -> Result<Waited<(TcpStream, SocketAddr)>, IoFault> {
+    let mut rested = 0;
     for _ in 0..u64::MAX {
         if let Some(seen) = stop.look() {
             return Ok(Waited::Stopped(seen));
@@ -202,7 +206,13 @@ fn next_stream(
                 Ok(()) => return Ok(Waited::Came((stream, from))),
                 Err(error) => ready_after(error.kind())?,
             },
-            Err(error) => arrival_after(error.kind())?,
+            Err(error) => match rest_to_accept(runtime, &error, rested) {
+                Ok(in_a_row) => rested = in_a_row,
+                Err(fault) => {
+                    stop.stop();
+                    return Err(fault);
+                }
+            },
         }
     }
     Err(IoFault::Failed)

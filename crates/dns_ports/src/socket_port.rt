@@ -5,29 +5,39 @@ ghost use Rattle.dns_io.specs.Told.{counted};
 ghost use Rattle.dns_ports.specs.Ports.{Receives, Answers};
 ghost use Rattle.dns_ports.specs.Sockets.{untold_socket, IfCame};
 
-use crate::address::{address_of, peer_at};
-use crate::faults::{arrival_after, sending_after, sent_whole};
+use crate::address::{address_for, address_of, peer_at};
+use crate::failure::{Call, Failure};
+use crate::faults::{sending_after, sent_whole};
 use crate::patience::one_wait;
 use crate::port::{Arrived, UdpPort};
+use crate::rests::rest_to_receive;
 use crate::stop_token::{StopToken, Waited};
-use dns_edges::{Clock, SystemClock, count};
-use dns_io::{IoFault, Peer};
+use crate::wall_clock::WallClock;
+use dns_edges::{Clock, count};
+use dns_io::{IoFault, Ip, Peer};
+use std::io::ErrorKind;
 use std::marker::Model;
 use std::net::{Net, SocketAddr, UdpSocket};
-use std::{io, rt};
+use std::rt;
 
 /// The most bytes that a datagram may have.
 const MOST: usize = 65_535;
 
-/// A socket of datagrams of the operating system, which its token stops within 100 milliseconds.
+/// A socket of datagrams of the operating system, which its token stops within 100 milliseconds, or a second while it rests. A datagram
+/// comes at the system's time at that moment. A peer of IPv4 that a socket of IPv6 hears is told as one of IPv4, and answered.
 ///
-/// A receive passes over errors that one peer may cause, or that end a wait. An answer that the system refuses is a fault, also
-/// where it tells that the peer's port is closed.
+/// A receive passes over errors that end a wait. Behind any other it rests, from a millisecond to a second, and is made again; where it is
+/// still refused behind five seconds of rests it fails, and stops the token for all that hold it. An answer that
+/// the system refuses is a fault, also where it tells that the peer's port is closed.
 #[derive(Drop)]
 pub struct SocketPort<R> {
     socket: UdpSocket,
+    is_ipv6: bool,
     stop: StopToken,
-    clock: SystemClock<R>,
+    /// It told its token that its worker has begun.
+    reported: bool,
+    clock: WallClock<R>,
+    failure: Option<Failure>,
     faults: u64,
 }
 
@@ -44,12 +54,27 @@ impl<R: Net + rt::Clock + Copy> SocketPort<R> {
     pub fn open(runtime: R, at: Peer, stop: &StopToken) -> Result<SocketPort<R>, IoFault>
         ensures { IfOk result (λ port. port ≡ 0) }
     {
+        match SocketPort::try_open(runtime, at, stop) {
+            Ok(port) => Ok(port),
+            Err(failure) => Err(failure.fault()),
+        }
+    }
+
+    /// The same, or which call was refused.
+    pub fn try_open(runtime: R, at: Peer, stop: &StopToken) -> Result<SocketPort<R>, Failure>
+        ensures { IfOk result (λ port. port ≡ 0) }
+    {
         let socket = bound(&runtime, at)?;
-        let stop = stop.again()?;
+        let Ok(stop) = stop.again() else {
+            return Err(Failure::new(Call::Memory, &ErrorKind::OutOfMemory.into()));
+        };
         Ok(SocketPort {
             socket,
+            is_ipv6: is_ipv6(at),
             stop,
-            clock: SystemClock::new(runtime),
+            reported: false,
+            clock: WallClock::new(runtime),
+            failure: None,
             faults: 0,
         })
     }
@@ -67,6 +92,11 @@ impl<R> SocketPort<R> {
     {
         self.faults
     }
+
+    /// The call that was refused for too long, where one was.
+    pub fn failure(&self) -> Option<Failure> {
+        self.failure
+    }
 }
 
 impl<R: rt::Clock> UdpPort for SocketPort<R> {
@@ -77,7 +107,12 @@ impl<R: rt::Clock> UdpPort for SocketPort<R> {
         ensures told { Receives (untold_socket self.old) (untold_socket self.new) room.new result }
         ensures faults { self.new ≡ counted self.old result }
     {
-        let outcome = next_datagram(&self.socket, &self.stop, room);
+        if !self.reported {
+            self.stop.report();
+            self.reported = true;
+        }
+        let runtime = self.clock.runtime();
+        let outcome = next_datagram(runtime, &self.socket, &self.stop, room, &mut self.failure);
         match count(outcome, &mut self.faults)? {
             Waited::Came((len, from)) => Ok(Some(Arrived {
                 len,
@@ -92,42 +127,66 @@ impl<R: rt::Clock> UdpPort for SocketPort<R> {
         ensures told { Answers (untold_socket self.old) (untold_socket self.new) (bytes.now, to) result }
         ensures faults { self.new ≡ counted self.old result }
     {
-        count(send(&self.socket, to, bytes), &mut self.faults)
+        let address = address_for(self.is_ipv6, to);
+        count(send(&self.socket, address, bytes), &mut self.faults)
     }
 }
 
 /// A socket at this address, whose reads wait for at most 100 milliseconds.
-fn bound<R: Net>(runtime: &R, at: Peer) -> io::Result<UdpSocket> {
-    let socket = UdpSocket::bind(runtime, address_of(at))?;
-    socket.set_read_timeout(Some(one_wait()))?;
-    Ok(socket)
+fn bound<R: Net>(runtime: &R, at: Peer) -> Result<UdpSocket, Failure> {
+    let socket = match UdpSocket::bind(runtime, address_of(at)) {
+        Ok(socket) => socket,
+        Err(error) => return Err(Failure::new(Call::Open, &error)),
+    };
+    match socket.set_read_timeout(Some(one_wait())) {
+        Ok(()) => Ok(socket),
+        Err(error) => Err(Failure::new(Call::Set, &error)),
+    }
 }
 
-/// Puts the next datagram at the front of the room, and tells how many bytes it has, and who sent it.
-fn next_datagram(
+/// Whether an address is one of IPv6.
+fn is_ipv6(at: Peer) -> bool {
+    match at.ip {
+        Ip::V4(_) => false,
+        Ip::V6(_) => true,
+    }
+}
+
+/// Puts the next datagram at the front of the room, and tells how many bytes it has, and who sent it. Where it fails it tells why, and stops
+/// the token.
+fn next_datagram<R: rt::Clock>(
+    runtime: &R,
     socket: &UdpSocket,
     stop: &StopToken,
     room: &mut [u8],
+    failure: &mut Option<Failure>,
 ) -> Result<Waited<(usize, SocketAddr)>, IoFault>
     requires { 65535 ≤ length room.old }
     ensures size { IfOk result (λ ended. IfCame ended (λ datagram. datagram.0 ≤ 65535)) }
 {
     let (front, _) = room.split_at_mut(MOST);
+    let mut rested = 0;
     for _ in 0..u64::MAX {
         if let Some(seen) = stop.look() {
             return Ok(Waited::Stopped(seen));
         }
         match socket.recv_from(front) {
             Ok(came) => return Ok(Waited::Came(came)),
-            Err(error) => arrival_after(error.kind())?,
+            Err(error) => match rest_to_receive(runtime, &error, rested) {
+                Ok(in_a_row) => rested = in_a_row,
+                Err(fault) => {
+                    *failure = Some(Failure::new(Call::Receive, &error));
+                    stop.stop();
+                    return Err(fault);
+                }
+            },
         }
     }
     Err(IoFault::Failed)
 }
 
 /// Sends these bytes as one datagram.
-fn send(socket: &UdpSocket, to: Peer, bytes: &[u8]) -> Result<(), IoFault> {
-    let address = address_of(to);
+fn send(socket: &UdpSocket, address: SocketAddr, bytes: &[u8]) -> Result<(), IoFault> {
     for _ in 0..u64::MAX {
         match socket.send_to(bytes, address) {
             Ok(sent) => return sent_whole(sent, bytes.len()),

@@ -2,7 +2,7 @@
 use Rattle.std.proofs.Common.{◌≡◌, ◌∷◌, [], List, All, ap, arith, length, length-append, subst, sym}
 use Rattle.std.proofs.lemmas.List.Elements.{All-push}
 use Rattle.dns_readiness.specs.Decisions.{SocketState}
-use Rattle.dns_crowd_server.proofs.socket_hub.crowds_at.Goals as goal
+use Rattle.dns_crowd_server.proofs.socket_hub.crowds_over.Goals as goal
 
 pub loop-place-preserved : goal.loop-place-preserved
 loop-place-preserved g c =
