@@ -34,7 +34,7 @@ replied_same reply limit framed before after told a =
 
 -- it was added to a buffer, and counted
 pub appended_put : (request : Request) (question : Option (ℕ × ℕ)) (reply : Reply) (framed : Bool) (before after : List ℕ) (told : Appended) (old new : List (List ℕ))
-    → Appends reply (limit_of request.protocol reply.edns) framed before after told → told.len ≤ 65535
+    → Appends reply (limit_of request.payload request.protocol reply.edns) framed before after told → told.len ≤ 65535
     → new ≡ recorded (record { protocol = request.protocol; header = request.header; question = question }) (replied_by reply told) old
     → IsPut request question reply framed before after old new
 appended_put request question reply framed before after told old new a short is = record {
@@ -45,7 +45,7 @@ appended_put request question reply framed before after told old new a short is 
   counted =
       is
       ∙ ap (λ (r : Replied). recorded (record { protocol = request.protocol; header = request.header; question = question }) r old)
-      (replied_same reply (limit_of request.protocol reply.edns) framed before after told a);
+      (replied_same reply (limit_of request.payload request.protocol reply.edns) framed before after told a);
 }
 
 -- a message of which this was decided was carried out: so it ended, and then this reply to it was put at the end of a buffer, and counted
@@ -57,7 +57,8 @@ module _ {K : Type 0} (keeper : KeeperOf K) (before : SeenOf K) (ask : Ask) (d :
       → into ≡ record { is_owed = true; length = ended.row_count; receipt = receipt }
       → SettlesInto (λ settled. CarriesOut keeper before ask d settled after) framed had has into
   put_carries fails receipt batch ended after question reply framed had has counts into asked is brings ends leaves p same told =
-      let written : Written reply (limit_of ask.protocol reply.edns) p.bytes = subst (λ (w : Protocol). Written reply (limit_of w reply.edns) p.bytes) way p.written in
+      let written : Written reply (limit_of d.request.payload ask.protocol reply.edns) p.bytes =
+      subst (λ (w : Protocol). Written reply (limit_of d.request.payload w reply.edns) p.bytes) way p.written in
       let grounds = grounds_of before fails in
       let counted : counts ≡ recorded (record { protocol = d.request.protocol; header = d.request.header; question = counted_question d.case }) (replied_of (reply_of grounds d) p.bytes) ended.counts =
       p.counted
@@ -69,7 +70,7 @@ module _ {K : Type 0} (keeper : KeeperOf K) (before : SeenOf K) (ask : Ask) (d :
           failed = fails;
           bytes = p.bytes;
           reply = refl;
-          written = subst (λ (r : Reply). Written r (limit_of ask.protocol r.edns) p.bytes) (sym is) written;
+          written = subst (λ (r : Reply). Written r (limit_of d.request.payload ask.protocol r.edns) p.bytes) (sym is) written;
           ended = ended;
           ends = subst (λ (b : List Record). Ends keeper before ask b fails receipt ended) (sym brings) ends;
           counted = same ∙ ap (λ (cs : List (List ℕ)). record ended { counts = cs }) counted;
@@ -163,15 +164,15 @@ failed_same r q = ap (λ (e : Option Edns). record (reply_to r 0 false q []) { c
 
 -- so it is where it stands at the end of a buffer
 pub failed_put : (request : Request) (q : Option Question) (done failed : Reply) (framed : Bool) (before first after : List ℕ) (told again : Appended) (old new : List (List ℕ))
-    → done ≡ reply_to request 0 false q [] → failed ≡ reply_to request 2 false q [] → limit_of request.protocol done.edns ≤ 65535
-    → Appends done (limit_of request.protocol done.edns) framed before first told
+    → done ≡ reply_to request 0 false q [] → failed ≡ reply_to request 2 false q [] → limit_of request.payload request.protocol done.edns ≤ 65535
+    → Appends done (limit_of request.payload request.protocol done.edns) framed before first told
     → ((r : Reply) (limit : ℕ) (framed : Bool) (before : List ℕ) → Appends r limit framed before first told → Appends (record r { code = 2 }) limit framed before after again)
     → new ≡ recorded (record { protocol = request.protocol; header = request.header; question = None }) (replied_by failed again) old
     → IsPut request None failed framed before after old new
 failed_put request q done failed framed before first after told again old new is fails short a step counted =
     let same : record done { code = 2 } ≡ failed = ap (λ (r : Reply). record r { code = 2 }) is ∙ failed_same request q ∙ sym fails in
-    let b : Appends (record done { code = 2 }) (limit_of request.protocol done.edns) framed before after again = step done (limit_of request.protocol done.edns) framed before a in
-    let fits : length b.bytes ≤ limit_of request.protocol done.edns = b.written.fits in
+    let b : Appends (record done { code = 2 }) (limit_of request.payload request.protocol done.edns) framed before after again = step done (limit_of request.payload request.protocol done.edns) framed before a in
+    let fits : length b.bytes ≤ limit_of request.payload request.protocol done.edns = b.written.fits in
     let small : again.len ≤ 65535 = omega (arith, b.length, fits, short) in
     appended_put request None failed framed before after again old new
-    (subst (λ (r : Reply). Appends r (limit_of request.protocol r.edns) framed before after again) same b) small counted
+    (subst (λ (r : Reply). Appends r (limit_of request.payload request.protocol r.edns) framed before after again) same b) small counted

@@ -6,6 +6,7 @@ use Rattle.dns_io.specs.declared.fault.OutOfMemory.{OutOfMemory}
 use Rattle.dns_wire.specs.declared.message.Message.{Message}
 use Rattle.dns_wire.specs.declared.record.Record.{Record}
 use Rattle.dns_wire.specs.declared.reply.Reply.{Reply}
+use Rattle.dns_wire.specs.Written.{Written}
 use Rattle.dns_keeper.specs.Keeping.{KeeperOf}
 use Rattle.dns_zone_map.specs.Zone.{Contents}
 use Rattle.dns_update.specs.declared.verdict.Verdict.{Verdict}
@@ -21,12 +22,13 @@ use Rattle.dns_book.specs.declared.decision.Case.TheVariants.{ShutOut, Malformed
 use Rattle.dns_book.specs.declared.decision.Decision.{Decision}
 use Rattle.dns_book.specs.Access.{Access}
 use Rattle.dns_book.specs.Cases.{only_question, Decides}
-use Rattle.dns_book.specs.Owed.{code_of, reply_to, case_reply, reply_of, passing_batch, case_batch, IsWritten}
+use Rattle.dns_book.specs.Owed.{code_of, reply_to, case_reply, reply_of, passing_batch, case_batch, limit_of, IsWritten}
 use Rattle.dns_book.specs.Counted.{counts_after}
 use Rattle.dns_book.specs.Book.{SeenOf, IsKept, grounds_of, Ends, idle, journalled, failed, Settles}
 use Rattle.dns_book.specs.Crash.{LeavesBatch, LeavesBy, LeavesSettled, SettlesLeaving, LeavesUnsettled, refused}
 use Rattle.dns_book.specs.Into.{SettlesInto}
 use Rattle.dns_book.specs.Carrying.{CarriesOut, Carries}
+use Rattle.dns_book.proofs.Deciding.{decided_head}
 use Rattle.dns_book.proofs.IntoBuffer.{into_ok}
 
 -- the reply to an update that passes is ServFail where the journal fails, and else as without a fault
@@ -82,7 +84,9 @@ module _ {K : Type 0} (keeper : KeeperOf K) (access : Access) (before : SeenOf K
       reply = record {
         decision = Some d;
         decided = decided;
-        written = subst (λ (b : Option (List ℕ)). IsWritten ask.protocol (Some (reply_of (grounds_of before done.failed) d)) b) (sym done.reply) done.written;
+        written = subst (λ (b : Option (List ℕ)). IsWritten access.payload ask.protocol (Some (reply_of (grounds_of before done.failed) d)) b) (sym done.reply)
+            (subst (λ (n : ℕ). Written (reply_of (grounds_of before done.failed) d) (limit_of n ask.protocol (reply_of (grounds_of before done.failed) d).edns) done.bytes)
+            (decided_head before.zone access ask (Some d) decided).3 done.written);
       };
       ended = done.ended;
       ends = done.ends;

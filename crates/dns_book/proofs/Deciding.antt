@@ -29,32 +29,34 @@ unfolding message_case
 plain_message zone q asks = rw asks refl
 
 -- what is decided of a message, by what was read of the bytes that are lent
-module _ (zone : Contents) (access : Access) (asked ask : Ask) (same : asked ≡ ask) (h : Header) (head : request_of ask ≡ Some h) (d : Decision) where
+module _ (zone : Contents) (access : Access) (asked ask : Ask) (same : asked ≡ ask) (most : ℕ) (bound : most ≡ access.payload) (h : Header) (head : request_of ask ≡ Some h)
+    (d : Decision) where
   pub decided_shut_out : lets_in access asked.source.ip ≡ false → (q : Option Question) → ReadsOne (OneQuestionAt asked.bytes) q
-      → d ≡ record { request = header_alone asked.protocol h; case = ShutOut q } → Decides zone access ask (Some d)
+      → d ≡ record { request = header_alone most asked.protocol h; case = ShutOut q } → Decides zone access ask (Some d)
   decided_shut_out out q reads is =
-      subst (λ (e : Decision). Decides zone access ask (Some e)) (sym (is ∙ ap (λ (a : Ask). record { request = header_alone a.protocol h; case = ShutOut q }) same))
+      subst (λ (e : Decision). Decides zone access ask (Some e)) (sym (is ∙ ap (λ (a : Ask). record { request = header_alone most a.protocol h; case = ShutOut q }) same ∙ ap (λ (n : ℕ). record { request = header_alone n ask.protocol h; case = ShutOut q }) bound))
       (shut_out h head (subst (λ (a : Ask). lets_in access a.source.ip ≡ false) same out) q (subst (λ (a : Ask). ReadsOne (OneQuestionAt a.bytes) q) same reads))
 
   pub decided_malformed : lets_in access asked.source.ip ≡ true → ((m : Message) → MessageAt asked.bytes m → ⊥)
-      → d ≡ record { request = header_alone asked.protocol h; case = Malformed } → Decides zone access ask (Some d)
+      → d ≡ record { request = header_alone most asked.protocol h; case = Malformed } → Decides zone access ask (Some d)
   decided_malformed let_in none is =
-      subst (λ (e : Decision). Decides zone access ask (Some e)) (sym (is ∙ ap (λ (a : Ask). record { request = header_alone a.protocol h; case = Malformed }) same))
+      subst (λ (e : Decision). Decides zone access ask (Some e)) (sym (is ∙ ap (λ (a : Ask). record { request = header_alone most a.protocol h; case = Malformed }) same ∙ ap (λ (n : ℕ). record { request = header_alone n ask.protocol h; case = Malformed }) bound))
       (malformed h head (subst (λ (a : Ask). lets_in access a.source.ip ≡ true) same let_in) (subst (λ (a : Ask). (m : Message) → MessageAt a.bytes m → ⊥) same none))
 
   pub decided_message : lets_in access asked.source.ip ≡ true → (m : Message) → MessageAt asked.bytes m → (lent : Contents) → lent ≡ zone
-      → d ≡ record { request = request_by asked.protocol m; case = message_case lent m } → Decides zone access ask (Some d)
+      → d ≡ record { request = request_by most asked.protocol m; case = message_case lent m } → Decides zone access ask (Some d)
   decided_message let_in m at lent here is =
       subst (λ (e : Decision). Decides zone access ask (Some e))
-      (sym (is ∙ ap (λ (a : Ask). record { request = request_by a.protocol m; case = message_case lent m }) same ∙ ap (λ (z : Contents). record { request = request_by ask.protocol m; case = message_case z m }) here))
+      (sym (is ∙ ap (λ (a : Ask). record { request = request_by most a.protocol m; case = message_case lent m }) same ∙ ap (λ (z : Contents). record { request = request_by most ask.protocol m; case = message_case z m }) here
+      ∙ ap (λ (n : ℕ). record { request = request_by n ask.protocol m; case = message_case zone m }) bound))
       (read h head (subst (λ (a : Ask). lets_in access a.source.ip ≡ true) same let_in) m (subst (λ (a : Ask). MessageAt a.bytes m) same at))
 
   -- a query of plain form was read
   pub decided_query : lets_in access asked.source.ip ≡ true → (q : Looked) → MessageAt asked.bytes (message_of q) → IsPlainQuery asked.bytes q → (lent : Contents) → lent ≡ zone
-      → d ≡ record { request = asked_by asked.protocol q; case = plain_case lent q } → Decides zone access ask (Some d)
+      → d ≡ record { request = asked_by most asked.protocol q; case = plain_case lent q } → Decides zone access ask (Some d)
   decided_query let_in q at plain lent here is =
       decided_message let_in (message_of q) at lent here
-      (is ∙ ap (λ (c : Case). record { request = asked_by asked.protocol q; case = c }) (sym (plain_message lent q plain.form.query)))
+      (is ∙ ap (λ (c : Case). record { request = asked_by most asked.protocol q; case = c }) (sym (plain_message lent q plain.form.query)))
 
 -- a request has a header, which is no reply's
 head_by : (qr : Bool) (g h : Header) → g.qr ≡ qr → (if qr then None else Some g) ≡ Some h → (Some g ≡ Some h) × (h.qr ≡ false)
@@ -73,16 +75,16 @@ request_of-head ask h e = request_head (is_err (sanitized ask.source)) (header_o
 pub some_same : {T : Type 0} {a b : T} → Some a ≡ Some b → a ≡ b
 some_same e = cc
 
--- a decision is of the message's own header, which is no reply's, and of its transport
+-- a decision is of the message's own header, which is no reply's, of its transport, and of how large a datagram may go out
 pub decided_head : (zone : Contents) (access : Access) (ask : Ask) (decision : Option Decision) → Decides zone access ask decision
-    → IfSome decision (λ d. (header_of ask.bytes ≡ Some d.request.header) × (d.request.header.qr ≡ false) × (d.request.protocol ≡ ask.protocol))
+    → IfSome decision (λ d. (header_of ask.bytes ≡ Some d.request.header) × (d.request.header.qr ≡ false) × (d.request.protocol ≡ ask.protocol) × (d.request.payload ≡ access.payload))
 decided_head zone access ask _ (silent none) = tt
-decided_head zone access ask _ (shut_out h e out q asked) = let head = request_of-head ask h e in (head.0, head.1, refl)
-decided_head zone access ask _ (malformed h e let_in none) = let head = request_of-head ask h e in (head.0, head.1, refl)
+decided_head zone access ask _ (shut_out h e out q asked) = let head = request_of-head ask h e in (head.0, head.1, refl, refl)
+decided_head zone access ask _ (malformed h e let_in none) = let head = request_of-head ask h e in (head.0, head.1, refl, refl)
 decided_head zone access ask _ (read h e let_in m at) =
     let head = request_of-head ask h e in
     let same : h ≡ m.header = some_same (sym head.0 ∙ at.header) in
-    (at.header, subst (λ (x : Header). x.qr ≡ false) same head.1, refl)
+    (at.header, subst (λ (x : Header). x.qr ≡ false) same head.1, refl, refl)
 
 -- what the laws of messages give
 abbrev pub OneMessage : Type 0
@@ -117,18 +119,18 @@ same_decision one zone access ask _ _ (shut_out h e out q asked) (silent none) =
 same_decision one zone access ask _ _ (malformed h e let_in nor) (silent none) = absurd (none_some ask h none e)
 same_decision one zone access ask _ _ (read h e let_in m at) (silent none) = absurd (none_some ask h none e)
 same_decision one zone access ask _ _ (shut_out g e out q asked) (shut_out h f shut r heard) =
-    ap (λ (x : Header). Some (record { request = header_alone ask.protocol x; case = ShutOut q })) (same_header ask g h e f)
-    ∙ ap (λ (x : Option Question). Some (record { request = header_alone ask.protocol h; case = ShutOut x })) (same_question ask.bytes q r asked heard)
+    ap (λ (x : Header). Some (record { request = header_alone access.payload ask.protocol x; case = ShutOut q })) (same_header ask g h e f)
+    ∙ ap (λ (x : Option Question). Some (record { request = header_alone access.payload ask.protocol h; case = ShutOut x })) (same_question ask.bytes q r asked heard)
 same_decision one zone access ask _ _ (shut_out g e out q asked) (malformed h f let_in none) = absurd (in_or_out _ let_in out)
 same_decision one zone access ask _ _ (shut_out g e out q asked) (read h f let_in m at) = absurd (in_or_out _ let_in out)
 same_decision one zone access ask _ _ (malformed g e let_in none) (shut_out h f out q asked) = absurd (in_or_out _ let_in out)
 same_decision one zone access ask _ _ (read g e let_in m at) (shut_out h f out q asked) = absurd (in_or_out _ let_in out)
 same_decision one zone access ask _ _ (malformed g e let_in none) (malformed h f again nor) =
-    ap (λ (x : Header). Some (record { request = header_alone ask.protocol x; case = Malformed })) (same_header ask g h e f)
+    ap (λ (x : Header). Some (record { request = header_alone access.payload ask.protocol x; case = Malformed })) (same_header ask g h e f)
 same_decision one zone access ask _ _ (malformed g e let_in none) (read h f again m at) = absurd (none m at)
 same_decision one zone access ask _ _ (read g e let_in m at) (malformed h f again none) = absurd (none m at)
 same_decision one zone access ask _ _ (read g e let_in m at) (read h f again n there) =
-    ap (λ (x : Message). Some (record { request = request_by ask.protocol x; case = message_case zone x })) (one ask.bytes m n at there)
+    ap (λ (x : Message). Some (record { request = request_by access.payload ask.protocol x; case = message_case zone x })) (one ask.bytes m n at there)
 
 -- what is not foreign is a name of the zone
 below : (a b c d : Bool) → (not a || not b || c || d) ≡ false → b ≡ true

@@ -16,7 +16,7 @@ use Rattle.dns_book.specs.declared.decision.Request.{Request}
 use Rattle.dns_book.specs.declared.decision.Case.{Case}
 use Rattle.dns_book.specs.declared.decision.Case.TheVariants.{ShutOut, Malformed, UnsupportedVersion, NotImplemented, NotOneQuestion, Foreign, Query, Update}
 use Rattle.dns_book.specs.declared.decision.Decision.{Decision}
-use Rattle.dns_book.specs.Access.{Access, lets_in}
+use Rattle.dns_book.specs.Access.{Access, IsPayload, lets_in}
 use Rattle.dns_book.specs.Cases.{message_case, request_by, Decides, silent, shut_out, malformed, read}
 use Rattle.dns_book.specs.Owed.{Grounds, id_for, edns_for, limit_of, case_reply, reply_of, Owes, IsWritten, OwesBytes}
 use Rattle.dns_book.proofs.Deciding.{OneMessage, decided_head, in_or_out, same_decision, some_same}
@@ -45,14 +45,14 @@ id_small Https id small = small
 id_small Quic id small = omega arith
 id_small H3 id small = small
 
-limit_same : (protocol : Protocol) (code : ℕ) (edns : Option Edns) → limit_of protocol (edns_for code edns) ≡ limit_of protocol (edns_for 0 edns)
-limit_same Udp code None = refl
-limit_same Udp code (Some e) = refl
-limit_same Tcp code edns = refl
-limit_same Tls code edns = refl
-limit_same Https code edns = refl
-limit_same Quic code edns = refl
-limit_same H3 code edns = refl
+limit_same : (most : ℕ) (protocol : Protocol) (code : ℕ) (edns : Option Edns) → limit_of most protocol (edns_for code edns) ≡ limit_of most protocol (edns_for 0 edns)
+limit_same most Udp code None = refl
+limit_same most Udp code (Some e) = refl
+limit_same most Tcp code edns = refl
+limit_same most Tls code edns = refl
+limit_same most Https code edns = refl
+limit_same most Quic code edns = refl
+limit_same most H3 code edns = refl
 
 -- what the laws of written replies give
 abbrev pub OneForm : Type 0
@@ -64,13 +64,13 @@ IsShorter = (r : Reply) (limit : ℕ) (bytes : List ℕ) → Written r limit byt
 abbrev pub HeadBack : Type 0
 HeadBack = (r : Reply) (limit : ℕ) (bytes : List ℕ) → r.id < 2 ^ 16 → Written r limit bytes → IsSomeAnd (header_of bytes) (λ h. (h.id ≡ r.id) × (h.qr ≡ true))
 
-same_written : OneForm → (protocol : Protocol) (reply : Option Reply) (a b : Option (List ℕ)) → IsWritten protocol reply a → IsWritten protocol reply b → a ≡ b
-same_written one protocol None None None x y = refl
-same_written one protocol None None (Some bytes) x y = absurd y
-same_written one protocol None (Some bytes) b x y = absurd x
-same_written one protocol (Some r) None b x y = absurd x
-same_written one protocol (Some r) (Some bytes) None x y = absurd y
-same_written one protocol (Some r) (Some bytes) (Some others) x y = ap Some (one r (limit_of protocol r.edns) bytes others x y)
+same_written : OneForm → (most : ℕ) (protocol : Protocol) (reply : Option Reply) (a b : Option (List ℕ)) → IsWritten most protocol reply a → IsWritten most protocol reply b → a ≡ b
+same_written one most protocol None None None x y = refl
+same_written one most protocol None None (Some bytes) x y = absurd y
+same_written one most protocol None (Some bytes) b x y = absurd x
+same_written one most protocol (Some r) None b x y = absurd x
+same_written one most protocol (Some r) (Some bytes) None x y = absurd y
+same_written one most protocol (Some r) (Some bytes) (Some others) x y = ap Some (one r (limit_of most protocol r.edns) bytes others x y)
 
 pub Owes-one : OneMessage → (grounds : Grounds) (access : Access) (ask : Ask) (a b : Option Reply) → Owes grounds access ask a → Owes grounds access ask b → a ≡ b
 Owes-one message grounds access ask a b x y =
@@ -80,10 +80,10 @@ Owes-one message grounds access ask a b x y =
 pub OwesBytes-one : OneMessage → OneForm → (grounds : Grounds) (access : Access) (ask : Ask) (a b : Option (List ℕ)) → OwesBytes grounds access ask a → OwesBytes grounds access ask b → a ≡ b
 OwesBytes-one message form grounds access ask a b x y =
     let same : y.decision ≡ x.decision = same_decision message grounds.zone access ask y.decision x.decision y.decided x.decided in
-    same_written form ask.protocol (option_map (reply_of grounds) x.decision) a b x.written (subst (λ (d : Option Decision). IsWritten ask.protocol (option_map (reply_of grounds) d) b) same y.written)
+    same_written form access.payload ask.protocol (option_map (reply_of grounds) x.decision) a b x.written (subst (λ (d : Option Decision). IsWritten access.payload ask.protocol (option_map (reply_of grounds) d) b) same y.written)
 
 head_of : HeadBack → (grounds : Grounds) (access : Access) (ask : Ask) (h : Header) (decision : Option Decision) (bytes : List ℕ) → header_of ask.bytes ≡ Some h → h.id < 2 ^ 16
-    → Decides grounds.zone access ask decision → IsWritten ask.protocol (option_map (reply_of grounds) decision) (Some bytes)
+    → Decides grounds.zone access ask decision → IsWritten access.payload ask.protocol (option_map (reply_of grounds) decision) (Some bytes)
     → IsSomeAnd (header_of bytes) (λ r. (r.id ≡ id_for ask.protocol h.id) × (r.qr ≡ true))
 head_of back grounds access ask h None bytes head small decided written = absurd written
 head_of back grounds access ask h (Some d) bytes head small decided written =
@@ -93,53 +93,69 @@ head_of back grounds access ask h (Some d) bytes head small decided written =
     (of_case grounds d.request d.case).id ∙ ap (λ (p : Protocol). id_for p d.request.header.id) facts.2 ∙ ap (λ (x : Header). id_for ask.protocol x.id) same
     in
     let little : (reply_of grounds d).id < 2 ^ 16 = subst (λ (n : ℕ). n < 2 ^ 16) (sym id) (id_small ask.protocol h.id small) in
-    subst (λ (n : ℕ). IsSomeAnd (header_of bytes) (λ r. (r.id ≡ n) × (r.qr ≡ true))) id (back (reply_of grounds d) (limit_of ask.protocol (reply_of grounds d).edns) bytes little written)
+    subst (λ (n : ℕ). IsSomeAnd (header_of bytes) (λ r. (r.id ≡ n) × (r.qr ≡ true))) id (back (reply_of grounds d) (limit_of access.payload ask.protocol (reply_of grounds d).edns) bytes little written)
 
 pub OwesBytes-header : HeadBack → (grounds : Grounds) (access : Access) (ask : Ask) (h : Header) (bytes : List ℕ) → header_of ask.bytes ≡ Some h → h.id < 2 ^ 16 → OwesBytes grounds access ask (Some bytes)
     → IsSomeAnd (header_of bytes) (λ r. (r.id ≡ id_for ask.protocol h.id) × (r.qr ≡ true))
 OwesBytes-header back grounds access ask h bytes head small x = head_of back grounds access ask h x.decision bytes head small x.decided x.written
 
 -- what a reply without an OPT may take, one with an OPT may take too
-limit_least : (protocol : Protocol) (edns : Option Edns) → limit_of protocol None ≤ limit_of protocol (edns_for 0 edns)
-limit_least Udp None = omega arith
-limit_least Udp (Some e) = omega arith
-limit_least Tcp edns = omega arith
-limit_least Tls edns = omega arith
-limit_least Https edns = omega arith
-limit_least Quic edns = omega arith
-limit_least H3 edns = omega arith
+limit_least : (most : ℕ) → 512 ≤ most → (protocol : Protocol) (edns : Option Edns) → limit_of most protocol None ≤ limit_of most protocol (edns_for 0 edns)
+limit_least most least Udp None = omega arith
+limit_least most least Udp (Some e) = omega (arith, least)
+limit_least most least Tcp edns = omega arith
+limit_least most least Tls edns = omega arith
+limit_least most least Https edns = omega arith
+limit_least most least Quic edns = omega arith
+limit_least most least H3 edns = omega arith
+
+-- a datagram has no more than the greatest
+limit_most : (most : ℕ) (edns : Option Edns) → 512 ≤ most → limit_of most Udp edns ≤ most
+limit_most most None least = least
+limit_most most (Some e) least = omega arith
 
 -- a reply's written form takes no more than what bounds its limit
-within : IsShorter → (grounds : Grounds) (ask : Ask) (decision : Option Decision) (most : ℕ) (bytes : List ℕ) → IfSome decision (λ d. limit_of ask.protocol (reply_of grounds d).edns ≤ most)
-    → IsWritten ask.protocol (option_map (reply_of grounds) decision) (Some bytes) → length bytes ≤ most
-within short grounds ask None most bytes bound written = absurd written
-within short grounds ask (Some d) most bytes bound written = omega (arith, bound, short (reply_of grounds d) (limit_of ask.protocol (reply_of grounds d).edns) bytes written)
+within : IsShorter → (grounds : Grounds) (access : Access) (ask : Ask) (decision : Option Decision) (limit : ℕ) (bytes : List ℕ) → IfSome decision (λ d. limit_of access.payload ask.protocol (reply_of grounds d).edns ≤ limit)
+    → IsWritten access.payload ask.protocol (option_map (reply_of grounds) decision) (Some bytes) → length bytes ≤ limit
+within short grounds access ask None limit bytes bound written = absurd written
+within short grounds access ask (Some d) limit bytes bound written = omega (arith, bound, short (reply_of grounds d) (limit_of access.payload ask.protocol (reply_of grounds d).edns) bytes written)
 
-room_of : OneMessage → (grounds : Grounds) (access : Access) (ask : Ask) (m : Message) (decision : Option Decision) → MessageAt ask.bytes m → Decides grounds.zone access ask decision
-    → IfSome decision (λ d. limit_of ask.protocol (reply_of grounds d).edns ≤ limit_of ask.protocol (edns_for 0 m.edns))
-room_of one grounds access ask m _ at (silent none) = tt
-room_of one grounds access ask m _ at (shut_out h e out q asked) = limit_least ask.protocol m.edns
-room_of one grounds access ask m _ at (malformed h e let_in none) = absurd (none m at)
-room_of one grounds access ask m _ at (read h e let_in n there) =
+room_of : OneMessage → (grounds : Grounds) (access : Access) (ask : Ask) (m : Message) (decision : Option Decision) → IsPayload access.payload → MessageAt ask.bytes m → Decides grounds.zone access ask decision
+    → IfSome decision (λ d. limit_of access.payload ask.protocol (reply_of grounds d).edns ≤ limit_of access.payload ask.protocol (edns_for 0 m.edns))
+room_of one grounds access ask m _ range at (silent none) = tt
+room_of one grounds access ask m _ range at (shut_out h e out q asked) = limit_least access.payload range.least ask.protocol m.edns
+room_of one grounds access ask m _ range at (malformed h e let_in none) = absurd (none m at)
+room_of one grounds access ask m _ range at (read h e let_in n there) =
     let same : n ≡ m = one ask.bytes n m there at in
-    let of = of_case grounds (request_by ask.protocol n) (message_case grounds.zone n) in
-    let room : limit_of ask.protocol (case_reply grounds (request_by ask.protocol n) (message_case grounds.zone n)).edns ≡ limit_of ask.protocol (edns_for 0 m.edns) =
-    ap (λ (e : Option Edns). limit_of ask.protocol e) of.opt ∙ limit_same ask.protocol of.code n.edns ∙ ap (λ (x : Message). limit_of ask.protocol (edns_for 0 x.edns)) same
+    let of = of_case grounds (request_by access.payload ask.protocol n) (message_case grounds.zone n) in
+    let room : limit_of access.payload ask.protocol (case_reply grounds (request_by access.payload ask.protocol n) (message_case grounds.zone n)).edns ≡ limit_of access.payload ask.protocol (edns_for 0 m.edns) =
+    ap (λ (e : Option Edns). limit_of access.payload ask.protocol e) of.opt ∙ limit_same access.payload ask.protocol of.code n.edns ∙ ap (λ (x : Message). limit_of access.payload ask.protocol (edns_for 0 x.edns)) same
     in
     omega (arith, room)
 
-pub OwesBytes-limit : OneMessage → IsShorter → (grounds : Grounds) (access : Access) (ask : Ask) (m : Message) (bytes : List ℕ) → MessageAt ask.bytes m → OwesBytes grounds access ask (Some bytes) → length bytes ≤ limit_of ask.protocol (edns_for 0 m.edns)
-OwesBytes-limit one short grounds access ask m bytes at x = within short grounds ask x.decision _ bytes (room_of one grounds access ask m x.decision at x.decided) x.written
+pub OwesBytes-limit : OneMessage → IsShorter → (grounds : Grounds) (access : Access) (ask : Ask) (m : Message) (bytes : List ℕ) → IsPayload access.payload → MessageAt ask.bytes m → OwesBytes grounds access ask (Some bytes) → length bytes ≤ limit_of access.payload ask.protocol (edns_for 0 m.edns)
+OwesBytes-limit one short grounds access ask m bytes range at x = within short grounds access ask x.decision _ bytes (room_of one grounds access ask m x.decision range at x.decided) x.written
 
 no_room_of : (grounds : Grounds) (access : Access) (ask : Ask) (decision : Option Decision) → ((m : Message) → MessageAt ask.bytes m → ⊥) → Decides grounds.zone access ask decision
-    → IfSome decision (λ d. limit_of ask.protocol (reply_of grounds d).edns ≤ limit_of ask.protocol None)
+    → IfSome decision (λ d. limit_of access.payload ask.protocol (reply_of grounds d).edns ≤ limit_of access.payload ask.protocol None)
 no_room_of grounds access ask _ none (silent nor) = tt
 no_room_of grounds access ask _ none (shut_out h e out q asked) = omega arith
 no_room_of grounds access ask _ none (malformed h e let_in nor) = omega arith
 no_room_of grounds access ask _ none (read h e let_in m at) = absurd (none m at)
 
-pub OwesBytes-malformed : IsShorter → (grounds : Grounds) (access : Access) (ask : Ask) (bytes : List ℕ) → ((m : Message) → MessageAt ask.bytes m → ⊥) → OwesBytes grounds access ask (Some bytes) → length bytes ≤ limit_of ask.protocol None
-OwesBytes-malformed short grounds access ask bytes none x = within short grounds ask x.decision _ bytes (no_room_of grounds access ask x.decision none x.decided) x.written
+pub OwesBytes-malformed : IsShorter → (grounds : Grounds) (access : Access) (ask : Ask) (bytes : List ℕ) → ((m : Message) → MessageAt ask.bytes m → ⊥) → OwesBytes grounds access ask (Some bytes) → length bytes ≤ limit_of access.payload ask.protocol None
+OwesBytes-malformed short grounds access ask bytes none x = within short grounds access ask x.decision _ bytes (no_room_of grounds access ask x.decision none x.decided) x.written
+
+-- whatever it is owed
+datagram_room : (grounds : Grounds) (access : Access) (ask : Ask) (decision : Option Decision) → IsPayload access.payload → ask.protocol ≡ Udp
+    → IfSome decision (λ d. limit_of access.payload ask.protocol (reply_of grounds d).edns ≤ access.payload)
+datagram_room grounds access ask None range way = tt
+datagram_room grounds access ask (Some d) range way =
+    subst (λ (p : Protocol). limit_of access.payload p (reply_of grounds d).edns ≤ access.payload) (sym way) (limit_most access.payload (reply_of grounds d).edns range.least)
+
+pub OwesBytes-datagram : IsShorter → (grounds : Grounds) (access : Access) (ask : Ask) (bytes : List ℕ) → IsPayload access.payload → ask.protocol ≡ Udp → OwesBytes grounds access ask (Some bytes)
+    → length bytes ≤ access.payload
+OwesBytes-datagram short grounds access ask bytes range way x = within short grounds access ask x.decision _ bytes (datagram_room grounds access ask x.decision range way) x.written
 
 no_reply : (a : Header) (n : ℕ) (found : Option Header) → IsSomeAnd found (λ r. (r.id ≡ n) × (r.qr ≡ true)) → found ≡ Some a → a.qr ≡ false → ⊥
 no_reply a n None is e qr = absurd is
@@ -149,7 +165,7 @@ no_reply a n (Some r) is e qr =
     absurd cc
 
 owed_none : (other : Grounds) (others : Access) (again : Ask) (n : ℕ) (decision : Option Decision) (reply : Option (List ℕ)) → IsSomeAnd (header_of again.bytes) (λ r. (r.id ≡ n) × (r.qr ≡ true))
-    → Decides other.zone others again decision → IsWritten again.protocol (option_map (reply_of other) decision) reply → reply ≡ None
+    → Decides other.zone others again decision → IsWritten others.payload again.protocol (option_map (reply_of other) decision) reply → reply ≡ None
 owed_none other others again n None None head decided written = refl
 owed_none other others again n None (Some bytes) head decided written = absurd written
 owed_none other others again n (Some d) reply head decided written =
@@ -179,11 +195,11 @@ pub Owes-refused : (grounds : Grounds) (access : Access) (ask : Ask) (reply : Re
 Owes-refused grounds access ask reply out x = refused_reply grounds x.decision reply (refused grounds access ask x.decision out x.decided) x.is
 
 shut_room : (grounds : Grounds) (access : Access) (ask : Ask) (decision : Option Decision) → lets_in access ask.source.ip ≡ false → Decides grounds.zone access ask decision
-    → IfSome decision (λ d. limit_of ask.protocol (reply_of grounds d).edns ≤ limit_of ask.protocol None)
+    → IfSome decision (λ d. limit_of access.payload ask.protocol (reply_of grounds d).edns ≤ limit_of access.payload ask.protocol None)
 shut_room grounds access ask _ out (silent none) = tt
 shut_room grounds access ask _ out (shut_out h e shut q asked) = omega arith
 shut_room grounds access ask _ out (malformed h e let_in none) = absurd (in_or_out _ let_in out)
 shut_room grounds access ask _ out (read h e let_in m at) = absurd (in_or_out _ let_in out)
 
-pub OwesBytes-refused : IsShorter → (grounds : Grounds) (access : Access) (ask : Ask) (bytes : List ℕ) → lets_in access ask.source.ip ≡ false → OwesBytes grounds access ask (Some bytes) → length bytes ≤ limit_of ask.protocol None
-OwesBytes-refused short grounds access ask bytes out x = within short grounds ask x.decision _ bytes (shut_room grounds access ask x.decision out x.decided) x.written
+pub OwesBytes-refused : IsShorter → (grounds : Grounds) (access : Access) (ask : Ask) (bytes : List ℕ) → lets_in access ask.source.ip ≡ false → OwesBytes grounds access ask (Some bytes) → length bytes ≤ limit_of access.payload ask.protocol None
+OwesBytes-refused short grounds access ask bytes out x = within short grounds access ask x.decision _ bytes (shut_room grounds access ask x.decision out x.decided) x.written

@@ -103,17 +103,17 @@ some_and : (found : Option Header) (P Q : Header → Type 0) → ((h : Header) �
 some_and None P Q step is = absurd is
 some_and (Some h) P Q step is = step h is
 
-servfail_if : {K : Type 0} (book : SeenOf K) (protocol : Protocol) (decision : Option Decision) (fails : Bool) (bytes : List ℕ) → IfSome decision (λ d. IsNoLookup d.case)
-    → IsWritten protocol (option_map (reply_of (grounds_of book fails)) decision) (Some bytes) → (fails ≡ true → 0 < length (batch_by book.zone book.allow_update decision))
+servfail_if : {K : Type 0} (book : SeenOf K) (most : ℕ) (protocol : Protocol) (decision : Option Decision) (fails : Bool) (bytes : List ℕ) → IfSome decision (λ d. IsNoLookup d.case)
+    → IsWritten most protocol (option_map (reply_of (grounds_of book fails)) decision) (Some bytes) → (fails ≡ true → 0 < length (batch_by book.zone book.allow_update decision))
     → IsSomeAnd (header_of bytes) (λ h. (h.code ≡ 2) ↔ (fails ≡ true))
-servfail_if book protocol None fails bytes other written some = absurd written
-servfail_if book protocol (Some d) fails bytes other written some =
+servfail_if book most protocol None fails bytes other written some = absurd written
+servfail_if book most protocol (Some d) fails bytes other written some =
     some_and (header_of bytes) (λ h. h.code ≡ (reply_of (grounds_of book fails) d).code % 16) (λ h. (h.code ≡ 2) ↔ (fails ≡ true))
     (λ h. exact book.zone book.allow_update d fails h.code other some) (written_code (reply_of (grounds_of book fails) d) _ bytes written)
 
 pub Settles-servfail : {K : Type 0} (keeper : KeeperOf K) (access : Access) (before after : SeenOf K) (ask : Ask) (settled : Settled) (h : Header) (bytes : List ℕ)
     → (is : Settles keeper access before ask settled after) → header_of ask.bytes ≡ Some h → h.opcode ≡ 5 → settled.reply ≡ Some bytes → IsSomeAnd (header_of bytes) (λ r. (r.code ≡ 2) ↔ (is.failed ≡ true))
 Settles-servfail keeper access before after ask settled h bytes is head update given =
-    servfail_if before ask.protocol is.reply.decision is.failed bytes (no_lookup_decided before.zone access ask h is.reply.decision head update is.reply.decided)
-    (subst (λ (b : Option (List ℕ)). IsWritten ask.protocol (option_map (reply_of (grounds_of before is.failed)) is.reply.decision) b) given is.reply.written)
+    servfail_if before access.payload ask.protocol is.reply.decision is.failed bytes (no_lookup_decided before.zone access ask h is.reply.decision head update is.reply.decided)
+    (subst (λ (b : Option (List ℕ)). IsWritten access.payload ask.protocol (option_map (reply_of (grounds_of before is.failed)) is.reply.decision) b) given is.reply.written)
     (Settles-some keeper access before after ask settled is)

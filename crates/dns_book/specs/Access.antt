@@ -1,5 +1,5 @@
--- Networks of addresses, and which sources they let in.
-use Rattle.std.specs.Prelude.{ℕ, List, Option, Some, None, Bool, true, false, not, nat_le, take, ◌&&◌, ◌||◌, if◌then◌else◌}
+-- Networks of addresses, which sources they let in, and how large a datagram goes out.
+use Rattle.std.specs.Prelude.{ℕ, List, Option, Some, None, Bool, true, false, not, nat_le, take, ◌&&◌, ◌||◌, ◌≤◌, if◌then◌else◌}
 use Rattle.std.specs.List.{list_any}
 use Rattle.std.specs.Str.{bytes_eq}
 use Rattle.dns_io.specs.declared.peer.Ip.{Ip}
@@ -40,10 +40,17 @@ lies_in_any ip nets = list_any (λ net. lies_in ip net) nets
 abbrev pub has_own : Ip → List IpNet → Bool
 has_own ip nets = list_any (λ net. is_one_family ip net.ip) nets
 
--- the networks that are let in, and those that are shut out
+-- the networks that are let in, those that are shut out, and how many bytes a datagram has at most that is sent
 pub record Access : Type 0 where
   pub allowed : List IpNet
   pub denied : List IpNet
+  pub payload : ℕ
+
+-- how many bytes a datagram may have: at least the 512 that every receiver takes (RFC 1035 4.2.1, RFC 6891 6.2.3), at most what IPv4
+-- carries: 65,535, less 20 of its own header (RFC 791 3.1) and 8 of UDP's (RFC 768)
+pub record IsPayload (bytes : ℕ) : Type 0 where
+  pub least : 512 ≤ bytes
+  pub most : bytes ≤ 65507
 
 -- whether a source is let in, by the networks of its own family: one in an allowed network is; else one in a denied
 -- network is not; else it is, unless there are allowed networks and no denied ones

@@ -40,7 +40,7 @@ replied_by reply appended = record { code = reply.code; flags = appended.flags; 
 pub record IsPut (request : Request) (question : Option (ℕ × ℕ)) (reply : Reply) (framed : Bool) (before after : List ℕ)
     (old new : List (List ℕ)) : Type 0 where
   pub bytes : List ℕ
-  pub written : Written reply (limit_of request.protocol reply.edns) bytes
+  pub written : Written reply (limit_of request.payload request.protocol reply.edns) bytes
   pub short : length bytes ≤ 65535
   pub sent : after ≡ before ++ sent_as framed bytes
   pub counted : new ≡ recorded (record {
@@ -62,7 +62,8 @@ pub record CarriesOut {K : Type 0} (keeper : KeeperOf K) (before : SeenOf K) (as
   pub failed : Bool
   pub bytes : List ℕ
   pub reply : settled.reply ≡ Some bytes
-  pub written : Written (reply_of (grounds_of before failed) d) (limit_of ask.protocol (reply_of (grounds_of before failed) d).edns) bytes
+  pub written : Written (reply_of (grounds_of before failed) d)
+      (limit_of d.request.payload ask.protocol (reply_of (grounds_of before failed) d).edns) bytes
   pub ended : SeenOf K
   pub ends : Ends keeper before ask (case_batch before.zone before.allow_update d.case) failed settled.receipt ended
   pub counted : after ≡ record ended {

@@ -1,5 +1,5 @@
 -- The case of a message, by the first rule that fits (RFC 1035 4.1.1, RFC 2136 2.2, RFC 6891 6.1.3).
-use Rattle.std.specs.Prelude.{◌≡◌, List, [], ◌∷◌, Option, Some, None, Bool, true, false, not, is_err, nat_lt, ◌==◌, ◌||◌, if◌then◌else◌}
+use Rattle.std.specs.Prelude.{◌≡◌, ℕ, List, [], ◌∷◌, Option, Some, None, Bool, true, false, not, is_err, nat_lt, ◌==◌, ◌||◌, if◌then◌else◌}
 use Rattle.dns_io.specs.declared.peer.Protocol.{Protocol}
 use Rattle.dns_wire.specs.declared.header.Header.{Header}
 use Rattle.dns_wire.specs.declared.edns.Edns.{Edns}
@@ -59,13 +59,13 @@ request_in (Some h) = if h.qr then None else Some h
 unfoldable pub request_of : Ask → Option Header
 request_of ask = if is_err (sanitized ask.source) then None else request_in (header_of ask.bytes)
 
--- what a reply takes from a request of which nothing but the header is read
-abbrev pub header_alone : Protocol → Header → Request
-header_alone protocol h = record { protocol = protocol; header = h; edns = None }
+-- what a reply takes from a request of which nothing but the header is read, where no datagram has more than `most` bytes
+abbrev pub header_alone : ℕ → Protocol → Header → Request
+header_alone most protocol h = record { payload = most; protocol = protocol; header = h; edns = None }
 
--- what a reply takes from a message that was read
-abbrev pub request_by : Protocol → Message → Request
-request_by protocol m = record { protocol = protocol; header = m.header; edns = m.edns }
+-- what a reply takes from a message that was read, where no datagram has more than `most` bytes
+abbrev pub request_by : ℕ → Protocol → Message → Request
+request_by most protocol m = record { payload = most; protocol = protocol; header = m.header; edns = m.edns }
 
 -- what is decided of a message: no reply; or else, from a source that is shut out, a case with its question where there is
 -- exactly one that reads, whatever the message is; or else that it is no message; or else the case of the message that it is
@@ -73,10 +73,10 @@ pub data Decides (zone : Contents) (access : Access) (ask : Ask) : Option Decisi
   silent : request_of ask ≡ None → Decides zone access ask None
   shut_out : (h : Header) → request_of ask ≡ Some h → lets_in access ask.source.ip ≡ false
       → (question : Option Question) → ReadsOne (OneQuestionAt ask.bytes) question
-      → Decides zone access ask (Some (record { request = header_alone ask.protocol h; case = ShutOut question }))
+      → Decides zone access ask (Some (record { request = header_alone access.payload ask.protocol h; case = ShutOut question }))
   malformed : (h : Header) → request_of ask ≡ Some h → lets_in access ask.source.ip ≡ true
       → ((m : Message) → MessageAt ask.bytes m → ⊥)
-      → Decides zone access ask (Some (record { request = header_alone ask.protocol h; case = Malformed }))
+      → Decides zone access ask (Some (record { request = header_alone access.payload ask.protocol h; case = Malformed }))
   read : (h : Header) → request_of ask ≡ Some h → lets_in access ask.source.ip ≡ true
       → (m : Message) → MessageAt ask.bytes m
-      → Decides zone access ask (Some (record { request = request_by ask.protocol m; case = message_case zone m }))
+      → Decides zone access ask (Some (record { request = request_by access.payload ask.protocol m; case = message_case zone m }))

@@ -1,5 +1,5 @@
 -- What a message is owed (RFC 1034 4.3, RFC 2136 3, RFC 6891 6.1).
-use Rattle.std.specs.Prelude.{◌≡◌, ℕ, ◌/◌, ◌≤◌, max, List, [], length, Option, Some, None, IfSome, Bool, true, false, if◌then◌else◌}
+use Rattle.std.specs.Prelude.{◌≡◌, ℕ, ◌/◌, ◌≤◌, max, min, List, [], length, Option, Some, None, IfSome, Bool, true, false, if◌then◌else◌}
 use Rattle.std.specs.List.{AllByRecursion}
 use Rattle.std.specs.Option.{option_map}
 use Rattle.dns_io.specs.declared.peer.Protocol.{Protocol}
@@ -41,15 +41,16 @@ abbrev pub edns_for : ℕ → Option Edns → Option Edns
 edns_for code None = None
 edns_for code (Some e) = Some (record { payload = max 512 e.payload; extended = code / 16; version = 0; dnssec_ok = e.dnssec_ok })
 
--- how many bytes a reply may take: a datagram's what its OPT says, 512 without one (RFC 1035 4.2.1, RFC 6891 6.2.3)
-abbrev pub limit_of : Protocol → Option Edns → ℕ
-limit_of Udp None = 512
-limit_of Udp (Some e) = e.payload
-limit_of Tcp edns = 65535
-limit_of Tls edns = 65535
-limit_of Https edns = 65535
-limit_of Quic edns = 65535
-limit_of H3 edns = 65535
+-- how many bytes a reply may take, where no datagram has more than `most`: a datagram's what its OPT says, 512 without one
+-- (RFC 1035 4.2.1, RFC 6891 6.2.3, 6.2.5)
+abbrev pub limit_of : ℕ → Protocol → Option Edns → ℕ
+limit_of most Udp None = 512
+limit_of most Udp (Some e) = min e.payload most
+limit_of most Tcp edns = 65535
+limit_of most Tls edns = 65535
+limit_of most Https edns = 65535
+limit_of most Quic edns = 65535
+limit_of most H3 edns = 65535
 
 -- a reply to a request: opcode, RD and CD are the request's
 abbrev pub reply_to : Request → ℕ → Bool → Option Question → List Record → Reply
@@ -130,17 +131,17 @@ pub record Owes (grounds : Grounds) (access : Access) (ask : Ask) (reply : Optio
   pub is : reply ≡ option_map (reply_of grounds) decision
 
 -- a reply in its written form, within its limit
-abbrev pub IsWritten : Protocol → Option Reply → Option (List ℕ) → Type 0
-IsWritten protocol None None = Unit {0}
-IsWritten protocol None (Some bytes) = ⊥
-IsWritten protocol (Some reply) None = ⊥
-IsWritten protocol (Some reply) (Some bytes) = Written reply (limit_of protocol reply.edns) bytes
+abbrev pub IsWritten : ℕ → Protocol → Option Reply → Option (List ℕ) → Type 0
+IsWritten most protocol None None = Unit {0}
+IsWritten most protocol None (Some bytes) = ⊥
+IsWritten most protocol (Some reply) None = ⊥
+IsWritten most protocol (Some reply) (Some bytes) = Written reply (limit_of most protocol reply.edns) bytes
 
 -- the bytes that a message is owed
 pub record OwesBytes (grounds : Grounds) (access : Access) (ask : Ask) (bytes : Option (List ℕ)) : Type 0 where
   pub decision : Option Decision
   pub decided : Decides grounds.zone access ask decision
-  pub written : IsWritten ask.protocol (option_map (reply_of grounds) decision) bytes
+  pub written : IsWritten access.payload ask.protocol (option_map (reply_of grounds) decision) bytes
 
 -- a reply whose OPT lets at least 512 bytes in
 abbrev pub HasRoom : Reply → Type 0

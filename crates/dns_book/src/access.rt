@@ -1,4 +1,4 @@
-//! Which sources are let in.
+//! Which sources are let in, and how large a datagram may go out.
 
 ghost use Rattle.std.specs.Prelude.{◌≡◌, ◌/◌, ◌≤◌, ◌<◌, ◌^◌, ◌++◌, take, OnOk, OnErr, []};
 ghost use Rattle.std.specs.Str.{bytes_eq};
@@ -98,37 +98,75 @@ fn front_of(width: u32, prefix: u8, number: u128) -> u128
     }
 }
 
-/// The networks that are let in, and those that are shut out.
+/// The greatest datagram that IPv4 carries, in bytes: 65,535, less 20 of its own header (RFC 791 3.1) and 8 of UDP's (RFC 768).
+pub const MAX_PAYLOAD: u16 = 65_507;
+
+/// Who is let in, and how large a datagram may go out: the networks that are let in, those that are shut out, and how many bytes a
+/// datagram has at most that is sent, 512 to 65,507, whatever the OPT of its request offers (RFC 6891 6.2.5).
 #[derive(Debug, Drop)]
 pub struct AccessControl {
     allowed: Vec<IpNet>,
     denied: Vec<IpNet>,
+    payload: u16,
 }
 
 impl Model for AccessControl {
-    ghost use Rattle.dns_book.specs.Access.{Access};
+    ghost use Rattle.dns_book.specs.Access.{Access, IsPayload};
 
     ghost Value = { Access };
 
-    ghost view = { λ a. record { allowed = a.allowed.items; denied = a.denied.items } };
+    ghost view = { λ a. record { allowed = a.allowed.items; denied = a.denied.items; payload = a.payload } };
+
+    ghost invariant = { λ a. IsPayload a.payload };
 }
 
 impl AccessControl {
-    /// No networks: every source is let in. Takes no memory.
+    /// No networks: every source is let in. A datagram has at most the 65,507 bytes that IPv4 carries. Takes no memory.
     pub fn new(alloc: Global) -> AccessControl
-        ensures { result ≡ record { allowed = []; denied = [] } }
+        ensures { result ≡ record { allowed = []; denied = []; payload = 65507 } }
     {
         AccessControl {
             allowed: Vec::new(alloc),
             denied: Vec::new(alloc),
+            payload: MAX_PAYLOAD,
         }
     }
 
-    /// These networks. Takes no memory.
+    /// These networks. A datagram has at most the 65,507 bytes that IPv4 carries. Takes no memory.
     pub fn from_networks(denied: Vec<IpNet>, allowed: Vec<IpNet>) -> AccessControl
-        ensures { result ≡ record { allowed = allowed.items; denied = denied.items } }
+        ensures { result ≡ record { allowed = allowed.items; denied = denied.items; payload = 65507 } }
     {
-        AccessControl { allowed, denied }
+        AccessControl {
+            allowed,
+            denied,
+            payload: MAX_PAYLOAD,
+        }
+    }
+
+    /// The same networks; a datagram has at most so many bytes. Takes no memory.
+    pub fn with_payload(self, most: u16) -> AccessControl
+        requires least { 512 ≤ most }
+        requires most { most ≤ 65507 }
+        ensures { result ≡ record self { payload = most } }
+    {
+        let AccessControl {
+            allowed,
+            denied,
+            payload: _,
+        } = self;
+        AccessControl {
+            allowed,
+            denied,
+            payload: most,
+        }
+    }
+
+    /// How many bytes a datagram has at most that is sent.
+    pub(crate) fn payload(&self) -> u16
+        ensures is { result ≡ self.now.payload }
+        ensures least { 512 ≤ result }
+    {
+        self.payload
     }
 
     /// Adds networks that are let in. Nothing has changed where memory ran out.

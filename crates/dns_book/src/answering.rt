@@ -101,13 +101,16 @@ pub(crate) fn append(
     out: &mut Vec<u8>,
     is_framed: bool,
 ) -> Result<Appended, OutOfMemory>
-    requires { HasRoom reply.now }
-    ensures appends { IfOk result (Appends reply.now (limit_of request.now.protocol reply.now.edns) is_framed out.old.items out.new.items) }
+    requires room { HasRoom reply.now }
+    requires payload { 512 ≤ request.now.payload }
+    ensures appends { IfOk result (Appends reply.now (limit_of request.now.payload request.now.protocol reply.now.edns)
+        is_framed out.old.items out.new.items) }
     ensures short { IfOk result (λ appended. appended.len ≤ 65535) }
     ensures err { OnErr result (out.new.items ≡ out.old.items) }
-    ensures limit { limit_of request.now.protocol reply.now.edns ≤ 65535 }
+    ensures limit { limit_of request.now.payload request.now.protocol reply.now.edns ≤ 65535 }
 {
-    reply.append(out, limit_of(request.protocol, reply.edns), is_framed)
+    let limit = limit_of(request.payload, request.protocol, reply.edns);
+    reply.append(out, limit, is_framed)
 }
 
 /// Writes a reply at the end of a buffer, within its limit, and counts it with its message. Where memory runs out the buffer is as it was, and
@@ -120,7 +123,8 @@ pub(crate) fn put(
     out: &mut Vec<u8>,
     is_framed: bool,
 ) -> Result<(), OutOfMemory>
-    requires { HasRoom reply.now }
+    requires room { HasRoom reply.now }
+    requires payload { 512 ≤ request.now.payload }
     ensures ok { OnOk result (IsPut request.now question reply.now is_framed out.old.items out.new.items counts.old counts.new) }
     ensures err { OnErr result (counts.new ≡ counts.old) }
     ensures out { OnErr result (out.new.items ≡ out.old.items) }
@@ -141,7 +145,8 @@ pub(crate) fn put_looked<'a>(
     out: &mut Vec<u8>,
     is_framed: bool,
 ) -> Result<(), OutOfMemory>
-    requires { is_at_or_below question.now.name zone.now.origin ≡ true }
+    requires fit { is_at_or_below question.now.name zone.now.origin ≡ true }
+    requires payload { 512 ≤ request.now.payload }
     ensures ok { OnOk result (IsPut request.now (Some (question.now.qtype, question.now.qclass))
         (looked_reply request.now question.now (lookup_of zone.now question.now.name question.now.qtype))
         is_framed out.old.items out.new.items counts.old counts.new) }
@@ -213,16 +218,17 @@ fn edns_for(code: u16, edns: Option<Edns>) -> Option<Edns>
     }
 }
 
-/// How many bytes a reply with this OPT may take: a datagram's what the OPT says, 512 without one.
-fn limit_of(protocol: Protocol, edns: Option<Edns>) -> u16
-    requires { IfSome edns (λ e. 512 ≤ e.payload) }
-    ensures is { result ≡ limit_of protocol edns }
+/// How many bytes a reply with this OPT may take, where no datagram has more than `most`: a datagram's what the OPT says, 512 without one.
+fn limit_of(most: u16, protocol: Protocol, edns: Option<Edns>) -> u16
+    requires edns { IfSome edns (λ e. 512 ≤ e.payload) }
+    requires most { 512 ≤ most }
+    ensures is { result ≡ limit_of most protocol edns }
     ensures least { 512 ≤ result }
 {
     match protocol {
         Protocol::Udp => match edns {
             None => MIN_UDP_PAYLOAD,
-            Some(edns) => edns.payload,
+            Some(edns) => edns.payload.min(most),
         },
         _ => MAX_MESSAGE_LEN,
     }

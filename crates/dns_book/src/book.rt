@@ -43,10 +43,10 @@ impl<K: Keeper> Model for Book<K> {
 
 impl<K: Keeper> Book<K> {
     /// Settles one message at its moment: gives the reply that it is owed, within its limit, where `access` says which
-    /// sources are let in, and what it did to the journal. An update that passes and changes the zone is journalled by one
-    /// append, and then the zone has changed; where the keeper fails, it has not, and the reply is ServFail. Where memory
-    /// ran out, nothing has changed. Once a batch is journalled a crash leaves just the rows and the batches; where that was refused it
-    /// may leave them with the whole batch too.
+    /// sources are let in and how large a datagram may go out, and what it did to the journal. An update that passes and
+    /// changes the zone is journalled by one append, and then the zone has changed; where the keeper fails, it has not, and
+    /// the reply is ServFail. Where memory ran out, nothing has changed. Once a batch is journalled a crash leaves just the
+    /// rows and the batches; where that was refused it may leave them with the whole batch too.
     pub fn settle(&mut self, access: &AccessControl, ask: &Ask) -> Result<Settled, OutOfMemory>
         requires moment { ask.now.at < 2 ^ 47 }
         requires bytes { length ask.now.bytes ≤ 65535 }
@@ -91,22 +91,23 @@ impl<K: Keeper> Book<K> {
             return Ok(self.told(false, None));
         };
         let (alloc, protocol) = (self.alloc, ask.protocol);
+        let payload = access.payload();
         if !access.allow(&ask.source.ip) {
             let question = read_one_question(alloc, ask.bytes)?;
-            let decision = decide_shut_out(protocol, header, &question);
+            let decision = decide_shut_out(payload, protocol, header, &question);
             return self.carry_out(ask, &decision, out, is_framed);
         }
         if let Some(query) = query_behind(header, ask.bytes) {
-            let decision = decide_query(self.store.zone(), protocol, &query);
+            let decision = decide_query(self.store.zone(), payload, protocol, &query);
             return self.carry_out(ask, &decision, out, is_framed);
         }
         match message_in(alloc, ask.bytes)? {
             Some(message) => {
-                let decision = decide_message(self.store.zone(), protocol, &message);
+                let decision = decide_message(self.store.zone(), payload, protocol, &message);
                 self.carry_out(ask, &decision, out, is_framed)
             }
             None => {
-                let decision = decide_malformed(protocol, header);
+                let decision = decide_malformed(payload, protocol, header);
                 self.carry_out(ask, &decision, out, is_framed)
             }
         }

@@ -19,9 +19,11 @@ use dns_zone::Zone;
 use std::alloc::Global;
 use std::marker::Model;
 
-/// What a reply takes from its request.
+/// What a reply takes from its request, and how large it may go out.
 #[derive(Clone, Copy, Debug)]
 pub(crate) struct Request {
+    /// How many bytes a datagram has at most that is sent.
+    pub(crate) payload: u16,
     /// How it came.
     pub(crate) protocol: Protocol,
     /// Its header.
@@ -91,39 +93,46 @@ pub(crate) fn request_of(ask: &LentAsk<'_>) -> Option<Header>
 
 /// What is decided of a message from a source that is shut out.
 pub(crate) fn decide_shut_out<'a>(
+    payload: u16,
     protocol: Protocol,
     header: Header,
     question: &'a Option<Question>,
 ) -> Decision<'a>
-    ensures { result ≡ record { request = header_alone protocol header; case = ShutOut question.now } }
+    ensures { result ≡ record { request = header_alone payload protocol header; case = ShutOut question.now } }
 {
     let question = match question {
         None => None,
         Some(question) => Some(question.lent()),
     };
     Decision {
-        request: header_alone(protocol, header),
+        request: header_alone(payload, protocol, header),
         case: Case::ShutOut { question },
     }
 }
 
 /// What is decided of bytes that are outside the grammar of messages.
-pub(crate) fn decide_malformed<'a>(protocol: Protocol, header: Header) -> Decision<'a>
-    ensures { result ≡ record { request = header_alone protocol header; case = Malformed } }
+pub(crate) fn decide_malformed<'a>(payload: u16, protocol: Protocol, header: Header) -> Decision<'a>
+    ensures { result ≡ record { request = header_alone payload protocol header; case = Malformed } }
 {
     Decision {
-        request: header_alone(protocol, header),
+        request: header_alone(payload, protocol, header),
         case: Case::Malformed,
     }
 }
 
 /// What is decided of a query of plain form.
 #[inline(always)]
-pub(crate) fn decide_query<'a>(zone: &Zone, protocol: Protocol, query: &Query<'a>) -> Decision<'a>
-    ensures { result ≡ record { request = request_in protocol query.now; case = plain_case zone.now query.now } }
+pub(crate) fn decide_query<'a>(
+    zone: &Zone,
+    payload: u16,
+    protocol: Protocol,
+    query: &Query<'a>,
+) -> Decision<'a>
+    ensures { result ≡ record { request = request_in payload protocol query.now; case = plain_case zone.now query.now } }
 {
     Decision {
         request: Request {
+            payload,
             protocol,
             header: query.header,
             edns: query.edns,
@@ -135,13 +144,15 @@ pub(crate) fn decide_query<'a>(zone: &Zone, protocol: Protocol, query: &Query<'a
 /// What is decided of a message that was read whole.
 pub(crate) fn decide_message<'a>(
     zone: &Zone,
+    payload: u16,
     protocol: Protocol,
     message: &'a Message,
 ) -> Decision<'a>
-    ensures { result ≡ record { request = request_by protocol message.now; case = message_case zone.now message.now } }
+    ensures { result ≡ record { request = request_by payload protocol message.now; case = message_case zone.now message.now } }
 {
     Decision {
         request: Request {
+            payload,
             protocol,
             header: message.header,
             edns: message.edns,
@@ -151,10 +162,11 @@ pub(crate) fn decide_message<'a>(
 }
 
 /// What a reply takes from a request of which nothing but the header is read.
-fn header_alone(protocol: Protocol, header: Header) -> Request
-    ensures { result ≡ header_alone protocol header }
+fn header_alone(payload: u16, protocol: Protocol, header: Header) -> Request
+    ensures { result ≡ header_alone payload protocol header }
 {
     Request {
+        payload,
         protocol,
         header,
         edns: None,

@@ -15,8 +15,9 @@ ghost use Rattle.dns_book.specs.Owed.{Grounds, id_for, edns_for, limit_of, Owes,
 ghost use Rattle.dns_book.specs.Book.{SeenOf, Settles};
 ghost use Rattle.dns_io.specs.Told.{Rose};
 ghost use Rattle.dns_io.specs.declared.peer.Ip.{Ip as Address};
+ghost use Rattle.dns_io.specs.declared.peer.Protocol.TheVariants.{Udp};
 ghost use Rattle.dns_book.specs.declared.access.IpNet.{IpNet as Network};
-ghost use Rattle.dns_book.specs.Access.{Access, lets_in, is_one_family, address_bits, share_front, net_of, lies_in};
+ghost use Rattle.dns_book.specs.Access.{Access, IsPayload, lets_in, is_one_family, address_bits, share_front, net_of, lies_in};
 
 use dns_keeper::Keeper;
 use dns_wire::laws::{standing_messages, written_replies};
@@ -34,15 +35,19 @@ pub fn owed_replies()
     ensures header { (grounds : Grounds) (access : Access) (ask : Asked) (h : Header) (bytes : List ℕ)
         → header_of ask.bytes ≡ Some h → h.id < 2 ^ 16
         → OwesBytes grounds access ask (Some bytes) → IsSomeAnd (header_of bytes) (λ r. (r.id ≡ id_for ask.protocol h.id) × (r.qr ≡ true)) }
-    // It is within the limit that the request sets: over UDP 512 bytes, or what its OPT says where that is more.
-    ensures limit { (grounds : Grounds) (access : Access) (ask : Asked) (m : Read) (bytes : List ℕ) → MessageAt ask.bytes m
-        → OwesBytes grounds access ask (Some bytes) → length bytes ≤ limit_of ask.protocol (edns_for 0 m.edns) }
+    // It is within the limit that the request sets: over UDP 512 bytes, or what its OPT says where that is more, as far as a datagram goes.
+    ensures limit { (grounds : Grounds) (access : Access) (ask : Asked) (m : Read) (bytes : List ℕ) → IsPayload access.payload
+        → MessageAt ask.bytes m → OwesBytes grounds access ask (Some bytes)
+        → length bytes ≤ limit_of access.payload ask.protocol (edns_for 0 m.edns) }
+    // Whatever the request's OPT says, a datagram has no more bytes than it may have.
+    ensures datagram { (grounds : Grounds) (access : Access) (ask : Asked) (bytes : List ℕ) → IsPayload access.payload → ask.protocol ≡ Udp
+        → OwesBytes grounds access ask (Some bytes) → length bytes ≤ access.payload }
     // Where the request is no message, it is within the limit without an OPT.
     ensures malformed { (grounds : Grounds) (access : Access) (ask : Asked) (bytes : List ℕ) → ((m : Read) → MessageAt ask.bytes m → ⊥)
-        → OwesBytes grounds access ask (Some bytes) → length bytes ≤ limit_of ask.protocol None }
+        → OwesBytes grounds access ask (Some bytes) → length bytes ≤ limit_of access.payload ask.protocol None }
     // So it is where the source is shut out.
     ensures shut_out { (grounds : Grounds) (access : Access) (ask : Asked) (bytes : List ℕ) → lets_in access ask.source.ip ≡ false
-        → OwesBytes grounds access ask (Some bytes) → length bytes ≤ limit_of ask.protocol None }
+        → OwesBytes grounds access ask (Some bytes) → length bytes ≤ limit_of access.payload ask.protocol None }
     // The reply to a source that is shut out is Refused (5), without records and without an OPT.
     ensures refused { (grounds : Grounds) (access : Access) (ask : Asked) (reply : Replied) → lets_in access ask.source.ip ≡ false
         → Owes grounds access ask (Some reply) → (reply.code ≡ 5) × (reply.answers ≡ []) × (reply.edns ≡ None) }

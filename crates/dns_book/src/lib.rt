@@ -11,7 +11,7 @@ mod opening;
 mod reply_bytes;
 mod settling;
 
-pub use access::{AccessControl, IpNet};
+pub use access::{AccessControl, IpNet, MAX_PAYLOAD};
 pub use ask::{Ask, LentAsk, Receipt, Settled, SettledInto, UnsafeSource, sanitize_src_address};
 pub use book::Book;
 pub use dns_store::{OpenFault, OpenKind};

@@ -1,6 +1,6 @@
 //! How what was decided of a message is carried out: its reply, the one append, the zone, the counts.
 
-ghost use Rattle.std.specs.Prelude.{◌≡◌, ◌<◌, ◌^◌, [], Bool, List, ℕ, if◌then◌else◌, IfOk, OnErr, None, false};
+ghost use Rattle.std.specs.Prelude.{◌≡◌, ◌<◌, ◌≤◌, ◌^◌, [], Bool, List, ℕ, if◌then◌else◌, IfOk, OnErr, None, false};
 ghost use Rattle.dns_wire.specs.declared.message.Message.{Message as Read};
 ghost use Rattle.dns_counts.specs.Counters.{changed};
 ghost use Rattle.dns_update.specs.Change.{batch_of};
@@ -37,6 +37,7 @@ impl<K: Keeper> Book<K> {
         requires moment { ask.now.at < 2 ^ 47 }
         requires fit { IsFit self.old.zone decision.now.case }
         requires protocol { decision.now.request.protocol ≡ ask.now.protocol }
+        requires payload { 512 ≤ decision.now.request.payload }
         ensures { Carries K.keeper self.old ask.now decision.now is_framed out.old.items out.new.items result self.new }
     {
         match &decision.case {
@@ -78,6 +79,7 @@ impl<K: Keeper> Book<K> {
             ≡ reply_to decision.now.request code false question.now [] }
         requires batch { case_batch self.old.zone self.old.allow_update decision.now.case ≡ [] }
         requires protocol { decision.now.request.protocol ≡ ask.now.protocol }
+        requires payload { 512 ≤ decision.now.request.payload }
         ensures { Carries K.keeper self.old ask.now decision.now is_framed out.old.items out.new.items result self.new }
     {
         let reply = code_reply(&decision.request, code, question);
@@ -105,6 +107,7 @@ impl<K: Keeper> Book<K> {
         requires case { decision.now.case ≡ case.Query question.now }
         requires fit { IsFit self.old.zone decision.now.case }
         requires protocol { decision.now.request.protocol ≡ ask.now.protocol }
+        requires payload { 512 ≤ decision.now.request.payload }
         ensures { Carries K.keeper self.old ask.now decision.now is_framed out.old.items out.new.items result self.new }
     {
         let (alloc, counts) = (self.alloc, &mut self.counts);
@@ -135,6 +138,7 @@ impl<K: Keeper> Book<K> {
         requires case { decision.now.case ≡ case.Update message.now }
         requires fit { IsFit self.old.zone decision.now.case }
         requires protocol { decision.now.request.protocol ≡ ask.now.protocol }
+        requires payload { 512 ≤ decision.now.request.payload }
         ensures { Carries K.keeper self.old ask.now decision.now is_framed out.old.items out.new.items result self.new }
     {
         let question = only_question(&message.questions);
@@ -169,6 +173,7 @@ impl<K: Keeper> Book<K> {
             ≡ batch_of self.old.zone.origin self.old.zone.records updates.now }
         requires counted { counted_question decision.now.case ≡ None }
         requires protocol { decision.now.request.protocol ≡ ask.now.protocol }
+        requires payload { 512 ≤ decision.now.request.payload }
         ensures { Carries K.keeper self.old ask.now decision.now is_framed out.old.items out.new.items result self.new }
     {
         let request = &decision.request;

@@ -4,7 +4,5 @@
 mod numbers;
 mod query;
 mod query_name;
-#[cfg(test)]
-mod tests;
 
 pub use query::{Query, query_behind, read_query};

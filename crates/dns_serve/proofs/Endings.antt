@@ -21,9 +21,9 @@ use Rattle.dns_command.specs.Completeness.{HasZone}
 use Rattle.dns_command.specs.Counts.{ComesOf, with_line, CountsJournal, CountsWriting, FailsSome}
 use Rattle.dns_command.specs.Lines.{serve_lines}
 use Rattle.dns_command.specs.Parts.{OpensBook}
-use Rattle.dns_command.specs.Serving.{opening_journal}
-use Rattle.dns_command.specs.ServingParts.{port_status}
-use Rattle.dns_command.specs.ServeEnds.{IsCutOf, in_refusal, in_closing, with_closing, with_refusal, with_write_fault, cut_for_memory, refused_for_memory, ListTells}
+use Rattle.dns_command.specs.Ends.{opening_journal}
+use Rattle.dns_command.specs.Status.{port_status}
+use Rattle.dns_command.specs.ServingEnds.{IsCutOf, in_refusal, in_closing, with_closing, with_refusal, with_write_fault, cut_for_memory, refused_for_memory, ListTells}
 use Rattle.dns_command.specs.Status.{is_fault}
 use Rattle.dns_command.specs.Steps.{Finds, OpensNot}
 use Rattle.dns_command.specs.World.{World, IsStill, IsStillJournal}
@@ -31,8 +31,8 @@ use Rattle.dns_words.specs.Writing.{IsUntouched}
 use Rattle.dns_command.proofs.Completing.{of_finding, of_opening}
 use Rattle.dns_command.proofs.Counting.{Kept, untouched, unwritten, of_found, of_unfound, of_unfound_journal, of_unopened}
 use Rattle.dns_command.proofs.Endings.{journal_of, Finds-on, OpensNot-earlier, IsOpened-earlier, IsOpened-told, IsOpened-still}
-use Rattle.dns_command.proofs.Loops.{zero_or_more}
-use Rattle.dns_command.proofs.ServeEndings.{GivesWay, gives_way_by_fault, gives_way_by_want}
+use Rattle.dns_command.proofs.Counting.{zero_or_more}
+use Rattle.dns_command.proofs.ServingEndings.{GivesWay, gives_way_by_fault, gives_way_by_want}
 use Rattle.dns_command.proofs.Told.{NeverBegins-told}
 use Rattle.dns_crowd_server.specs.Hubs.{CrowdHubTold, their_faults}
 use Rattle.dns_crowd_server.specs.Serving.{EndsServing, unshared, unopened, served, crew_answer, failed_in, failed_updates}

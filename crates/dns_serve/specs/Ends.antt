@@ -7,7 +7,7 @@ use Rattle.dns_command.specs.declared.status.Status.{Status}
 use Rattle.dns_command.specs.declared.status.Status.TheVariants as status
 use Rattle.dns_command.specs.Completeness.{Completes, HasZone}
 use Rattle.dns_command.specs.Ends.{Ends}
-use Rattle.dns_command.specs.ServeEnds.{ServingEnds}
+use Rattle.dns_command.specs.ServingEnds.{ServingEnds}
 use Rattle.dns_command.specs.World.{World}
 use Rattle.dns_words.specs.Writing.{IsUntouched}
 use Rattle.dns_crowd_server.specs.Hubs.{CrowdHubTold}

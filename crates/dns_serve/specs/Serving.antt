@@ -18,8 +18,8 @@ use Rattle.dns_command.specs.declared.opening.Opening.{Opening}
 use Rattle.dns_command.specs.CommandLine.{access_of}
 use Rattle.dns_command.specs.Ends.{IsOpened}
 use Rattle.dns_command.specs.Lines.{serve_lines}
-use Rattle.dns_command.specs.Serving.{opening_journal}
-use Rattle.dns_command.specs.ServingParts.{port_status}
+use Rattle.dns_command.specs.Ends.{opening_journal}
+use Rattle.dns_command.specs.Status.{port_status}
 use Rattle.dns_command.specs.Steps.{Finds, FindsNot, OpensNot}
 use Rattle.dns_command.specs.World.{World}
 use Rattle.dns_words.specs.Writing.{IsUntouched}

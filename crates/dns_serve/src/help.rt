@@ -13,7 +13,7 @@ usage: dns serve ORIGIN [--udp=IP:PORT] [--tcp=IP:PORT] [--connections=N] [--lim
        dns --help | --version
 
 options of serve and events:
-       [--zone=PATH] [--journal=PATH] [--update] [--deny=IP/PREFIX]... [--allow=IP/PREFIX]...
+       [--zone=PATH] [--journal=PATH] [--update] [--deny=IP/PREFIX]... [--allow=IP/PREFIX]... [--payload=N]
 
 serve answers what comes by UDP and by TCP at these addresses, at least one of them, until its standard input ends. Then
 it writes its two closing lines. IP:PORT is 127.0.0.1:53 or [::1]:53; 0.0.0.0:53 is every IPv4 address, [::]:53 every address.
@@ -47,6 +47,10 @@ answered. Without --update it is Refused.
 most 32 or 128 of them.
 Within the sender's own address family, a sender in an allowed network is let in; else one in a denied network is
 shut out; else it is let in, unless there are allowed networks and no denied ones. Who is shut out gets Refused.
+
+--payload= is how many bytes a datagram has at most that is sent, 512 to 65507, whatever the EDNS OPT of the query offers; 65507 where it
+does not stand, which is all that IPv4 carries. A reply that does not fit is cut, and says so (TC): it is to be asked for by TCP. 1232 keeps
+replies from being cut into fragments on the way, and small for whoever has them sent to somebody else.
 
 An event line is one of these, with one space between words:
   A AT CONN IP PORT LIMIT  a connection was accepted

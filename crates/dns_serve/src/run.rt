@@ -15,18 +15,18 @@ ghost use Rattle.dns_serve.specs.Serving.{meanings};
 ghost use Rattle.dns_serve.specs.Words.{serving_of};
 
 use crate::words::{Service, service_of};
-use dns_book::{AccessControl, Book};
+use dns_book::Book;
+use dns_command::command_line::access_of;
 use dns_command::opening::{find_opening, open_book};
-use dns_command::output::refuse;
-use dns_command::ports::port_status;
-use dns_command::run::finish;
+use dns_command::output::{finish, refuse};
 use dns_command::run_list::run_list;
-use dns_command::{Ended, Status};
+use dns_command::{Ended, Status, port_status};
 use dns_crowd_server::{CrowdHub, Served, serve_book};
 use dns_edges::{Clock, Sink, Source};
 use dns_io::OutOfMemory;
 use dns_keeper::Keeper;
 use std::alloc::Global;
+use std::rt;
 use std::sync::Wait;
 use std::thread::Threads;
 
@@ -36,7 +36,7 @@ use std::thread::Threads;
 /// opened where the words say, and what comes to them is settled and answered until the source `events` ends or fails; then they are handed
 /// back to the hub. Any other words are those of [`run_list`], which uses no hub. This call waits for the peers.
 pub fn run<
-    R: Threads + Wait + Sync,
+    R: Threads + Wait + rt::Clock + Sync,
     Z: Source,
     E: Source,
     W: Sink,
@@ -85,7 +85,7 @@ where
 
 /// Does what the words of `serve` say.
 fn serve<
-    R: Threads + Wait + Sync,
+    R: Threads + Wait + rt::Clock + Sync,
     Z: Source,
     E: Source,
     W: Sink,
@@ -159,7 +159,7 @@ where
 }
 
 /// Serves a book that was opened.
-fn serve_opened<R: Threads + Wait + Sync, E: Source, K: Keeper + Send, H: CrowdHub>(
+fn serve_opened<R: Threads + Wait + rt::Clock + Sync, E: Source, K: Keeper + Send, H: CrowdHub>(
     rt: &R,
     alloc: Global,
     service: Service,
@@ -179,9 +179,6 @@ where
     ensures later { (E.source.told until.old).faults ≤ (E.source.told until.new).faults }
 {
     let Service { options, places } = service;
-    let access = AccessControl::from_networks(
-        options.denied.into_vec(),
-        options.allowed.into_vec(),
-    );
+    let access = access_of(options);
     serve_book(rt, alloc, book, &access, &places, until, hub)
 }

@@ -34,7 +34,7 @@ pub trait RequestHandler {
     ghost skips: { Self → Self → Type 0 };
 
     /// Settles one message at its moment (milliseconds, below 2^47), which has at most 65,535 bytes: gives the reply that
-    /// it is owed, where `access` says which sources are let in, and what it did to the journal.
+    /// it is owed, where `access` says which sources are let in and how large a datagram may go out, and what it did to the journal.
     fn handle_request(&mut self, access: &AccessControl, ask: &Ask) -> Result<Settled, OutOfMemory>
         requires moment { ask.now.at < 2 ^ 47 }
         requires bytes { length ask.now.bytes ≤ 65535 }

@@ -18,7 +18,7 @@ use std::alloc::Global;
 use std::marker::Model;
 use std::mem;
 
-/// A handler, which sources are let in, the replies so far, and how many messages were settled.
+/// A handler, which sources are let in and how large a datagram may go out, the replies so far, and how many messages were settled.
 #[derive(Drop)]
 pub(crate) struct Responder<H> {
     handler: H,

@@ -44,7 +44,7 @@ impl<T> Model for Server<T> {
 impl<T> Server<T> {
     /// A server to which nothing has happened yet, and which lets every source in. Takes no memory.
     pub fn new(alloc: Global, handler: T) -> Server<T>
-        ensures { result ≡ record { handler = handler; access = record { allowed = []; denied = [] }; kept = new_kept } }
+        ensures { result ≡ record { handler = handler; access = record { allowed = []; denied = []; payload = 65507 }; kept = new_kept } }
     {
         Server {
             responder: Responder::new(alloc, handler, AccessControl::new(alloc)),
@@ -60,10 +60,21 @@ impl<T> Server<T> {
         denied: Vec<IpNet>,
         allowed: Vec<IpNet>,
     ) -> Server<T>
-        ensures { result
-            ≡ record { handler = handler; access = record { allowed = allowed.items; denied = denied.items }; kept = new_kept } }
+        ensures { result ≡ record {
+          handler = handler;
+          access = record { allowed = allowed.items; denied = denied.items; payload = 65507 };
+          kept = new_kept;
+        } }
     {
         let access = AccessControl::from_networks(denied, allowed);
+        Server::with_control(alloc, handler, access)
+    }
+
+    /// A server to which nothing has happened yet, where this says who is let in and how large a datagram may go out. Takes no
+    /// memory.
+    pub fn with_control(alloc: Global, handler: T, access: AccessControl) -> Server<T>
+        ensures { result ≡ record { handler = handler; access = access; kept = new_kept } }
+    {
         Server {
             responder: Responder::new(alloc, handler, access),
             sessions: Sessions::new(alloc),

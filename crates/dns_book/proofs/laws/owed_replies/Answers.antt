@@ -1,4 +1,4 @@
-use Rattle.dns_book.proofs.Replying.{Owes-one, OwesBytes-one, OwesBytes-header, OwesBytes-limit, OwesBytes-malformed, OwesBytes-refused, Owes-refused, OwesBytes-silent}
+use Rattle.dns_book.proofs.Replying.{Owes-one, OwesBytes-one, OwesBytes-header, OwesBytes-limit, OwesBytes-datagram, OwesBytes-malformed, OwesBytes-refused, Owes-refused, OwesBytes-silent}
 use Rattle.dns_book.proofs.Deciding.{same_decision}
 use Rattle.dns_book.proofs.laws.owed_replies.Goals as goal
 
@@ -16,6 +16,9 @@ returns-clause-header c = OwesBytes-header c.written_replies.ensures.header
 
 pub returns-clause-limit : goal.returns-clause-limit
 returns-clause-limit c = OwesBytes-limit c.standing_messages.ensures.messages c.written_replies.ensures.short
+
+pub returns-clause-datagram : goal.returns-clause-datagram
+returns-clause-datagram c = OwesBytes-datagram c.written_replies.ensures.short
 
 pub returns-clause-malformed : goal.returns-clause-malformed
 returns-clause-malformed c = OwesBytes-malformed c.written_replies.ensures.short

@@ -1,5 +1,5 @@
 use Rattle.std.proofs.Common.{None, refl, sym, ◌∙◌}
-use Rattle.dns_command.proofs.RunEndings.{if_some}
+use Rattle.dns_command.proofs.ServingEndings.{if_some}
 use Rattle.dns_serve.proofs.Endings.{by_serve, by_events, for_memory}
 use Rattle.dns_serve.proofs.run.run.Goals as goal
 

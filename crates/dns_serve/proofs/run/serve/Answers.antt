@@ -1,5 +1,5 @@
 use Rattle.std.proofs.Common.{Some, None, Err, refl, ap, ◌∙◌}
-use Rattle.dns_command.proofs.ServeEndings.{refused, closing}
+use Rattle.dns_command.proofs.ServingEndings.{refused, closing}
 use Rattle.dns_serve.specs.Serving.{at_finding, unserved}
 use Rattle.dns_serve.proofs.Endings.{opens_none, serves, stops}
 use Rattle.dns_serve.proofs.run.serve.Goals as goal

@@ -24,13 +24,13 @@ returns-in_default-clause-book g c = c.told.ensures.kept
 
 pub returns-then-not-allow-clause-ok : goal.returns-then-not-allow-clause-ok
 returns-then-not-allow-clause-ok g c =
-    let decided = decided_shut_out c.args.self.now.zone c.args.access.now _ c.args.ask.now c.ask.view_is c.in-Some.header (sym c.request_of.ensures ∙ c.in-Some.is) c.decide_shut_out-decision.result
+    let decided = decided_shut_out c.args.self.now.zone c.args.access.now _ c.args.ask.now c.ask.view_is c.payload-payload.result c.payload-payload.ensures.is c.in-Some.header (sym c.request_of.ensures ∙ c.in-Some.is) c.decide_shut_out-decision.result
     (sym c.allow.ensures ∙ c.if-not-allow.true) c.in_ok-question.question c.in_ok-question.ensures c.decide_shut_out-decision.ensures in
     carried_ok g.K.Keeper.keeper c.args.access.now c.args.self.now c.args.ask.now _ c.carry_out.new.self (subst (IsKept g.K.Keeper.keeper) c.self.view_is c.self.invariant) c.carry_out.ensures.kept decided _ _ _ _ c.carry_out.ensures
 
 pub returns-then-not-allow-clause-left : goal.returns-then-not-allow-clause-left
 returns-then-not-allow-clause-left g c =
-    let decided = decided_shut_out c.args.self.now.zone c.args.access.now _ c.args.ask.now c.ask.view_is c.in-Some.header (sym c.request_of.ensures ∙ c.in-Some.is) c.decide_shut_out-decision.result
+    let decided = decided_shut_out c.args.self.now.zone c.args.access.now _ c.args.ask.now c.ask.view_is c.payload-payload.result c.payload-payload.ensures.is c.in-Some.header (sym c.request_of.ensures ∙ c.in-Some.is) c.decide_shut_out-decision.result
     (sym c.allow.ensures ∙ c.if-not-allow.true) c.in_ok-question.question c.in_ok-question.ensures c.decide_shut_out-decision.ensures in
     carried_left g.K.Keeper.keeper c.args.access.now c.args.self.now c.args.ask.now _ c.carry_out.new.self (subst (IsKept g.K.Keeper.keeper) c.self.view_is c.self.invariant) c.carry_out.ensures.kept decided _ _ _ _ c.carry_out.ensures
 
@@ -40,7 +40,7 @@ query_behind-requires g c =
 
 pub returns-in-Some-query_behind-clause-ok : goal.returns-in-Some-query_behind-clause-ok
 returns-in-Some-query_behind-clause-ok g c =
-    let decided = decided_query c.args.self.now.zone c.args.access.now _ c.args.ask.now c.ask.view_is c.in-Some.header (sym c.request_of.ensures ∙ c.in-Some.is) c.decide_query-decision.result
+    let decided = decided_query c.args.self.now.zone c.args.access.now _ c.args.ask.now c.ask.view_is c.payload-payload.result c.payload-payload.ensures.is c.in-Some.header (sym c.request_of.ensures ∙ c.in-Some.is) c.decide_query-decision.result
     (sym c.allow.ensures ∙ c.if-not-allow.false) c.in-Some-query_behind.query c.in-Some-query_behind.ensures.message c.in-Some-query_behind.ensures.plain c.zone.result.now
     (c.zone.ensures.is ∙ ap (λ (b : SeenOf g.row.K.Denot). b.zone) c.self.view_is) c.decide_query-decision.ensures in
     carried_ok g.K.Keeper.keeper c.args.access.now c.args.self.now c.args.ask.now _ c.carry_out-in-Some-query_behind.new.self (subst (IsKept g.K.Keeper.keeper) c.self.view_is c.self.invariant)
@@ -48,7 +48,7 @@ returns-in-Some-query_behind-clause-ok g c =
 
 pub returns-in-Some-query_behind-clause-left : goal.returns-in-Some-query_behind-clause-left
 returns-in-Some-query_behind-clause-left g c =
-    let decided = decided_query c.args.self.now.zone c.args.access.now _ c.args.ask.now c.ask.view_is c.in-Some.header (sym c.request_of.ensures ∙ c.in-Some.is) c.decide_query-decision.result
+    let decided = decided_query c.args.self.now.zone c.args.access.now _ c.args.ask.now c.ask.view_is c.payload-payload.result c.payload-payload.ensures.is c.in-Some.header (sym c.request_of.ensures ∙ c.in-Some.is) c.decide_query-decision.result
     (sym c.allow.ensures ∙ c.if-not-allow.false) c.in-Some-query_behind.query c.in-Some-query_behind.ensures.message c.in-Some-query_behind.ensures.plain c.zone.result.now
     (c.zone.ensures.is ∙ ap (λ (b : SeenOf g.row.K.Denot). b.zone) c.self.view_is) c.decide_query-decision.ensures in
     carried_left g.K.Keeper.keeper c.args.access.now c.args.self.now c.args.ask.now _ c.carry_out-in-Some-query_behind.new.self (subst (IsKept g.K.Keeper.keeper) c.self.view_is c.self.invariant)
@@ -56,7 +56,7 @@ returns-in-Some-query_behind-clause-left g c =
 
 pub returns-in-Some-query_behind-clause-left_unsettled : goal.returns-in-Some-query_behind-clause-left_unsettled
 returns-in-Some-query_behind-clause-left_unsettled g c =
-    let decided = decided_query c.args.self.now.zone c.args.access.now _ c.args.ask.now c.ask.view_is c.in-Some.header (sym c.request_of.ensures ∙ c.in-Some.is) c.decide_query-decision.result
+    let decided = decided_query c.args.self.now.zone c.args.access.now _ c.args.ask.now c.ask.view_is c.payload-payload.result c.payload-payload.ensures.is c.in-Some.header (sym c.request_of.ensures ∙ c.in-Some.is) c.decide_query-decision.result
     (sym c.allow.ensures ∙ c.if-not-allow.false) c.in-Some-query_behind.query c.in-Some-query_behind.ensures.message c.in-Some-query_behind.ensures.plain c.zone.result.now
     (c.zone.ensures.is ∙ ap (λ (b : SeenOf g.row.K.Denot). b.zone) c.self.view_is) c.decide_query-decision.ensures in
     carried_unsettled g.K.Keeper.keeper c.args.access.now c.args.self.now c.args.ask.now _ c.carry_out-in-Some-query_behind.new.self (subst (IsKept g.K.Keeper.keeper) c.self.view_is c.self.invariant)
@@ -64,14 +64,14 @@ returns-in-Some-query_behind-clause-left_unsettled g c =
 
 pub carry_out-requires-in-Some-2-clause-fit : goal.carry_out-requires-in-Some-2-clause-fit
 carry_out-requires-in-Some-2-clause-fit g c =
-    let decided = decided_message c.args.self.now.zone c.args.access.now _ c.args.ask.now c.ask.view_is c.in-Some.header (sym c.request_of.ensures ∙ c.in-Some.is) c.decide_message-decision.result
+    let decided = decided_message c.args.self.now.zone c.args.access.now _ c.args.ask.now c.ask.view_is c.payload-payload.result c.payload-payload.ensures.is c.in-Some.header (sym c.request_of.ensures ∙ c.in-Some.is) c.decide_message-decision.result
     (sym c.allow.ensures ∙ c.if-not-allow.false) c.in-Some-2.message (rw c.in-Some-2.is at c.in_ok-message.ensures.found) c.zone-in-Some-2.result.now
     (c.zone-in-Some-2.ensures.is ∙ ap (λ (b : SeenOf g.row.K.Denot). b.zone) c.self.view_is) c.decide_message-decision.ensures in
     decided_fit c.args.self.now.zone c.args.access.now c.args.ask.now c.decide_message-decision.result (subst (λ (a : Ask). ReadUpdates a.bytes) c.ask.view_is c.read_updates.ensures) decided
 
 pub returns-in-Some-2-clause-ok : goal.returns-in-Some-2-clause-ok
 returns-in-Some-2-clause-ok g c =
-    let decided = decided_message c.args.self.now.zone c.args.access.now _ c.args.ask.now c.ask.view_is c.in-Some.header (sym c.request_of.ensures ∙ c.in-Some.is) c.decide_message-decision.result
+    let decided = decided_message c.args.self.now.zone c.args.access.now _ c.args.ask.now c.ask.view_is c.payload-payload.result c.payload-payload.ensures.is c.in-Some.header (sym c.request_of.ensures ∙ c.in-Some.is) c.decide_message-decision.result
     (sym c.allow.ensures ∙ c.if-not-allow.false) c.in-Some-2.message (rw c.in-Some-2.is at c.in_ok-message.ensures.found) c.zone-in-Some-2.result.now
     (c.zone-in-Some-2.ensures.is ∙ ap (λ (b : SeenOf g.row.K.Denot). b.zone) c.self.view_is) c.decide_message-decision.ensures in
     carried_ok g.K.Keeper.keeper c.args.access.now c.args.self.now c.args.ask.now _ c.carry_out-in-Some-2.new.self (subst (IsKept g.K.Keeper.keeper) c.self.view_is c.self.invariant)
@@ -79,7 +79,7 @@ returns-in-Some-2-clause-ok g c =
 
 pub returns-in-Some-2-clause-left : goal.returns-in-Some-2-clause-left
 returns-in-Some-2-clause-left g c =
-    let decided = decided_message c.args.self.now.zone c.args.access.now _ c.args.ask.now c.ask.view_is c.in-Some.header (sym c.request_of.ensures ∙ c.in-Some.is) c.decide_message-decision.result
+    let decided = decided_message c.args.self.now.zone c.args.access.now _ c.args.ask.now c.ask.view_is c.payload-payload.result c.payload-payload.ensures.is c.in-Some.header (sym c.request_of.ensures ∙ c.in-Some.is) c.decide_message-decision.result
     (sym c.allow.ensures ∙ c.if-not-allow.false) c.in-Some-2.message (rw c.in-Some-2.is at c.in_ok-message.ensures.found) c.zone-in-Some-2.result.now
     (c.zone-in-Some-2.ensures.is ∙ ap (λ (b : SeenOf g.row.K.Denot). b.zone) c.self.view_is) c.decide_message-decision.ensures in
     carried_left g.K.Keeper.keeper c.args.access.now c.args.self.now c.args.ask.now _ c.carry_out-in-Some-2.new.self (subst (IsKept g.K.Keeper.keeper) c.self.view_is c.self.invariant)
@@ -87,7 +87,7 @@ returns-in-Some-2-clause-left g c =
 
 pub returns-in-Some-2-clause-left_unsettled : goal.returns-in-Some-2-clause-left_unsettled
 returns-in-Some-2-clause-left_unsettled g c =
-    let decided = decided_message c.args.self.now.zone c.args.access.now _ c.args.ask.now c.ask.view_is c.in-Some.header (sym c.request_of.ensures ∙ c.in-Some.is) c.decide_message-decision.result
+    let decided = decided_message c.args.self.now.zone c.args.access.now _ c.args.ask.now c.ask.view_is c.payload-payload.result c.payload-payload.ensures.is c.in-Some.header (sym c.request_of.ensures ∙ c.in-Some.is) c.decide_message-decision.result
     (sym c.allow.ensures ∙ c.if-not-allow.false) c.in-Some-2.message (rw c.in-Some-2.is at c.in_ok-message.ensures.found) c.zone-in-Some-2.result.now
     (c.zone-in-Some-2.ensures.is ∙ ap (λ (b : SeenOf g.row.K.Denot). b.zone) c.self.view_is) c.decide_message-decision.ensures in
     carried_unsettled g.K.Keeper.keeper c.args.access.now c.args.self.now c.args.ask.now _ c.carry_out-in-Some-2.new.self (subst (IsKept g.K.Keeper.keeper) c.self.view_is c.self.invariant)
@@ -95,14 +95,14 @@ returns-in-Some-2-clause-left_unsettled g c =
 
 pub returns-in-None-clause-ok : goal.returns-in-None-clause-ok
 returns-in-None-clause-ok g c =
-    let decided = decided_malformed c.args.self.now.zone c.args.access.now _ c.args.ask.now c.ask.view_is c.in-Some.header (sym c.request_of.ensures ∙ c.in-Some.is) c.decide_malformed-decision.result
+    let decided = decided_malformed c.args.self.now.zone c.args.access.now _ c.args.ask.now c.ask.view_is c.payload-payload.result c.payload-payload.ensures.is c.in-Some.header (sym c.request_of.ensures ∙ c.in-Some.is) c.decide_malformed-decision.result
     (sym c.allow.ensures ∙ c.if-not-allow.false) (rw c.in-None.is at c.in_ok-message.ensures.none) c.decide_malformed-decision.ensures in
     carried_ok g.K.Keeper.keeper c.args.access.now c.args.self.now c.args.ask.now _ c.carry_out-in-None.new.self (subst (IsKept g.K.Keeper.keeper) c.self.view_is c.self.invariant)
     c.carry_out-in-None.ensures.kept decided _ _ _ _ c.carry_out-in-None.ensures
 
 pub returns-in-None-clause-left : goal.returns-in-None-clause-left
 returns-in-None-clause-left g c =
-    let decided = decided_malformed c.args.self.now.zone c.args.access.now _ c.args.ask.now c.ask.view_is c.in-Some.header (sym c.request_of.ensures ∙ c.in-Some.is) c.decide_malformed-decision.result
+    let decided = decided_malformed c.args.self.now.zone c.args.access.now _ c.args.ask.now c.ask.view_is c.payload-payload.result c.payload-payload.ensures.is c.in-Some.header (sym c.request_of.ensures ∙ c.in-Some.is) c.decide_malformed-decision.result
     (sym c.allow.ensures ∙ c.if-not-allow.false) (rw c.in-None.is at c.in_ok-message.ensures.none) c.decide_malformed-decision.ensures in
     carried_left g.K.Keeper.keeper c.args.access.now c.args.self.now c.args.ask.now _ c.carry_out-in-None.new.self (subst (IsKept g.K.Keeper.keeper) c.self.view_is c.self.invariant)
     c.carry_out-in-None.ensures.kept decided _ _ _ _ c.carry_out-in-None.ensures
