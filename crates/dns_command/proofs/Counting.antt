@@ -1,5 +1,5 @@
 -- Which counts of faults rose, by how a list of events ended.
-use Rattle.std.proofs.Common.{◌≡◌, ◌⊎◌, List, take, ℕ, Option, Some, None, MatchOption, inl, inr, refl, sym, ap, ◌∙◌, subst}
+use Rattle.std.proofs.Common.{◌≡◌, ◌⊎◌, ◌<◌, List, take, ℕ, zero, suc, arith, Option, Some, None, MatchOption, inl, inr, refl, sym, ap, ◌∙◌, subst}
 use Rattle.dns_io.specs.Told.{Rose}
 use Rattle.dns_edges.specs.Edges.{Around, SourceTold, SinkTold}
 use Rattle.dns_keeper.specs.Keeping.{KeeperTold, KeeperOf}
@@ -24,10 +24,13 @@ use Rattle.dns_command.specs.Ends.{TookFront, Serves, Rejects, all, IsCut, IsWan
 use Rattle.dns_command.specs.Counts.{ComesOf, with_line, cut_by_fault, cut_for_memory as cut_for_want, CountsReading, CountsJournal, FailsSome, Counts}
 use Rattle.dns_command.specs.CommandLine.{access_of}
 use Rattle.dns_command.specs.Status.{refusal_line}
-use Rattle.dns_command.specs.ServeEnds.{ListTells}
+use Rattle.dns_command.specs.ServingEnds.{ListTells}
 use Rattle.dns_command.proofs.Completing.{completes}
 use Rattle.dns_command.proofs.Endings.{IsOpened-still}
-use Rattle.dns_command.proofs.Loops.{zero_or_more}
+
+pub zero_or_more : (n : ℕ) → (n ≡ 0) ⊎ (0 < n)
+zero_or_more zero = inl refl
+zero_or_more (suc n) = inr (omega arith)
 
 -- the count of a source stood still, or it is told that it could not be read
 abbrev Read : Around SourceTold → Status → Type 0

@@ -8,9 +8,5 @@ mod Settled
 pub mod Endings
 pub mod Completing
 pub mod Counting
-pub mod Loops
-mod Crews
-mod Served
-pub mod ServeEndings
-pub mod RunEndings
+pub mod ServingEndings
 pub mod RefusalLines

@@ -2,6 +2,7 @@
 use Rattle.std.specs.Prelude.{◌≡◌, ◌≢◌, ℕ, List, length, take, true, Some, None}
 use Rattle.dns_keeper.specs.Keeping.{KeeperTold, KeeperOf}
 use Rattle.dns_io.specs.Told.{Keeps, Rose, GrowsByPrefix}
+use Rattle.dns_edges.specs.Edges.{Around}
 use Rattle.dns_zone_map.specs.Zone.{serial_of}
 use Rattle.dns_server_core.specs.declared.event.Event.{Event}
 use Rattle.dns_server_core.specs.declared.event.Out.{Out}
@@ -28,6 +29,10 @@ use Rattle.dns_command.specs.Steps.{FindsBy, HearsBy, IsRefused}
 abbrev pub IsOpened : {K : Type 0} → KeeperOf K → KeeperTold → Options → ℕ → Opening → SeenOf K → Type 0
 IsOpened keeper before options moment (Begin zone) first = book.Begins keeper before zone options.allow_update moment first
 IsOpened keeper before options moment Recover first = book.Recovers keeper before options.origin options.allow_update first
+
+-- the journal before it was opened, and as the opening left it
+abbrev pub opening_journal : {K : Type 0} → KeeperOf K → World → SeenOf K → Around KeeperTold
+opening_journal keeper w first = record { before = w.journal.before; after = keeper.told first.keeper }
 
 -- of a journal's count of faults behind so many failures: it rose by as many at least, or stands at its last value; and where there was
 -- none it stood still

@@ -9,11 +9,8 @@ pub mod EventReading
 pub mod Steps
 pub mod Ends
 pub mod Example
-pub mod Hubs
-pub mod Serving
 pub mod Counts
-pub mod ServeEnds
-pub mod ServingParts
+pub mod ServingEnds
 pub mod Completeness
 pub mod Writing
 pub mod Parts

@@ -1,6 +1,8 @@
 -- How a run of the program ends, and the line that a refusal writes.
 use Rattle.std.specs.Prelude.{ℕ, ◌++◌, List, [], codes, Bool, true, false}
 use Rattle.std.specs.Fmt.{decimal}
+use Rattle.dns_io.specs.declared.io_fault.IoFault.{IoFault}
+use Rattle.dns_io.specs.declared.io_fault.IoFault.TheVariants as io
 use Rattle.dns_zone.specs.ZoneText.{kind_text}
 use Rattle.dns_store.specs.RecoveryText.{recovery_line}
 use Rattle.dns_edges.specs.declared.to_end.ReadFault.{ReadFault}
@@ -73,3 +75,8 @@ abbrev pub read_status : ReadFault → Status
 read_status read.Failed = status.ReadFault
 read_status read.TooLong = status.TooLong
 read_status read.OutOfMemory = status.OutOfMemory
+
+-- the status of ports that could not be opened
+abbrev pub port_status : IoFault → Status
+port_status io.Failed = status.PortFault
+port_status io.OutOfMemory = status.OutOfMemory

@@ -2,14 +2,14 @@
 
 ghost use Rattle.std.specs.Prelude.{◌≡◌, ◌≤◌, ◌++◌, ◌∷◌, [], IfOk, IfSome, OnOk, map, length, drop, count_by, string_bytes};
 ghost use Rattle.std.specs.List.{list_all, list_any};
-ghost use Rattle.std.specs.Option.{option_map};
+ghost use Rattle.std.specs.Option.{option_map, unwrap_or};
 ghost use Rattle.dns_name.specs.Name.{fold_of};
 ghost use Rattle.dns_name.specs.NameText.{name_of};
 ghost use Rattle.dns_words.specs.Keys.{is_path_word};
-ghost use Rattle.dns_command.specs.CommandLine.{path_of, is_update_word, net_behind, nets_behind, is_option, has_no_double, are_options, options_for, options_behind, drawn_by, load_options, options_of};
+ghost use Rattle.dns_command.specs.CommandLine.{path_of, is_update_word, net_behind, nets_behind, payload_of, is_payload_word, payload_in, is_option, has_no_double, are_options, options_for, options_behind, drawn_by, load_options, options_of, access_of};
 
 use crate::network_text::network_of;
-use dns_book::IpNet;
+use dns_book::{AccessControl, IpNet, MAX_PAYLOAD};
 use dns_generator::origin_name;
 use dns_io::OutOfMemory;
 use dns_name::name_laws::folded_names;
@@ -32,6 +32,12 @@ const DENY: &str = "--deny=";
 
 /// The key of a network whose sources are let in.
 const ALLOW: &str = "--allow=";
+
+/// The key of the greatest datagram.
+const PAYLOAD: &str = "--payload=";
+
+/// The least number that may stand there: what every receiver takes (RFC 1035 4.2.1).
+const MIN_PAYLOAD: u64 = 512;
 
 /// Networks, in the order of their words.
 #[derive(Debug, Drop)]
@@ -67,10 +73,50 @@ impl Networks {
     }
 
     /// The networks. Takes no memory.
-    pub fn into_vec(self) -> Vec<IpNet>
+    fn into_vec(self) -> Vec<IpNet>
         ensures { result.items ≡ self }
     {
         self.nets
+    }
+}
+
+/// How many bytes a datagram has at most that is sent: 512 to 65,507.
+#[derive(Debug, Drop)]
+pub struct Payload {
+    most: u16,
+}
+
+impl Model for Payload {
+    ghost use Rattle.std.specs.Prelude.{ℕ};
+    ghost use Rattle.dns_book.specs.Access.{IsPayload};
+
+    ghost Value = { ℕ };
+
+    ghost view = { λ p. p.most };
+
+    ghost invariant = { λ p. IsPayload p.most };
+}
+
+impl Payload {
+    /// The number that was found, and what IPv4 carries where none was.
+    fn found_or_usual(found: Option<u16>) -> Payload
+        requires least { IfSome found (λ most. 512 ≤ most) }
+        requires most { IfSome found (λ most. most ≤ 65507) }
+        ensures { result ≡ unwrap_or found 65507 }
+    {
+        match found {
+            Some(most) => Payload { most },
+            None => Payload { most: MAX_PAYLOAD },
+        }
+    }
+
+    /// The number.
+    fn most(&self) -> u16
+        ensures is { result ≡ self.now }
+        ensures least { 512 ≤ result }
+        ensures most { result ≤ 65507 }
+    {
+        self.most
     }
 }
 
@@ -85,8 +131,26 @@ pub struct Options {
     pub denied: Networks,
     /// The networks whose sources are let in.
     pub allowed: Networks,
+    /// The greatest datagram.
+    pub payload: Payload,
     /// The list of events that is drawn, where no event text is read.
     pub drawn: Option<Drawn>,
+}
+
+/// Who is let in, and how large a datagram may go out. Takes no memory.
+pub fn access_of(options: Options) -> AccessControl
+    ensures { result ≡ access_of options }
+{
+    let Options {
+        origin: _,
+        allow_update: _,
+        denied,
+        allowed,
+        payload,
+        drawn: _,
+    } = options;
+    let access = AccessControl::from_networks(denied.into_vec(), allowed.into_vec());
+    access.with_payload(payload.most())
 }
 
 /// A list of events that is drawn.
@@ -99,9 +163,9 @@ pub struct Drawn {
 }
 
 /// What the words ask for: `load SEED COUNT`, as [`load_options`] says; or `events ORIGIN`, and behind it options in any
-/// order: at most one `--update`, at most one `--zone=PATH` and one `--journal=PATH`, where PATH is not empty, and any number
-/// of `--deny=IP/PREFIX` and `--allow=IP/PREFIX`. ORIGIN is a name's text (RFC 1035 5.1), whatever word stands there. Any other
-/// words are no command, and give None.
+/// order: at most one `--update`, at most one `--zone=PATH` and one `--journal=PATH`, where PATH is not empty, at most one
+/// `--payload=N`, where N is 512 to 65507, and any number of `--deny=IP/PREFIX` and `--allow=IP/PREFIX`. ORIGIN is a name's
+/// text (RFC 1035 5.1), whatever word stands there. Any other words are no command, and give None.
 #[tactic(auto, unfolding(crate::specs::CommandLine::options_of))]
 pub fn options_of(alloc: Global, words: &[String]) -> Result<Option<Options>, OutOfMemory>
     ensures is { IfOk result (λ options. options ≡ options_of (map string_bytes words.now)) }
@@ -135,7 +199,8 @@ pub fn options_behind(
 {
     let denied = nets_behind(alloc, words, DENY)?;
     let allowed = nets_behind(alloc, words, ALLOW)?;
-    options_for(alloc, origin, has_update(words), denied, allowed)
+    let payload = Payload::found_or_usual(payload_in(words));
+    options_for(alloc, origin, has_update(words), denied, allowed, payload)
 }
 
 /// What the words of `load` ask for: a seed below 2^64, and behind it a count of messages from 1 to 100,000, both in decimal. The
@@ -155,6 +220,7 @@ fn load_options(alloc: Global, seed: &str, words: &[String]) -> Result<Option<Op
             allow_update: true,
             denied: Networks::new(alloc),
             allowed: Networks::new(alloc),
+            payload: Payload::found_or_usual(None),
             drawn: Some(drawn),
         })),
     }
@@ -193,8 +259,9 @@ fn options_for(
     allow_update: bool,
     denied: Networks,
     allowed: Networks,
+    payload: Payload,
 ) -> Result<Option<Options>, OutOfMemory>
-    ensures is { IfOk result (λ options. options ≡ options_for (name_of origin.now) allow_update denied allowed) }
+    ensures is { IfOk result (λ options. options ≡ options_for (name_of origin.now) allow_update denied allowed payload) }
     ensures folded { IfOk result (λ options. IfSome options (λ o. fold_of o.origin ≡ o.origin)) }
     ensures few { IfOk result (λ options. IfSome options (λ o. IfSome o.drawn (λ drawn. drawn.count ≤ 100000))) }
 {
@@ -207,6 +274,7 @@ fn options_for(
                 allow_update,
                 denied,
                 allowed,
+                payload,
                 drawn: None,
             }))
         }
@@ -221,11 +289,14 @@ fn are_options(words: &[String]) -> bool
     are_each_option(words) && has_no_double(words)
 }
 
-/// Whether `--update`, `--zone=` and `--journal=` stand at most once each.
+/// Whether `--update`, `--zone=`, `--journal=` and `--payload=` stand at most once each.
 pub fn has_no_double(words: &[String]) -> bool
     ensures { result ≡ has_no_double (map string_bytes words.now) }
 {
-    update_words(words) <= 1 && path_words(words, ZONE) <= 1 && path_words(words, JOURNAL) <= 1
+    update_words(words) <= 1
+        && path_words(words, ZONE) <= 1
+        && path_words(words, JOURNAL) <= 1
+        && payload_words(words) <= 1
 }
 
 fn are_each_option(words: &[String]) -> bool
@@ -276,6 +347,19 @@ fn path_words(words: &[String], key: &str) -> usize
     count
 }
 
+/// How many words give the greatest datagram.
+fn payload_words(words: &[String]) -> usize
+    ensures { result ≡ count_by is_payload_word (map string_bytes words.now) }
+{
+    let mut count = 0;
+    for word in words {
+        if is_payload_word(word.as_str()) {
+            count += 1;
+        }
+    }
+    count
+}
+
 /// Whether a word is an option of `events`, and so of `serve`.
 pub fn is_option(word: &str) -> bool
     ensures { result ≡ is_option word.now }
@@ -285,12 +369,47 @@ pub fn is_option(word: &str) -> bool
         || is_path_word(word, JOURNAL)
         || net_behind(word, DENY).is_some()
         || net_behind(word, ALLOW).is_some()
+        || is_payload_word(word)
 }
 
 fn is_update_word(word: &str) -> bool
     ensures { result ≡ is_update_word word.now }
 {
     word == UPDATE
+}
+
+fn is_payload_word(word: &str) -> bool
+    ensures { result ≡ is_payload_word word.now }
+{
+    match behind(word, PAYLOAD) {
+        Some(text) => payload_of(text.as_bytes()).is_some(),
+        None => false,
+    }
+}
+
+/// The greatest datagram, where a word gives it.
+fn payload_in(words: &[String]) -> Option<u16>
+    ensures is { result ≡ payload_in (map string_bytes words.now) }
+    ensures least { IfSome result (λ most. 512 ≤ most) }
+    ensures most { IfSome result (λ most. most ≤ 65507) }
+{
+    match first_behind(words, PAYLOAD) {
+        Some(text) => payload_of(text.as_bytes()),
+        None => None,
+    }
+}
+
+#[tactic(auto, unfolding(crate::specs::CommandLine::payload_of))]
+fn payload_of(text: &[u8]) -> Option<u16>
+    ensures is { result ≡ payload_of text.now }
+    ensures least { IfSome result (λ most. 512 ≤ most) }
+    ensures most { IfSome result (λ most. most ≤ 65507) }
+{
+    let most = decimal_of(u128::from(MAX_PAYLOAD) + 1, text)?;
+    if most < MIN_PAYLOAD {
+        return None;
+    }
+    Some(most as u16)
 }
 
 fn nets_behind(alloc: Global, words: &[String], key: &str) -> Result<Networks, OutOfMemory>

@@ -3,17 +3,21 @@
 ghost use Rattle.std.specs.Prelude.{◌≡◌, ◌≤◌, true, false, string_bytes};
 ghost use Rattle.std.specs.List.{flat_map};
 ghost use Rattle.dns_edges.specs.Edges.{around};
+ghost use Rattle.dns_zone_map.specs.Zone.{serial_of};
+ghost use Rattle.dns_command.specs.declared.status.Status.TheVariants as status;
 ghost use Rattle.dns_command.specs.Lines.{out_line, number_line, closing_lines, output_lines, serve_lines, counted_lines, summary_lines, lines_by};
 ghost use Rattle.dns_command.specs.Status.{is_fault, is_want, refusal_line};
 ghost use Rattle.dns_words.specs.Writing.{WantedMemory, Writes, WritesWhole};
-ghost use Rattle.dns_command.specs.Writing.{EndsRefusing, after_writing};
+ghost use Rattle.dns_command.specs.Writing.{EndsRefusing, EndsWriting, after_writing};
 
 use crate::command_line::Drawn;
 use crate::lines::{number_line, out_line};
 use crate::status::{KEEPER_FAULT, PORT_FAULT, READ_FAULT, Status, after_writing, refusal_line};
+use dns_book::Book;
 use dns_edges::Sink;
 use dns_generator::Summary;
 use dns_io::IoFault;
+use dns_keeper::Keeper;
 use dns_server_core::Out;
 use dns_words::{put_line, put_text, put_whole};
 use std::alloc::Global;
@@ -162,6 +166,17 @@ pub fn put_totals<W: Sink>(
     put_number(alloc, "serial", u128::from(serial), out)?;
     put_number(alloc, "journal_len", u128::from(rows), out)?;
     out.flush()
+}
+
+/// Writes the two closing lines, and tells how the program ends.
+pub fn finish<K: Keeper, W: Sink>(alloc: Global, book: &Book<K>, out: &mut W) -> Status
+    ensures ends { EndsWriting (around W.sink.told out.old out.new)
+        (serve_lines (serial_of book.now.zone.records) book.now.row_count) status.Ok result }
+    ensures later { (W.sink.told out.old).faults ≤ (W.sink.told out.new).faults }
+{
+    let serial = book.serial();
+    let length = book.journal_len();
+    after_writing(Status::Ok, put_totals(alloc, serial, length, out))
 }
 
 /// Writes a line for each reply.

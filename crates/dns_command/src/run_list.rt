@@ -10,16 +10,16 @@ ghost use Rattle.dns_command.specs.declared.status.Status.TheVariants as status;
 ghost use Rattle.dns_command.specs.Lines.{lines_by};
 ghost use Rattle.dns_command.specs.Steps.{LoadsEvents, LoadsNoEvents, HearsBy, HearsNotBy, IsRefused};
 ghost use Rattle.dns_command.specs.World.{IsAsked};
-ghost use Rattle.dns_command.specs.ServeEnds.{ListTells};
+ghost use Rattle.dns_command.specs.ServingEnds.{ListTells};
 ghost use Rattle.dns_command.specs.Parts.{Prepares, IsReady, SettlesEach, SettlesPart, SettlesAll, SettlesNot};
 ghost use Rattle.dns_command.specs.Writing.{EndsWriting};
 
-use crate::command_line::{Drawn, Networks, Options, options_of};
+use crate::command_line::{Drawn, Options, access_of, options_of};
 use crate::event_text::{EventFault, events_of};
 use crate::opening::{Opening, Refusal, find_opening_by, open_book};
 use crate::output::{put_answers, refuse};
 use crate::status::{Ended, Status, after_writing};
-use dns_book::Book;
+use dns_book::{AccessControl, Book};
 use dns_edges::{Clock, Sink, Source, read_to_end};
 use dns_generator::loaded;
 use dns_io::OutOfMemory;
@@ -185,25 +185,24 @@ fn settle_events<K: Keeper>(
         events,
     } = inputs;
     let book = open_book(alloc, &options, opening, keeper, moment)?;
-    let served = settle_all(alloc, book, options.denied, options.allowed, &events)?;
+    let served = settle_all(alloc, book, access_of(options), &events)?;
     Ok(served)
 }
 
-/// Settles the messages that events complete, in order, where these networks say who is let in. A list that is not valid
-/// is not begun.
+/// Settles the messages that events complete, in order, where this says who is let in and how large a datagram may go out. A
+/// list that is not valid is not begun.
 fn settle_all<K: Keeper>(
     alloc: Global,
     book: Book<K>,
-    denied: Networks,
-    allowed: Networks,
+    access: AccessControl,
     events: &Vec<Event>,
 ) -> Result<Served<K>, Refusal<K>>
     ensures ok { IfOk result (λ served.
-        SettlesEach K.keeper (record { allowed = allowed; denied = denied }) book events.now.items served.outs.items served.server) }
+        SettlesEach K.keeper access book events.now.items served.outs.items served.server) }
     ensures err { IfErr result (λ fault.
-        SettlesPart K.keeper (record { allowed = allowed; denied = denied }) book events.now.items fault.status fault.keeper) }
+        SettlesPart K.keeper access book events.now.items fault.status fault.keeper) }
 {
-    let mut server = Server::with_access(alloc, book, denied.into_vec(), allowed.into_vec());
+    let mut server = Server::with_control(alloc, book, access);
     if !server.valid_events(events) {
         return Err(given_up(server, Status::NotValid));
     }

@@ -2,7 +2,7 @@
 
 ghost use Rattle.std.specs.Prelude.{◌≡◌, IfOk, string_bytes};
 ghost use Rattle.std.specs.Process.{exit_status};
-ghost use Rattle.dns_command.specs.Status.{status_number, refusal_line, read_status};
+ghost use Rattle.dns_command.specs.Status.{status_number, refusal_line, read_status, port_status};
 ghost use Rattle.dns_command.specs.Writing.{after_writing};
 
 use dns_edges::ReadFault;
@@ -104,6 +104,16 @@ impl From<ReadFault> for Status {
             ReadFault::TooLong => Status::TooLong,
             ReadFault::OutOfMemory => Status::OutOfMemory,
         }
+    }
+}
+
+/// The status of ports that could not be opened.
+pub fn port_status(fault: IoFault) -> Status
+    ensures { result ≡ port_status fault }
+{
+    match fault {
+        IoFault::Failed => Status::PortFault,
+        IoFault::OutOfMemory => Status::OutOfMemory,
     }
 }
 

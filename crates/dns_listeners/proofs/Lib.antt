@@ -1,0 +1,5 @@
+mod Loops
+mod Crews
+mod Served
+mod ServeEndings
+mod RunEndings

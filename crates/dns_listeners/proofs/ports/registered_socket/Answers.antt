@@ -1,0 +1,5 @@
+use Rattle.dns_listeners.proofs.Crews.{socket_taken}
+use Rattle.dns_listeners.proofs.ports.registered_socket.Goals as goal
+
+pub returns-in-Ok-clause-manned : goal.returns-in-Ok-clause-manned
+returns-in-Ok-clause-manned g c = (socket_taken _ _ _ _ _ _ c.requires.manned c.requires.none c.requires.fresh c.in-Ok.ensures.ok c.in-Ok.ensures.others.0 c.in-Ok.ensures.others.2).0
