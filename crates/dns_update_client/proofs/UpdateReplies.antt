@@ -96,18 +96,18 @@ case-is zone n alone kind =
     if-false (is_newer n.edns) _ _ (ap is_newer alone)
     ∙ if-false (not ((n.header.opcode == 0) || (n.header.opcode == 5))) _ _ (ap (λ (o : ℕ). not ((o == 0) || (o == 5))) kind)
 
-bare-question : (grounds : Grounds) (m n : Message) (protocol : Protocol) (question : Option Question) → IsFrom m n.header n.edns → AllByRecursion IsQuestion n.questions
-    → IsBare m protocol (case_reply grounds (request_by protocol n) (question_case grounds.zone n question))
-bare-question grounds m n protocol None from all = bare m protocol n.header n.edns 1 None from (omega arith) tt
-bare-question grounds m n protocol (Some q) from all =
-    subst (λ c. IsBare m protocol (case_reply grounds (request_by protocol n) c)) (sym (if-true (n.header.opcode == 5) _ _ (ap (λ (o : ℕ). o == 5) from.kind)))
+bare-question : (grounds : Grounds) (m n : Message) (most : ℕ) (protocol : Protocol) (question : Option Question) → IsFrom m n.header n.edns → AllByRecursion IsQuestion n.questions
+    → IsBare m protocol (case_reply grounds (request_by most protocol n) (question_case grounds.zone n question))
+bare-question grounds m n most protocol None from all = bare m protocol n.header n.edns 1 None from (omega arith) tt
+bare-question grounds m n most protocol (Some q) from all =
+    subst (λ c. IsBare m protocol (case_reply grounds (request_by most protocol n) c)) (sym (if-true (n.header.opcode == 5) _ _ (ap (λ (o : ℕ). o == 5) from.kind)))
     (bare m protocol n.header n.edns (code_of grounds.failed (verdict_of grounds.zone n grounds.allow_update)) (only_question n.questions) from
     (code-small (verdict_of grounds.zone n grounds.allow_update) grounds.failed (verdict_code grounds.zone n grounds.allow_update)) (only-asked n.questions all))
 
-bare-read : (grounds : Grounds) (m n : Message) (protocol : Protocol) → IsFrom m n.header n.edns → AllByRecursion IsQuestion n.questions
-    → IsBare m protocol (case_reply grounds (request_by protocol n) (message_case grounds.zone n))
-bare-read grounds m n protocol from all =
-    subst (λ c. IsBare m protocol (case_reply grounds (request_by protocol n) c)) (sym (case-is grounds.zone n from.alone from.kind)) (bare-question grounds m n protocol (only_question n.questions) from all)
+bare-read : (grounds : Grounds) (m n : Message) (most : ℕ) (protocol : Protocol) → IsFrom m n.header n.edns → AllByRecursion IsQuestion n.questions
+    → IsBare m protocol (case_reply grounds (request_by most protocol n) (message_case grounds.zone n))
+bare-read grounds m n most protocol from all =
+    subst (λ c. IsBare m protocol (case_reply grounds (request_by most protocol n) c)) (sym (case-is grounds.zone n from.alone from.kind)) (bare-question grounds m n most protocol (only_question n.questions) from all)
 
 -- the question that stands alone in a message is the message's
 first-asked : (bytes : List ℕ) (q : Question) (j end : ℕ) (questions : List Question) → QuestionAt bytes 12 q j → ItemsAt (QuestionAt bytes) 12 questions end → length questions ≡ 1 → AllByRecursion IsQuestion questions → IsQuestion q
@@ -137,9 +137,9 @@ bare-owed grounds access ask m _ owed update at (malformed h e let_in none) is =
 bare-owed grounds access ask m _ owed update at (read h e let_in n there) is =
     let P : Reply → Type 0 = λ (r : Reply). IsBare m ask.protocol r in
     let same : counted m ≡ n = messages_one ask.bytes (counted m) n at there in
-    let Q : Message → Type 0 = λ (x : Message). IsBare m ask.protocol (case_reply grounds (request_by ask.protocol x) (message_case grounds.zone x)) in
+    let Q : Message → Type 0 = λ (x : Message). IsBare m ask.protocol (case_reply grounds (request_by access.payload ask.protocol x) (message_case grounds.zone x)) in
     let from : IsFrom m (counted m).header (counted m).edns = record { id = refl; kind = update.opcode; alone = update.alone } in
-    subst P (some_same is) (subst Q same (bare-read grounds m (counted m) ask.protocol from update.kept.questions))
+    subst P (some_same is) (subst Q same (bare-read grounds m (counted m) access.payload ask.protocol from update.kept.questions))
 
 none-of : {X : Type 0} (P : X → Type 0) (n : ℕ) (xs : List X) → xs ≡ [] → AllByRecursion P (take n xs)
 none-of P n xs none =
@@ -158,22 +158,22 @@ id-kept Https id other = refl
 id-kept Quic id other = absurd (other refl)
 id-kept H3 id other = refl
 
-limit-short : (protocol : Protocol) → limit_of protocol None ≤ 65535
-limit-short Udp = omega arith
-limit-short Tcp = omega arith
-limit-short Tls = omega arith
-limit-short Https = omega arith
-limit-short Quic = omega arith
-limit-short H3 = omega arith
+limit-short : (most : ℕ) (protocol : Protocol) → limit_of most protocol None ≤ 65535
+limit-short most Udp = omega arith
+limit-short most Tcp = omega arith
+limit-short most Tls = omega arith
+limit-short most Https = omega arith
+limit-short most Quic = omega arith
+limit-short most H3 = omega arith
 
 -- the written form of such a reply is a reply to the update
-replies-by : (m : Message) (protocol : Protocol) (r : Reply) (bytes : List ℕ) (code : ℕ) → m.header.id < 2 ^ 16 → protocol ≢ Quic → IsBare m protocol r → Written r (limit_of protocol r.edns) bytes → code ≡ r.code
+replies-by : (m : Message) (most : ℕ) (protocol : Protocol) (r : Reply) (bytes : List ℕ) (code : ℕ) → m.header.id < 2 ^ 16 → protocol ≢ Quic → IsBare m protocol r → Written r (limit_of most protocol r.edns) bytes → code ≡ r.code
     → Replies m.header.id bytes code
-replies-by m protocol r bytes code small other b w says =
+replies-by m most protocol r bytes code small other b w says =
     let same : r.id ≡ m.header.id = b.same ∙ id-kept protocol m.header.id other in
-    let fits : length bytes ≤ limit_of protocol r.edns = w.fits in
-    let limit : limit_of protocol r.edns ≡ limit_of protocol None = ap (limit_of protocol) b.alone in
-    let short : length bytes ≤ 65535 = omega (arith, fits, limit, limit-short protocol) in
+    let fits : length bytes ≤ limit_of most protocol r.edns = w.fits in
+    let limit : limit_of most protocol r.edns ≡ limit_of most protocol None = ap (limit_of most protocol) b.alone in
+    let short : length bytes ≤ 65535 = omega (arith, fits, limit, limit-short most protocol) in
     let kept : IsMessage (shortened r w.kept) = record {
       id = omega (arith, same, small);
       questions = b.asked;
@@ -204,12 +204,12 @@ replies-by m protocol r bytes code small other b w says =
       says = omega (arith, says, bits, b.small);
     }
 
-written-owed : (protocol : Protocol) (reply : Option Reply) (owed : Reply) (bytes : List ℕ) (told : Option (List ℕ)) → IsWritten protocol reply told → reply ≡ Some owed → told ≡ Some bytes → Written owed (limit_of protocol owed.edns) bytes
-written-owed protocol None owed bytes told written is given = absurd cc
-written-owed protocol (Some r) owed bytes None written is given = absurd cc
-written-owed protocol (Some r) owed bytes (Some b) written is given =
-    let P : Reply → Type 0 = λ (x : Reply). Written x (limit_of protocol x.edns) bytes in
-    let Q : List ℕ → Type 0 = λ (x : List ℕ). Written r (limit_of protocol r.edns) x in
+written-owed : (most : ℕ) (protocol : Protocol) (reply : Option Reply) (owed : Reply) (bytes : List ℕ) (told : Option (List ℕ)) → IsWritten most protocol reply told → reply ≡ Some owed → told ≡ Some bytes → Written owed (limit_of most protocol owed.edns) bytes
+written-owed most protocol None owed bytes told written is given = absurd cc
+written-owed most protocol (Some r) owed bytes None written is given = absurd cc
+written-owed most protocol (Some r) owed bytes (Some b) written is given =
+    let P : Reply → Type 0 = λ (x : Reply). Written x (limit_of most protocol x.edns) bytes in
+    let Q : List ℕ → Type 0 = λ (x : List ℕ). Written r (limit_of most protocol r.edns) x in
     subst P (some_same is) (subst Q (some_same given) written)
 
 -- an update that was settled is answered
@@ -218,9 +218,9 @@ SettlesUpdate-replies : {K : Type 0} (keeper : KeeperOf K) (access : Access) (be
 SettlesUpdate-replies keeper access before m bytes code after s =
     let P : List ℕ → Type 0 = λ (l : List ℕ). MessageAt l (counted m) in
     let at : MessageAt s.ask.bytes (counted m) = subst P (sym s.asked) (message_alone m s.update.kept s.update.plain s.update.short.short) in
-    replies-by m s.ask.protocol s.owed bytes code s.update.kept.id s.protocol
+    replies-by m access.payload s.ask.protocol s.owed bytes code s.update.kept.id s.protocol
     (bare-owed (grounds_of before s.settles.failed) access s.ask m s.settles.reply.decision s.owed s.update at s.settles.reply.decided s.is_owed)
-    (written-owed s.ask.protocol (option_map (reply_of (grounds_of before s.settles.failed)) s.settles.reply.decision) s.owed bytes s.settled.reply s.settles.reply.written s.is_owed s.answered) s.says
+    (written-owed access.payload s.ask.protocol (option_map (reply_of (grounds_of before s.settles.failed)) s.settles.reply.decision) s.owed bytes s.settled.reply s.settles.reply.written s.is_owed s.answered) s.says
 
 pub SettlesUpdates-exchange : {K : Type 0} (keeper : KeeperOf K) (access : Access) (before after : SeenOf K) (messages : List Message) (replies : List (List ℕ)) (codes : List ℕ)
     → SettlesUpdates keeper access before messages replies codes after → Exchanges messages replies codes
@@ -251,16 +251,16 @@ request-made : (ask : Ask) (h : Header) → IsSafe ask.source → header_of ask.
 unfolding request_of
 request-made ask h safe head asks = if-false (is_err (sanitized ask.source)) _ _ (ap (λ r. is_err r) safe) ∙ ap request_in head ∙ if-false h.qr _ _ asks
 
-reply-there : (protocol : Protocol) (r : Reply) (told : Option (List ℕ)) → IsWritten protocol (Some r) told → (bytes : List ℕ) × (told ≡ Some bytes)
-reply-there protocol r None written = absurd written
-reply-there protocol r (Some bytes) written = (bytes, refl)
+reply-there : (most : ℕ) (protocol : Protocol) (r : Reply) (told : Option (List ℕ)) → IsWritten most protocol (Some r) told → (bytes : List ℕ) × (told ≡ Some bytes)
+reply-there most protocol r None written = absurd written
+reply-there most protocol r (Some bytes) written = (bytes, refl)
 
 owed-there : (grounds : Grounds) (access : Access) (ask : Ask) (h : Header) (decision : _) (told : Option (List ℕ)) → Decides grounds.zone access ask decision → request_of ask ≡ Some h
-    → IsWritten ask.protocol (option_map (reply_of grounds) decision) told → (bytes : List ℕ) × (told ≡ Some bytes)
+    → IsWritten access.payload ask.protocol (option_map (reply_of grounds) decision) told → (bytes : List ℕ) × (told ≡ Some bytes)
 owed-there grounds access ask h _ told (silent none) asks written = absurd (let it : None ≡ Some h = sym none ∙ asks in cc)
-owed-there grounds access ask h _ told (shut_out g e out question reads) asks written = reply-there ask.protocol _ told written
-owed-there grounds access ask h _ told (malformed g e let_in none) asks written = reply-there ask.protocol _ told written
-owed-there grounds access ask h _ told (read g e let_in n at) asks written = reply-there ask.protocol _ told written
+owed-there grounds access ask h _ told (shut_out g e out question reads) asks written = reply-there access.payload ask.protocol _ told written
+owed-there grounds access ask h _ told (malformed g e let_in none) asks written = reply-there access.payload ask.protocol _ told written
+owed-there grounds access ask h _ told (read g e let_in n at) asks written = reply-there access.payload ask.protocol _ told written
 
 -- it is owed a reply
 pub Settles-replied : {K : Type 0} (keeper : KeeperOf K) (access : Access) (before after : SeenOf K) (m : Message) (ask : Ask) (settled : Settled)

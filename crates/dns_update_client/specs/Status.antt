@@ -47,7 +47,7 @@ refusal_line status.OutOfMemory = []
 refusal_line (status.Script line kind) = codes "script line " ++ (decimal line ++ (codes ": " ++ (script_kind_text kind ++ codes "\n")))
 refusal_line status.Ended = codes "ended\n"
 refusal_line status.Mismatch = codes "mismatch\n"
-refusal_line status.NotReply = codes "not reply\n"
+refusal_line status.NotReply = codes "notreply\n"
 refusal_line status.Proto = codes "proto\n"
 
 -- whether a refusal writes a line

@@ -43,7 +43,7 @@ Exit status, and the one line that is written in place of the output:
   20  script line L: KIND   line L of the script is faulty
   21  ended                 the server ended before a reply was whole
   22  mismatch              a reply has another id than its message
-  23  not reply             what came is no reply to an update
+  23  notreply              what came is no reply to an update
   24  proto                 a message has more than 65535 bytes, or what came is no message
 
 example: printf 'zone example.com.\\nadd new.example.com. 60 A 192.0.2.55\\nsend\\n' | dns-nsupdate --server=127.0.0.1:5300 --id=1

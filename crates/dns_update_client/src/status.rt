@@ -147,7 +147,7 @@ pub(crate) fn refusal_line(alloc: Global, status: &UpdateStatus) -> Result<Strin
         }
         UpdateStatus::Ended => String::from_str(alloc, "ended\n")?,
         UpdateStatus::Mismatch => String::from_str(alloc, "mismatch\n")?,
-        UpdateStatus::NotReply => String::from_str(alloc, "not reply\n")?,
+        UpdateStatus::NotReply => String::from_str(alloc, "notreply\n")?,
         UpdateStatus::Proto => String::from_str(alloc, "proto\n")?,
     };
     Ok(line)
