@@ -5,6 +5,7 @@ use dns_io::{IoFault, Ip, Peer};
 use dns_ports::{Hub, SocketHub, StopToken, TcpPort, UdpPort};
 use std::io::{Read, Write};
 use std::net::{IpAddr, Ipv4Addr, SocketAddr, TcpStream, UdpSocket};
+use std::rt::Clock;
 use std::test::Fail;
 use std::time::Duration;
 
@@ -56,6 +57,52 @@ fn datagram(rt: HostRuntime) -> Result<(), Fail> {
     assert_eq!(rt; reply, *b"a question\0\0\0\0\0\0");
     stop.stop();
     assert!(rt; is_at_end(&mut port, &mut room)?);
+    hub.close_udp(port);
+    Ok(())
+}
+
+/// A datagram of IPv4 comes to a socket of every address as one of IPv4, at the system's time, and its sender is answered.
+#[test]
+fn datagram_of_ipv4(rt: HostRuntime) -> Result<(), Fail> {
+    let stop = StopToken::new(rt.alloc())?;
+    let mut hub = SocketHub::new(rt.alloc(), &rt);
+    let every = Peer {
+        ip: Ip::V6(0),
+        port: 0,
+    };
+    let mut port = hub.open_udp(every, &stop)?;
+    let client = UdpSocket::bind(&rt, address(0))?;
+    client.set_read_timeout(Some(Duration::from_secs(10)))?;
+    client.connect(address(port.local_peer()?.port))?;
+    let before = rt.since_1970()?.as_millis();
+    client.send(b"a question")?;
+    let mut room = Vec::new(rt.alloc());
+    room.resize(65_535, 0)?;
+    let arrived = port.receive(room.as_mut_slice())?.ok_or("stopped")?;
+    assert_eq!(rt; arrived.from.ip, LOOPBACK.ip);
+    assert_eq!(rt; arrived.from.port, client.local_addr()?.port());
+    assert!(rt; before <= u128::from(arrived.at) && u128::from(arrived.at) < before + 10_000);
+    port.answer(arrived.from, b"an answer")?;
+    let mut reply = [0; 16];
+    assert_eq!(rt; client.recv(&mut reply)?, 9);
+    hub.close_udp(port);
+    Ok(())
+}
+
+/// A token tells that all have begun where none is expected, and else once each port was asked for what comes.
+#[test]
+fn roll(rt: HostRuntime) -> Result<(), Fail> {
+    let stop = StopToken::new(rt.alloc())?;
+    assert!(rt; stop.are_all_here());
+    let mut hub = SocketHub::new(rt.alloc(), &rt);
+    let mut port = hub.open_udp(LOOPBACK, &stop)?;
+    stop.expect(1);
+    assert!(rt; !stop.are_all_here());
+    stop.stop();
+    let mut room = Vec::new(rt.alloc());
+    room.resize(65_535, 0)?;
+    assert!(rt; is_at_end(&mut port, &mut room)?);
+    assert!(rt; stop.are_all_here());
     hub.close_udp(port);
     Ok(())
 }

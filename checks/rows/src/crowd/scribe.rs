@@ -1,0 +1,63 @@
+//! A handler that gives each message back with the last digit of its moment, and leaves empty messages without a reply.
+
+use dns_io::{Octets, OutOfMemory};
+use dns_server_core::{
+    AccessControl, Ask, LentAsk, ReplyBytes, RequestHandler, Settled, SettledInto,
+};
+use std::alloc::Global;
+
+/// How many messages came.
+#[derive(Drop)]
+pub struct Scribe {
+    pub messages: u64,
+    pub alloc: Global,
+}
+
+impl Scribe {
+    /// Counts a message, and gives the reply to it.
+    fn settled(&mut self, bytes: &[u8], at: u64) -> Result<Settled, OutOfMemory> {
+        self.messages = self.messages.saturating_add(1);
+        Ok(Settled {
+            reply: reply_to(self.alloc, bytes, at)?,
+            length: 0,
+            receipt: None,
+        })
+    }
+}
+
+impl RequestHandler for Scribe {
+    ghost serves = { ? };
+
+    ghost skips = { ? };
+
+    ghost skips_same = { ? };
+
+    fn handle_request(
+        &mut self,
+        _access: &AccessControl,
+        ask: &Ask,
+    ) -> Result<Settled, OutOfMemory> {
+        self.settled(ask.bytes.as_slice(), ask.at)
+    }
+
+    fn handle_into(
+        &mut self,
+        _access: &AccessControl,
+        ask: &LentAsk<'_>,
+        out: &mut Vec<u8>,
+        is_framed: bool,
+    ) -> Result<SettledInto, OutOfMemory> {
+        self.settled(ask.bytes, ask.at)?.add_to(out, is_framed)
+    }
+}
+
+/// The message with the last digit of its moment.
+fn reply_to(alloc: Global, bytes: &[u8], at: u64) -> Result<Option<ReplyBytes>, OutOfMemory> {
+    let len = bytes.len();
+    if len == 0 || len > 100 {
+        return Ok(None);
+    }
+    let mut reply = Octets::from_slice(alloc, bytes)?;
+    reply.push(b'0' + (at % 10) as u8)?;
+    Ok(Some(ReplyBytes::new(reply)?))
+}
