@@ -39,6 +39,7 @@ except ImportError:
 
 import clients
 import journals
+import kit
 import migrations
 import traced
 import updates
@@ -48,7 +49,7 @@ from update_model import A, AAAA, CNAME, DS, IN, MX, NS, PTR, SOA, SRV, TXT, Rec
 from update_model import data_bytes, folded, name_bytes, number, opening_rows, replay, serial_of
 
 TOP = Path(__file__).resolve().parent.parent
-PROGRAM = TOP / "crates" / "dns_audit_program" / "out" / "dns_audit_program"
+PROGRAM = kit.called("dns-audit")
 COUNT, SEED = 500, 1035
 ZONES = 60  # for the programs of others
 BOUND = 60  # seconds

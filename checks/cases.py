@@ -249,7 +249,7 @@ def spread_cases():
     endless.take("in", "no event line")
     endless.take("out", "too long")
     endless.take("status", "9")
-    return [bytewise, cut, longest, too_long, full, overfull, endless, *string_cases()]
+    return [bytewise, cut, longest, too_long, full, overfull, endless, *string_cases(), *datagram_cases()]
 
 
 def string_cases():
@@ -260,6 +260,26 @@ def string_cases():
         case.take("zone", f"z. 1 IN TXT {strings} {'s' * size}")
         case.take(*(("end", "7 3 0") if is_read else ("out", "zone text line 2: Data")))
         case.take("status", "0" if is_read else "2")
+        yield case
+
+
+def datagram_cases():
+    """The greatest datagram of IPv4 has 65,507 bytes (RFC 791, RFC 768): a reply of one byte more is cut, whatever the OPT offers, and is whole by
+    TCP. It has 12 bytes of header, 9 of the question, 15 before the data of its record, those, and 11 of the OPT (RFC 1035 4.1, RFC 6891 6.1.2)."""
+    strings = " ".join(["s" * 255] * 255)
+    question, option = "0174017a0000100001", "000029ffff000000000000"
+    for last, words, is_whole in ((179, [], True), (180, [], False), (179, ["--payload=65507"], True), (179, ["--payload=65506"], False)):
+        size = 12 + 9 + 15 + 255 * 256 + 1 + last + 11
+        case = Case(f"a reply of {size} bytes by datagram, {' '.join(words) or 'without a word'}", b"z. 1 IN SOA a.z. b.z. 7 1 1 1 1\n", "events z. --zone=@zone")
+        case.take("zone", f"t.z. 1 IN TXT {strings} {'s' * last}")
+        case.more += words
+        case.take("in", f"D 0 7f000001 53 123401000001000000000001{question}{option}")
+        case.take("in", "A 0 1 7f000001 53 0")
+        case.take("in", f"B 0 1 0020123401000001000000000001{question}{option}")
+        whole = f"123485000001000100000001{question}0174017a0000100001"
+        case.take("out", f"P 7f000001 53 {whole}...{size}" if is_whole else f"P 7f000001 53 123487000001000000000001{question}{option}")
+        case.take("out", f"C 1 {size:04x}{whole}...{size + 2}")
+        case.take("end", "7 3 1")
         yield case
 
 

@@ -27,9 +27,8 @@ import time
 from pathlib import Path
 
 import wire
+from servers import PROGRAM
 
-TOP = Path(__file__).resolve().parent.parent
-PROGRAM = TOP / "crates" / "dns_program" / "out" / "dns_program"
 KILLS, CONNECTIONS = 50, 900
 BOUND = 30  # seconds for one run of a client, or one reply
 LIMIT = 2_000  # milliseconds that a connection may take for a message: a busy machine may keep a client from its processor for long

@@ -42,6 +42,7 @@ except ImportError:
 import audits
 import clients
 import journals
+import kit
 import migrations
 import traced
 import updates
@@ -50,7 +51,7 @@ from follow_model import LONGEST, Follower, History, Served, drawn, fed, frame, 
 from update_model import IN, Record, name_bytes, number, opening_rows, record_bytes
 
 TOP = Path(__file__).resolve().parent.parent
-PROGRAM = TOP / "crates" / "dns_follow_program" / "out" / "dns_follow_program"
+PROGRAM = kit.called("dns-follow")
 COUNT, KILLS, SEED = 2_000, 50, 2136
 BOUND = 60  # seconds
 BY_SERVER = 10  # each so many journals one is written by the server

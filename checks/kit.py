@@ -1,7 +1,9 @@
-"""The kit's own rtlib.py, which knows the words of a check and how a library is built, and the kit's version; build.py, bench/unproved.py and wrong_bodies.py use it."""
+"""The kit's own rtlib.py, which knows the words of a check and how a library is built, and the kit's version; build.py, bench/unproved.py and scripts of checks/ use it."""
 
+import contextlib
 import importlib.machinery
 import importlib.util
+import os
 import subprocess
 import sys
 import threading
@@ -22,6 +24,18 @@ def rtlib():
     sys.modules["rtlib"] = made
     loader.exec_module(made)
     return made
+
+
+def called(name):
+    """The built program by one of its names, dns-audit or dns-follow: a second name of its file, as `dns` makes it."""
+    program = Path(__file__).resolve().parent.parent / "crates" / "dns_program" / "out" / "dns_program"
+    named = Path(f"{program}.names", name)
+    if program.is_file() and not (named.is_file() and named.samefile(program)):
+        named.parent.mkdir(exist_ok=True)
+        named.unlink(missing_ok=True)
+        with contextlib.suppress(FileExistsError):
+            os.link(program, named)
+    return named
 
 
 def version():

@@ -360,8 +360,8 @@ def answers():
     """Replies that are none, or odd ones."""
     other = {
         "a reply of another id": (lambda m: framed(b"\x12\x35" + reply_to(m)[2:]), (22, "mismatch\n")),
-        "the message itself": (framed, (23, "not reply\n")),
-        "a reply to a query": (lambda m: framed(reply_to(m, flags=0x8000)), (23, "not reply\n")),
+        "the message itself": (framed, (23, "notreply\n")),
+        "a reply to a query": (lambda m: framed(reply_to(m, flags=0x8000)), (23, "notreply\n")),
         "eleven bytes": (lambda m: framed(reply_to(m)[:11]), (24, "proto\n")),
         "an empty frame": (lambda m: b"\0\0", (24, "proto\n")),
         "a question that is cut": (lambda m: framed(reply_to(m)[:-1]), (24, "proto\n")),
@@ -384,9 +384,9 @@ def answers():
         yield "a reply byte by byte", sent_to(server.port, ADD, 4660), (0, "1234 5\n")
     two = ADD + "send\n"
     with plain(answering(lambda m: framed(reply_to(m)) if m[1] == 0x34 else framed(m))) as server:
-        yield "the second of two", (sent_to(server.port, two, 4660), len(server.ended())), ((23, "not reply\n"), 2)
+        yield "the second of two", (sent_to(server.port, two, 4660), len(server.ended())), ((23, "notreply\n"), 2)
     with plain(answering(lambda m: framed(m))) as server:
-        yield "nothing behind the first that is at fault", (sent_to(server.port, two, 4660), len(server.ended())), ((23, "not reply\n"), 1)
+        yield "nothing behind the first that is at fault", (sent_to(server.port, two, 4660), len(server.ended())), ((23, "notreply\n"), 1)
     with plain(silent) as server:
         begun = time.monotonic()
         got = sent_to(server.port, ADD, 4660)

@@ -16,9 +16,9 @@ import sys
 from pathlib import Path
 
 import kit
-import wrong_bodies
+import trials
 
-TOP = wrong_bodies.TOP
+TOP = trials.TOP
 TOLD = re.compile(r"(?:fn|impl|trait) (\w+)::[^:]*(?:::[^:]+)*: (.*)")
 ELSEWHERE = re.compile(r"depends on a hole in `Rattle\.(\w+)\.")
 
@@ -28,7 +28,7 @@ def left_open(lib, name, home):
     crate = lib.Crate(f"{TOP}/crates/{name}", str(TOP), {})
     subprocess.run(["rm", "-rf", str(home)], check=True)
     home.mkdir(parents=True)
-    wrong_bodies.Copy(crate, home, set()).leave_open(set())
+    trials.Copy(crate, home, set()).leave_open(set())
     return f"{home}/src/lib.rt"
 
 

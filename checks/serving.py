@@ -8,7 +8,7 @@ writes its two closing lines; and a port that is taken is told by a status of it
 
   serving.py [CONNECTIONS [SEED]]  that many connections at once, or 200; the same random bytes for the same seed
 
-Uses the standard library, and loopback alone. Each wait is bounded in time. Clients that people use ask in clients.py.
+Uses the standard library, and loopback alone. Each wait is bounded in time. DNS_PROGRAM names another program. Clients that people use ask in clients.py.
 """
 
 import random
@@ -22,9 +22,8 @@ from contextlib import contextmanager
 from pathlib import Path
 
 import wire
+from servers import PROGRAM
 
-TOP = Path(__file__).resolve().parent.parent
-PROGRAM = TOP / "crates" / "dns_program" / "out" / "dns_program"
 CONNECTIONS, SEED = 200, 1035
 BOUND = 20  # seconds for a run, a reply or a connection's end
 MOST = 100  # messages of a connection, which is closed behind the last of them
@@ -463,6 +462,7 @@ def over_ipv6():
 def tried(count, seed):
     """Everything, one after the other."""
     yield from datagrams("query", list(queries()))
+    yield from datagrams("query under a greatest datagram", list(queries()), "--payload=600")
     yield from datagrams("odd message", list(odd_messages()))
     yield from datagrams("random bytes", list(random_messages(seed)), "--update")
     yield from connections(seed)

@@ -2,7 +2,9 @@
 """Reads the texts that people and other tools read: the pages of docs/, those for man, the shell scripts, the units for systemd.
 
 - each link from a page of docs/ to another, and each page and file that a text names by its path, leads to what is there;
+- the rules of docs/MAP.md stand in order (with --sort it puts them so);
 - each file that docs/MAP.md names is there, and the map names each crate; docs/PROVED.md names each that has definitions of its own;
+- each call that the tables of docs/MEMORY.md name is one of its crate;
 - each line of the contract that docs/CONTRACTS.md reads aloud stands in the sources;
 - the pages for man name each option and each status that `--help` names;
 - `mandoc -Tlint`, `shellcheck` and `systemd-analyze verify` find no fault in them, each where it is installed, and else it is passed over with a line.
@@ -17,6 +19,8 @@ import sys
 import tempfile
 from pathlib import Path
 
+import memory
+
 TOP = Path(__file__).resolve().parent.parent
 PAGES = {
     "man/dns.8": "crates/dns_serve/src/help.rt",
@@ -28,6 +32,7 @@ SCRIPTS = ["dns", ".ci/run", "examples/followers.sh"]
 MAP = TOP / "docs/MAP.md"
 PROVED = TOP / "docs/PROVED.md"
 CONTRACTS = TOP / "docs/CONTRACTS.md"
+MEMORY = TOP / "docs/MEMORY.md"
 READ_ALOUD = ["crates/dns_book/src/book.rt", "crates/dns_book/specs/Book.antt"]
 # What a text names that stands at the top of the repository: a page, a script, an example.
 NAMED = re.compile(r"(?<![\w/.-])(?:docs|checks|bench|examples|man|crates)/[\w./*-]*[\w*]")
@@ -117,6 +122,15 @@ def left_out():
     return faults + [f"docs/PROVED.md does not name {it.name}" for it in crates if (it / "specs").is_dir() and not re.search(rf"\b{it.name}\b", proved)]
 
 
+def rules_sorted():
+    """The map with the rows of "Where a rule lives" by the alphabet of their words."""
+    text = MAP.read_text(encoding="utf-8")
+    head, rules, rest = re.split(r"(?m)^(?=## Where a rule lives|## How to add a case)", text)
+    title, rows = re.fullmatch(r"(.*?\n\|---.*?\n)(.*?)\n*", rules, re.S).groups()
+    in_order = sorted(rows.splitlines(), key=lambda row: re.sub(r"[^a-z0-9 ]", "", row.split("|")[1].lower()).strip())
+    return head + title + "\n".join(in_order) + "\n\n" + rest
+
+
 def stale_lines():
     """The lines of the contract that docs/CONTRACTS.md reads aloud which stand in none of the files that it is copied from."""
     page = CONTRACTS.read_text(encoding="utf-8")
@@ -145,7 +159,11 @@ def units(home):
 
 
 def main():
-    faults = lost_links() + lost_files() + left_out() + stale_lines()
+    if sys.argv[1:] == ["--sort"]:
+        MAP.write_text(rules_sorted(), encoding="utf-8")
+    faults = [] if MAP.read_text(encoding="utf-8") == rules_sorted() else ["docs/MAP.md: rules out of order; --sort mends it"]
+    faults += lost_links() + lost_files() + left_out() + stale_lines()
+    faults += [f"docs/MEMORY.md: no call {it}" for it in memory.lost_calls(MEMORY)]
     faults += [f"{page} does not name {it}" for page, source in PAGES.items() for it in lacks(page, source)]
     pages = sorted(str(it.relative_to(TOP)) for it in (TOP / "man").iterdir())
     with tempfile.TemporaryDirectory() as home:

@@ -473,10 +473,11 @@ def is_safe(source):
 
 
 class Server:
-    """A zone beside its journal. denied are the hexadecimal digits with which the IPv4 addresses begin that are shut out."""
+    """A zone beside its journal. denied are the hexadecimal digits with which the IPv4 addresses begin that are shut out; payload is how many bytes a
+    datagram has at most, those of IPv4 where nothing else is said (RFC 791, RFC 768)."""
 
-    def __init__(self, origin, zone, are_let_in, denied=None):
-        self.origin, self.zone, self.are_let_in, self.denied = origin, zone, are_let_in, denied
+    def __init__(self, origin, zone, are_let_in, denied=None, payload=65_507):
+        self.origin, self.zone, self.are_let_in, self.denied, self.payload = origin, zone, are_let_in, denied, payload
         self.rows, self.decided = opening_rows(zone, origin), Counter()
 
     def settle(self, request, source, is_datagram):
@@ -500,7 +501,7 @@ class Server:
         except Outside:
             return "no message", written(request, FORMERR, least)
         question = message.questions[0] if len(message.questions) == 1 else None
-        limit = max(512, message.edns.payload) if is_datagram and message.edns else least
+        limit = min(self.payload, max(512, message.edns.payload)) if is_datagram and message.edns else least
         same = {"limit": limit, "question": question, "edns": message.edns}
         if message.edns and message.edns.version > 0:
             return "version of EDNS", written(request, BADVERS, **same)

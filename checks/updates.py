@@ -467,6 +467,7 @@ class Case:
         self.number, self.origin, self.at, self.events, self.numbers, self.left = number, chance.origin, 0, [], [], {}
         self.text, self.zone = a_zone(chance)
         self.are_let_in, self.is_denied = chance.random() < 0.92, chance.random() < 0.1
+        self.payload = random.Random(f"{seed} {number} payload").choice([None, None, None, 512, 600, 1_232])
         self.follower = self.server()
         for _ in range(chance.randrange(5, 31)):
             self.at += chance.choice([0, 0, 0, 0, 1, 2])
@@ -478,9 +479,10 @@ class Case:
             self.events.append({"kind": "S", "at": self.at})
         spelled = name_text(chance.spelled(chance.origin))
         self.words = ["events", spelled, *["--update"] * self.are_let_in, *[DENIED[0]] * self.is_denied]
+        self.words += [f"--payload={self.payload}"] if self.payload else []
 
     def server(self):
-        return Server(self.origin, self.zone, self.are_let_in, DENIED[1] if self.is_denied else None)
+        return Server(self.origin, self.zone, self.are_let_in, DENIED[1] if self.is_denied else None, self.payload or 65_507)
 
     def datagram(self, message, source):
         self.events.append({"kind": "D", "at": self.at, "peer": source, "piece": message})

@@ -1,31 +1,24 @@
 #!/usr/bin/env python3
 """Tries wrong bodies: the prover must refuse each function that one of them changes, for itself.
 
-  wrong_bodies.py              sees that each applies, and tries all of crates/*/must-fail-together
-  wrong_bodies.py NAME..       tries those of these crates
+  wrong_bodies.py              sees that each applies, and tries those of the crates of which checks/wrong_bodies.sums does not have today's sum
+  wrong_bodies.py NAME..       tries those of these crates, whatever the list has
   wrong_bodies.py --since REV  tries those of the crates whose code, definitions or proofs changed since a revision
+  wrong_bodies.py --anew       tries all
   wrong_bodies.py --apply      sees that each applies, and tries none: no library and no proof is needed
-  wrong_bodies.py --anew       tries all, whatever was tried before
+  wrong_bodies.py --due        tells which crates it would try, and tries none
+  .. --write                   writes the lines of the crates of which it saw all refused into the list
 
 It runs after `rt ci` in the same checkout, over the libraries that stand in crates/*/out/rlib. rt itself tries crates/*/must-fail, which
-it proves each crate once more for; these here are the others, and those of a crate are tried together, in a copy of it:
+it proves each crate once more for; these here are crates/*/must-fail-together, and those of a crate are tried together, in a copy of it (trials.py).
 
-- each wrong body changes a function of its own (a second one of the same function is put into a function of another name beside it,
-  with the proof files of the first), and no function that is not changed is proved: its proof is a hole, so that its contract counts
-  and its body does not;
-- one check proves just the functions that were changed. A wrong body is refused if the prover says of the function that it changes that a
-  goal is not proved, or refuses a proof file of that function. That it calls a function which is not proved counts for nothing, and
-  neither does a proof file that names what the edit took away: such an edit says nothing of a contract, and fails the run;
-- an edit of a constant or a definition can change what others mean, so it is tried alone. It says by `only: FUNCTION` (a path below the
-  crate, several lines for several functions) whose contract is to refuse it; an edit of a function may do so too;
-- what ends in .harmless in the same folder is an edit that keeps the meaning: it is tried with the others, and has to stay proved.
+The list checks/wrong_bodies.sums has a line for each crate of which all wrong bodies were seen refused, and all harmless edits proved: its name, and the sum of
+what that rests on. These are the crate's own sources, definitions, proofs and edits; of each library of the repository below it the definitions, and the sources
+without the bodies of functions and without comments, since a caller knows a function only by its clauses; the lines of crates.txt, the kit's name, and trials.py. What
+a lemma of a library below says is no part of it: it makes no false statement true. The sum is the same on every machine.
 
-An edit is as rt's: a line 'file: PATH', then pairs of lines 'old: TEXT' and 'new: TEXT', where the old text stands exactly once in that file.
-A crate whose wrong bodies were all refused on this machine, with the same sources, libraries below, edits, kit and script, is not tried again: its line says so. The
-folder .cache/dns-wrong-bodies of the home, or the one that WRONG_BODIES_KEPT names, keeps the sums.
-
-RT_JOBS says how many crates are tried side by side (all processors), and WRONG_BODIES_LOG names a folder for what the prover says. Uses the standard library, and the kit's own rtlib.py for the
-words of a check.
+RT_JOBS says how many crates are tried side by side (all processors), and WRONG_BODIES_LOG names a folder for what the prover says. Uses the standard
+library, and the kit's own rtlib.py for the words of a check.
 """
 
 import functools
@@ -33,397 +26,119 @@ import hashlib
 import os
 import re
 import resource
-import shutil
 import subprocess
 import sys
-import tempfile
 import time
 from concurrent.futures import ThreadPoolExecutor, as_completed
 from pathlib import Path
 
 import kit
+import trials
+from trials import BY_RT, PARTS, PROVED, REFUSED, TOGETHER, TOP, edits_of, stale, tried
 
-TOP = Path(__file__).resolve().parent.parent
-BY_RT, TOGETHER = "must-fail", "must-fail-together"
-EDIT = re.compile(r"[A-Za-z0-9_-][A-Za-z0-9_.-]*\.(edit|harmless)")
-PARTS = ("src", "specs", "proofs")
-FUNCTION = re.compile(r"^( *)(?:pub(?:\([a-z]+\))? )?(?:const )?(?:unsafe )?fn (\w+)")
-# What the prover says of a proof file that names what an edit took away.
-NAMES = re.compile(r"has no field|\(nearest: |is not in scope|has no `|was not admitted|is no name")
-
-
-class Stale(Exception):
-    """An edit that cannot be applied, with why."""
+LIST = TOP / "checks" / "wrong_bodies.sums"
+HEAD = "# The crates of which all wrong bodies were seen refused, and the sum of what that rests on; written by checks/wrong_bodies.py --write.\n"
+# The head of a function whose body its callers may read: what a constant comes to, and which type it gives.
+READ_ABOVE = re.compile(r"\bconst fn\b|->.*\bimpl\b", re.S)
 
 
-class Place:
-    """A function in a file's text: its path below the crate, and its lines, from the first of its doc comment to its end."""
-
-    def __init__(self, path, name, indent, first, head, last):
-        self.path, self.name, self.indent, self.first, self.head, self.last = path, name, indent, first, head, last
-
-
-def bare(kind):
-    """The last word of a type's or trait's path, without its parameters."""
-    kind = re.sub(r"^&(?:'\w+ )?(?:mut )?", "", kind.strip())
-    return re.sub(r"<.*", "", kind).split("::")[-1].strip()
+def without_bodies(folder, file, text):
+    """The text of a file of src/ without the lines in the bodies of its functions."""
+    lines, left_out = text.split("\n"), set()
+    for place in trials.places(folder, file, text):
+        if not READ_ABOVE.search("\n".join(lines[place.head : place.opens + 1])):
+            left_out.update(range(place.opens + 1, place.last))
+    return "\n".join(line for at, line in enumerate(lines) if at not in left_out)
 
 
-def owner_of(line):
-    """How rattle names what an impl or a trait's methods belong to, or none."""
-    trait = re.match(r"(?:pub(?:\([a-z]+\))? )?(?:unsafe )?trait (\w+)", line)
-    if trait:
-        return trait[1]
-    if not re.match(r"(?:unsafe )?impl\b", line):
-        return None
-    text, depth = re.sub(r"^(?:unsafe )?impl\s*", "", line).split("{")[0], 0
-    text = re.sub(r"\bwhere\b.*", "", text)
-    for at, letter in enumerate(text if text.startswith("<") else ""):
-        depth += (letter == "<") - (letter == ">" and text[at - 1] != "-")
-        if not depth:
-            text = text[at + 1 :]
-            break
-    first, _, second = text.partition(" for ")
-    source = re.fullmatch(r"\s*From<([\w:]+)(?:<.*>)?>\s*", first)
-    # (of From it says from what, as in FaultFromIoError)
-    kind = "From" + "".join(it[:1].upper() + it[1:] for it in source[1].split("::")) if source else bare(first)
-    return bare(second)[:1].upper() + bare(second)[1:] + kind if second else bare(first)
+def without_comments(lib, text):
+    """The text of Rattle without its line comments and empty lines."""
+    kept, at = [], 0
+    while at < len(text):
+        token = lib.RUST_TOKEN.match(text, at)[0]
+        kept.append("" if token.startswith("//") else token)
+        at += len(token)
+    return "\n".join(line for line in (it.rstrip() for it in "".join(kept).split("\n")) if line)
 
 
-def body_of(lines, head, indent):
-    """The last line of a function that begins at this one, or none where it has no body."""
-    depth = 0
-    for at in range(head, len(lines)):
-        line = lines[at]
-        if not depth and (line == indent + "{}" or at == head and re.search(r"\{.*\}$", line)):
-            return at
-        if not depth and line.endswith("{") and len(line) - len(line.lstrip()) == len(indent):
-            return lines.index(indent + "}", at)
-        depth += line.count("{") - line.count("}")
-        if not depth and line.endswith(";"):
-            return None
-    return None
-
-
-def module_of(file):
-    """The path of the module that a file of src/ is."""
-    return [it for it in Path(file).with_suffix("").parts[1:] if it not in ("lib", "main", "mod")]
+def sum_of(said):
+    return hashlib.sha256(said.encode() if isinstance(said, str) else said).hexdigest()
 
 
 @functools.lru_cache(maxsize=None)
-def homes(folder):
-    """Where each type of a crate is declared: rattle names its own methods by that module, wherever they stand."""
-    found = {}
+def known_above(lib, folder):
+    """What the crates above a library know of it, as lines with sums."""
+    lines = []
     for file in sorted(Path(folder).glob("src/**/*.rt")):
-        for name in re.findall(r"^(?:pub(?:\([a-z]+\))? )?(?:struct|enum) (\w+)", file.read_text(encoding="utf-8"), re.M):
-            found[name] = module_of(str(file.relative_to(folder)))
-    return found
+        name = str(file.relative_to(folder))
+        lines.append(f"{name} {sum_of(without_comments(lib, without_bodies(folder, name, file.read_text(encoding='utf-8'))))}")
+    lines += [f"{file.relative_to(folder)} {sum_of(file.read_bytes())}" for file in sorted(Path(folder).glob("specs/**/*.antt"))]
+    return "\n".join(lines)
 
 
-def places(folder, file, text):
-    """The functions with a body in the text of a file of src/ of a crate, as rustfmt lays it out."""
-    module, lines, owner, found = module_of(file), text.split("\n"), None, []
-    for at, line in enumerate(lines):
-        if re.match(r"(?:pub(?:\([a-z]+\))? )?(?:unsafe )?(?:impl|trait)\b", line):
-            owner = owner_of(" ".join(it.strip() for it in lines[at : at + 12]))
-        elif line.startswith("}"):
-            owner = None
-        head = FUNCTION.match(line)
-        last = body_of(lines, at, head[1]) if head else None
-        if last is None:
-            continue
-        first = at
-        while first and re.match(r" *(///|#\[)", lines[first - 1]):
-            first -= 1
-        own = [*homes(folder).get(owner, module), owner] if head[1] and owner else module
-        found.append(Place("::".join([*own, head[2]]), head[2], head[1], first, at, last))
-    return found
+def rests_on(lib, crate):
+    """The sum of all that the trial of a crate's wrong bodies rests on."""
+    told = [kit.version(), sum_of(Path(trials.__file__).read_bytes())]
+    listed = (TOP / "crates.txt").read_text(encoding="utf-8").splitlines()
+    for part in PARTS:
+        files = sorted(it for it in Path(crate.folder, part).rglob("*") if it.suffix in (".rt", ".antt"))
+        told += [f"{it.relative_to(crate.folder)} {sum_of(it.read_bytes())}" for it in files]
+    told += [f"{it.name} {sum_of(it.read_bytes())}" for it in edits_of(crate.name, TOGETHER)]
+    for it in [*sorted(crate.below(), key=lambda it: it.name), crate]:
+        told += [line for line in listed if line.startswith(f"{it.name}:")]
+        told.append(known_above(lib, it.folder) if it is not crate else "")
+    return sum_of("\n".join(told))
 
 
-def read(edit):
-    """The pairs of an edit, each with its file, and the functions that it names."""
-    file = old = None
-    pairs, only = [], []
-    for line in edit.read_text(encoding="utf-8").split("\n"):
-        if line.startswith("file: "):
-            file = line.removeprefix("file: ").strip()
-            if os.path.normpath(file) != file or not file.startswith(tuple(f"{it}/" for it in PARTS)):
-                raise Stale(f"{file} is no file below src/, specs/ or proofs/")
-        elif line.startswith("only: "):
-            only.append(line.removeprefix("only: ").strip())
-        elif line.startswith("old: "):
-            old = line.removeprefix("old: ")
-        elif line.startswith("new:"):
-            if not file or not old:
-                raise Stale("a new text stands before any file or old text")
-            pairs.append((file, old, line.removeprefix("new:").removeprefix(" ")))
-            old = None
-    if not pairs:
-        raise Stale("it has no pair of an old and a new text")
-    return pairs, only
+def listed():
+    """The crates of the list, with their sums."""
+    lines = LIST.read_text(encoding="utf-8").splitlines() if LIST.is_file() else []
+    return dict(line.split() for line in lines if line and not line.startswith("#"))
 
 
-def applied(folder, edit):
-    """The texts that an edit makes of files, those of before, the functions that it changes, and whether it changes nothing else."""
-    texts, before, inside, apart = {}, {}, {}, True
-    pairs, only = read(edit)
-    for file, old, new in pairs:
-        if file not in texts:
-            try:
-                texts[file] = before[file] = (folder / file).read_text(encoding="utf-8")
-            except (OSError, UnicodeDecodeError):
-                raise Stale(f"there is no file {file}") from None
-        if texts[file].count(old) != 1:
-            raise Stale(f"an old text is in {file} {texts[file].count(old)} times, and not once")
-        row = texts[file][: texts[file].index(old)].count("\n")
-        around = [it for it in places(folder, file, texts[file]) if it.head < row <= it.last] if file.startswith("src/") else []
-        inside.update({around[-1].path: file} if around else {})
-        apart = apart and bool(around)
-        texts[file] = texts[file].replace(old, new)
-    if texts == before:
-        raise Stale("it changes nothing")
-    return texts, before, only or list(inside), apart
+def write(sums, every):
+    """Writes the list with these sums beside those that it has, without the crates that are no more."""
+    LIST.write_text(HEAD + "".join(f"{name} {it}\n" for name, it in sorted({**listed(), **sums}.items()) if name in every), encoding="utf-8")
 
 
-def edits_of(crate, kind):
-    """The edits of a crate in the folder of this name."""
-    folder = TOP / "crates" / crate / kind
-    return sorted(path for path in folder.rglob("*") if path.is_file() and path.suffix != ".md")
-
-
-def stale():
-    """How many edits there are by folder, and what is wrong with them."""
-    count, wrong = {BY_RT: 0, TOGETHER: 0}, []
-    for kind in count:
-        for crate in sorted(it.parent.name for it in TOP.glob(f"crates/*/{kind}")):
-            for edit in edits_of(crate, kind):
-                count[kind] += edit.suffix == ".edit"
-                try:
-                    if not EDIT.fullmatch(edit.name) or edit.parent.name != kind:
-                        raise Stale("it is no edit")
-                    _, _, only, _ = applied(TOP / "crates" / crate, edit)
-                    if kind == TOGETHER and not only:
-                        raise Stale("it changes no function, and has no line `only:`")
-                except Stale as why:
-                    wrong.append(f"{edit.relative_to(TOP)}: {why}")
-    return count, wrong
-
-
-class Copy:
-    """A copy of a crate in which wrong bodies are tried together."""
-
-    def __init__(self, crate, room, no_copies):
-        self.no_copies, self.is_closed = no_copies, False
-        self.crate, self.room, self.tried, self.changed, self.same = crate, room, {}, {}, {}
-        for part in PARTS:
-            if os.path.isdir(f"{crate.folder}/{part}"):
-                shutil.copytree(f"{crate.folder}/{part}", room / part)
-
-    def take(self, edit):
-        """Applies an edit, and returns whether it could go along with those that were taken."""
-        if self.is_closed:
-            return False
-        own, before, only, is_apart = applied(Path(self.crate.folder), edit)
-        if not is_apart or len(only) != 1 or len(own) != 1:
-            if self.tried:
-                return False
-            for file, text in own.items():
-                (self.room / file).write_text(text, encoding="utf-8")
-            self.tried[edit] = only
-            self.changed.update(dict.fromkeys(only, True))
-            self.is_closed = not is_apart
-            return True
-        (file, text), (path,) = *own.items(), only
-        now = (self.room / file).read_text(encoding="utf-8")
-        if path not in self.changed:
-            first = self.put_in_place(file, before[file], text, now, path)
-        else:
-            first = self.put_beside(file, before[file], text, now, path)
-        if first:
-            self.tried[edit] = [first]
-            self.changed[first] = True
-        return bool(first)
-
-    def lines_of(self, file, text, path):
-        """Where a function stands, and its lines."""
-        place = next(it for it in places(Path(self.crate.folder), file, text) if it.path == path)
-        return place, text.split("\n")[place.first : place.last + 1]
-
-    def put_in_place(self, file, before, text, now, path):
-        _, wrong = self.lines_of(file, text, path)
-        place, _ = self.lines_of(file, now, path)
-        lines = now.split("\n")
-        lines[place.first : place.last + 1] = wrong
-        (self.room / file).write_text("\n".join(lines), encoding="utf-8")
-        return path
-
-    def put_beside(self, file, before, text, now, path):
-        """Puts the wrong function beside the right one, by another name and with copies of its proof files; and, with the first, the right one by
-        another name too, which has to be proved, or else such copies say nothing."""
-        place, wrong = self.lines_of(file, text, path)
-        owner = path.split("::")[-2] if place.indent else ""
-        header = next((it for it in text.split("\n")[: place.head][::-1] if it[:1] not in ("", " ", "/", "}", ")")), "")
-        if path in self.no_copies or place.indent and (" for " in header or header.startswith(("trait", "pub trait")) or not owner):
-            return None
-        _, right = self.lines_of(file, before, path)
-        if path not in self.same:
-            self.same[path] = self.put_copy(file, path, right, "unchanged")
-            self.changed[self.same[path]] = True
-        return self.put_copy(file, path, wrong, str(len(self.changed)))
-
-    def put_copy(self, file, path, text, ending):
-        """Puts a function of this text beside another, by its name with an ending, and gives its path."""
-        now = (self.room / file).read_text(encoding="utf-8")
-        place, _ = self.lines_of(file, now, path)
-        lines = now.split("\n")
-        text = "\n".join(text).replace(f"fn {place.name}", f"fn {place.name}_{ending}", 1)
-        lines[place.last + 1 : place.last + 1] = ["", *text.split("\n")]
-        (self.room / file).write_text("\n".join(lines), encoding="utf-8")
-        beside = f"{path}_{ending}"
-        self.copy_proof(path, beside)
-        return beside
-
-    def copy_proof(self, path, beside):
-        one, other = (self.room / "proofs" / Path(*it.split("::")) for it in (path, beside))
-        if one.is_dir():
-            shutil.copytree(one, other)
-        for proof in other.rglob("*.antt") if other.is_dir() else ():
-            whole = [f"proofs.{it.replace('::', '.')}." for it in (path, beside)]
-            text = proof.read_text(encoding="utf-8").replace(*whole)
-            proof.write_text(text, encoding="utf-8")
-
-    def leave_open(self, but):
-        """Gives each function that is not changed, but these, a hole for a proof."""
-        for source in sorted((self.room / "src").rglob("*.rt")):
-            text = source.read_text(encoding="utf-8")
-            lines = text.split("\n")
-            for place in places(Path(self.crate.folder), str(source.relative_to(self.room)), text):
-                calls = rf"(?:self\.|Self::){place.name}\(" if place.indent else rf"(?<![\w:.]){place.name}\("
-                is_cycle = any("#[cycle" in it for it in lines[place.first : place.head]) or re.search(calls, "\n".join(lines[place.head + 1 : place.last]))
-                if is_cycle or place.path in self.changed or place.path in but:
-                    continue
-                folder = self.room / "proofs" / Path(*place.path.split("::"))
-                for name in ("Invariants.antt", "Answers.antt"):
-                    (folder / name).unlink(missing_ok=True)
-                folder.mkdir(parents=True, exist_ok=True)
-                module = place.path.replace("::", ".")
-                (folder / "Proof.antt").write_text(
-                    f"use Rattle.{self.crate.name}.proofs.{module}.Statement.{{statement}}\n\n"
-                    f"pub {place.name}_spec : {{M : Type 1}} → statement M\n{place.name}_spec 𝓤 𝓛 𝓜 𝓡 w = ?\n",
-                    encoding="utf-8",
-                )
-
-    def check(self, lib):
-        """What the prover says of the functions that were changed."""
-        but = set()
-        for _ in range(4):
-            self.leave_open(but)
-            only = [word for path in self.changed for word in ("--only", f"{self.crate.name}::{path}")]
-            words = [*lib.guarded(), lib.RATTLE, "check", *self.crate.words(["--jobs", "1"], keeps=False), "--allow-holes", "--progress", *only]
-            how = {"cwd": self.room, "stdin": subprocess.DEVNULL, "stdout": subprocess.PIPE, "stderr": subprocess.STDOUT}
-            said = subprocess.run(words, text=True, errors="replace", **how).stdout
-            if os.environ.get("WRONG_BODIES_LOG"):
-                Path(os.environ["WRONG_BODIES_LOG"], f"{self.crate.name}-{len(self.tried)}").write_text(said, encoding="utf-8")
-            # (where rattle knows no function of that name it may say so before it checks any)
-            none = re.findall(r"^\./proofs/(\S+)/Proof\.antt: error: (?:rattle does not read|`\w+` has no function)", said, re.M)
-            if not none or re.search(r"^only=\d+ ", said, re.M):
-                break
-            for path in none:
-                shutil.rmtree(self.room / "proofs" / path)
-                but.add(path.replace("/", "::"))
-        return said
-
-
-# What a wrong body came to.
-REFUSED, PROVED, BY_NAME, UNREAD = "refused", "NOT REFUSED", "refused only because a proof file names what the edit took away", "it was not tried: the prover could not read it"
-
-
-def verdict(said, crate, path, is_alone):
-    """What the prover says of one function. Behind an edit that is alone it may refuse a lemma on which the function's proof stands."""
-    lines = said.split("\n")
-    line = next((it for it in lines if it.startswith(f"fn {crate}::{path}: ")), "")
-    told = line.partition(": ")[2]
-    if not told or "does not cover this function" in told or "is not made yet" in told:
-        return UNREAD
-    if told.startswith(("no holes", "depends on a hole", "proved")):
-        return PROVED
-    own = f"proofs/{path.replace('::', '/')}/"
-    faults = [it for it in lines if it.startswith("./proofs/" if is_alone else "./" + own) and ": error" in it]
-    # (a goal whose name is another has lost its answer, and then that it was not found says nothing)
-    by_name = [it for it in faults if NAMES.search(it)]
-    is_false = any(f"of {own}" in it and " may be false: " in it for it in lines)
-    if is_false or len(by_name) < len(faults) or ("did not prove" in told and not by_name):
-        return REFUSED
-    return BY_NAME if by_name else PROVED
-
-
-def tried(lib, crate, edits, no_copies):
-    """Tries edits together, and returns what each came to, and what is left to try. Of the functions in no_copies no copy is made."""
-    with tempfile.TemporaryDirectory(prefix="wrong-bodies-") as home:
-        copy = Copy(crate, Path(home), no_copies)
-        left = [edit for edit in edits if not copy.take(edit)]
-        said = copy.check(lib)
-    told = lambda path: verdict(said, crate.name, path, copy.is_closed)
-    for path, same in copy.same.items():
-        if told(same) != PROVED:
-            # (its proof does not go along with another name: its edits are tried one after another)
-            no_copies.add(path)
-            again = [edit for edit, (one, *_) in copy.tried.items() if one.startswith(f"{path}_")]
-            left += again
-            copy.tried = {edit: paths for edit, paths in copy.tried.items() if edit not in again}
-    found = {}
-    for edit, paths in copy.tried.items():
-        came = [told(path) for path in paths]
-        found[edit] = next((it for it in (REFUSED, BY_NAME, UNREAD) if it in came), PROVED)
-    unsure = [edit for edit in found if found[edit] == UNREAD or found[edit] == PROVED and edit.suffix == ".edit"]
-    if unsure and len(found) > 1:
-        # (one of them may keep the others from being read, and what calls a wrong function may not be looked at to its end)
-        for edit in unsure:
-            found.update(tried(lib, crate, [edit], no_copies)[0])
-        return found, left
-    for edit in found:
-        if found[edit] == UNREAD:
-            found[edit] += ": " + "\n    ".join([it for it in said.split("\n") if "error" in it][:4])
-    return found, left
-
-
-def tried_crate(lib, name, anew):
-    """Tries all edits of a crate, and returns what to say, how many there were, and how many failed."""
-    begun, found = time.time(), {}
+def crate_of(lib, name):
     crate = lib.Crate(f"{TOP}/crates/{name}", str(TOP), {})
     crate.out = open(os.devnull, "w")
-    kept = kept_at(lib, crate)
-    if kept and kept.is_file() and not anew:
-        wrong = [it for it in edits_of(name, TOGETHER) if it.suffix == ".edit"]
-        return f"{name}: {len(wrong)} wrong bodies, all refused here before", len(wrong), 0, len(edits_of(name, TOGETHER)) - len(wrong)
+    return crate
+
+
+def stands(lib, crate):
+    """Whether a library is built of the sources that stand: by the sum that rt check leaves beside it, or, of one of rt ci, which leaves none, since it was
+    laid there behind the last change of its sources."""
+    rlib = Path(crate.folder, "out", "rlib")
+    if (rlib / "stamp").is_file():
+        return crate.is_built()
+    laid = [it.stat().st_mtime for it in (rlib, *rlib.glob("*.rlib"), *rlib.glob("*.rlib/*")) if it.is_dir()]
+    return Path(crate.rlib).is_dir() and max(laid) >= max(Path(it).stat().st_mtime for it in lib.files_of(crate.folder))
+
+
+def tried_crate(lib, name):
+    """Tries all edits of a crate, and returns what to say, how many wrong bodies there were, how many failed, how many harmless edits, and the sum."""
+    begun, found, crate = time.time(), {}, crate_of(lib, name)
+    lacking = [it.name for it in crate.below() if not stands(lib, it)]
+    if lacking:
+        return f"{name}: NOT TRIED: the library {lacking[0]} below it is not built of these sources: rt check builds it", 0, 1, 0, None
+    told = rests_on(lib, crate)
     left, no_copies = edits_of(name, TOGETHER), set()
     while left:
-        told, left = tried(lib, crate, left, no_copies)
-        found.update(told)
-    bad = {it: told for it, told in found.items() if (told != PROVED if it.suffix == ".harmless" else told != REFUSED)}
+        more, left = tried(lib, crate, left, no_copies)
+        found.update(more)
+    bad = {it: came for it, came in found.items() if (came != PROVED if it.suffix == ".harmless" else came != REFUSED)}
     wrong = [it for it in found if it.suffix == ".edit"]
     lines = [f"{name}: {len(wrong) - sum(it in bad for it in wrong)} of {len(wrong)} wrong bodies refused in {time.time() - begun:.0f} s"]
-    lines += [f"  {it.name}: {told}" for it, told in bad.items()]
+    lines += [f"  {it.name}: {came}" for it, came in bad.items()]
     lines += [f"  (no copy of {it} is proved, so its wrong bodies were tried one after another)" for it in sorted(no_copies)]
-    if kept and not bad:
-        kept.touch()
-    return "\n".join(lines), len(wrong), len(bad), len(found) - len(wrong)
-
-
-def kept_at(lib, crate):
-    """Where it is kept that all wrong bodies of a crate were refused: by all that this rests on. None where no folder can be made."""
-    room = Path(os.environ.get("WRONG_BODIES_KEPT") or Path.home() / ".cache" / "dns-wrong-bodies")
-    told = hashlib.sha256(f"{crate.stamp()} {kit.version()}".encode())
-    for dep in crate.below():
-        # (a library's format holds the sum of its files)
-        told.update(f"{dep.name} {lib.sum_of(dep.rlib + '/format')}".encode())
-    for file in [Path(__file__), Path(kit.__file__), *edits_of(crate.name, TOGETHER)]:
-        told.update(repr((file.name, file.read_bytes())).encode())
-    try:
-        room.mkdir(parents=True, exist_ok=True)
-    except OSError:
-        return None
-    return room / f"{crate.name}-{told.hexdigest()}"
+    # (of a file that was changed meanwhile another text was tried)
+    if not bad and told == rests_on(lib, crate):
+        lines.append(f"  its line of the list is: {name} {told}")
+    else:
+        told = None
+    return "\n".join(lines), len(wrong), len(bad), len(found) - len(wrong), told
 
 
 def changed_since(revision):
@@ -435,37 +150,60 @@ def changed_since(revision):
     return {part[1] for part in parts if len(part) > 3 and part[2] in (*PARTS, TOGETHER)}
 
 
-def main():
-    words, every = sys.argv[1:], sorted(it.parent.name for it in TOP.glob(f"crates/*/{TOGETHER}"))
-    anew = "--anew" in words
-    words = [it for it in words if it != "--anew"]
-    crates = words or every
-    if words == ["--apply"]:
-        crates = []
-    elif words[:1] == ["--since"] and len(words) == 2:
-        crates = sorted(changed_since(words[1]) & set(every))
-    without = [name for name in crates if name not in every]
-    if without:
-        sys.exit(f"wrong_bodies.py: there is no folder crates/{without[0]}/{TOGETHER}")
-    count, wrong = stale()
-    print("\n".join([*wrong, f"wrong bodies: {count[BY_RT]} that rt tries, {count[TOGETHER]} that are tried together, {len(wrong)} do not apply"]), flush=True)
-    if wrong or not crates:
-        return 1 if wrong else 0
-    lib, jobs = kit.rtlib(), os.environ.get("RT_JOBS", "")
-    # (what it starts ends when this ends; its first call sets a signal's handler, which only the main thread may)
-    lib.guarded()
-    kit.sums_once(lib)
-    total, failed, harmless = 0, 0, 0
+def chosen(lib, words, every):
+    """The crates that the words ask for, and a line on the others."""
+    if words[:1] == ["--since"] and len(words) == 2:
+        return sorted(changed_since(words[1]) & set(every)), ""
+    if words and words != ["--anew"]:
+        without = [name for name in words if name not in every]
+        if without:
+            sys.exit(f"wrong_bodies.py: there is no folder crates/{without[0]}/{TOGETHER}")
+        return words, ""
+    known = {} if words else listed()
+    due = [name for name in every if name not in known or known[name] != rests_on(lib, crate_of(lib, name))]
+    return due, f"wrong bodies: of {len(every) - len(due)} of {len(every)} crates all were seen refused, by the sums of the list"
+
+
+def try_all(lib, crates):
+    """Tries the wrong bodies of these crates, and returns the sums of those of which all were as they must be, and whether that were all."""
+    jobs = os.environ.get("RT_JOBS", "")
+    total, failed, harmless, sums = 0, 0, 0, {}
     # (the largest first)
-    crates.sort(key=lambda it: -sum(path.stat().st_size for path in (TOP / "crates" / it).glob("src/**/*.rt")))
+    crates = sorted(crates, key=lambda it: -sum(path.stat().st_size for path in (TOP / "crates" / it).glob("src/**/*.rt")))
     with ThreadPoolExecutor(int(jobs) if jobs.isdigit() and int(jobs) else len(os.sched_getaffinity(0))) as pool:
-        for one in as_completed([pool.submit(tried_crate, lib, it, anew) for it in crates]):
-            said, count_of, bad, kept = one.result()
-            total, failed, harmless = total + count_of, failed + bad, harmless + kept
+        running = {pool.submit(tried_crate, lib, it): it for it in crates}
+        for one in as_completed(running):
+            said, count, bad, kept, told = one.result()
+            total, failed, harmless = total + count, failed + bad, harmless + kept
+            sums.update({running[one]: told} if told else {})
             print(said, flush=True)
     used = sum(resource.getrusage(resource.RUSAGE_CHILDREN)[:2])
     print(f"wrong bodies: {total} tried together and {harmless} harmless edits beside them, {failed} not as they must be; {used / 60:.0f} processor minutes")
-    return 1 if failed else 0
+    return sums, not failed
+
+
+def main():
+    words, every = sys.argv[1:], sorted(it.parent.name for it in TOP.glob(f"crates/*/{TOGETHER}"))
+    writes, words = "--write" in words, [it for it in words if it != "--write"]
+    count, wrong = stale()
+    print("\n".join([*wrong, f"wrong bodies: {count[BY_RT]} that rt tries, {count[TOGETHER]} that are tried together, {len(wrong)} do not apply"]), flush=True)
+    if wrong or words == ["--apply"]:
+        return 1 if wrong else 0
+    lib = kit.rtlib()
+    crates, said = chosen(lib, [it for it in words if it != "--due"], every)
+    print(said, end="\n" if said else "", flush=True)
+    if "--due" in words:
+        print("\n".join(crates))
+        return 0
+    # (what it starts ends when this ends; its first call sets a signal's handler, which only the main thread may)
+    lib.guarded()
+    kit.sums_once(lib)
+    sums, is_well = try_all(lib, crates) if crates else ({}, True)
+    if writes:
+        write(sums, every)
+    elif sums:
+        print("wrong bodies: --write writes these lines of the list")
+    return 0 if is_well else 1
 
 
 if __name__ == "__main__":
