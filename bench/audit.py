@@ -18,9 +18,10 @@ from pathlib import Path
 TOP = Path(__file__).resolve().parent.parent
 sys.path.insert(0, str(TOP / "checks"))
 import clients
+import kit
 
 os.environ["GLIBC_TUNABLES"] = "glibc.malloc.hugetlb=1"  # as the commands at the top have it
-PROGRAM = TOP / "crates" / "dns_audit_program" / "out" / "dns_audit_program"
+PROGRAM = kit.called("dns-audit")
 COUNT = 500_000
 TURNS = 3  # of which the fastest counts
 BOUND = 120  # seconds

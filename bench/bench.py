@@ -24,7 +24,7 @@ CONNECTIONS = 10_000
 MESSAGES = 100_000
 AT_ONCE = 20_000  # messages in one event text, which has a greatest length
 BOUND = 300  # seconds
-ROWS = os.path.join(TOP, "crates", "dns_vectors", "stdin")
+ROWS = os.path.join(TOP, "checks", "rows", "base.rows")
 SOA = "z. 1 IN SOA ns.z. admin.z. 7 1 1 1 1"
 
 

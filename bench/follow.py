@@ -21,10 +21,11 @@ from pathlib import Path
 import journal  # which finds the checks
 
 import journals
+import kit
 import wire
 
 TOP = Path(__file__).resolve().parent.parent
-PROGRAM = TOP / "crates" / "dns_follow_program" / "out" / "dns_follow_program"
+PROGRAM = kit.called("dns-follow")
 NAME = "example.com."
 COUNT = 100_000
 TURNS = 3  # of which the fastest counts
