@@ -1,6 +1,7 @@
 -- What is seen of a hub in memory, and of one of the operating system.
 use Rattle.std.specs.Prelude.{ℕ, List, [], Some, None}
 use Rattle.dns_ports.specs.Memory.{UdpState}
+use Rattle.dns_ports.specs.Passed.{SocketSeen}
 use Rattle.dns_readiness.specs.Decisions.{SocketState}
 use Rattle.dns_crowd.specs.Memory.{CrowdState, crowd_told}
 use Rattle.dns_crowd_server.specs.declared.hub.Places.{Places}
@@ -66,7 +67,7 @@ pub record SocketHubCounts : Type 0 where
   pub failed_calls : ℕ
 
 -- it tells its counts alone
-abbrev pub untold_crowd_hub : SocketHubCounts → CrowdHubTold ℕ SocketState
+abbrev pub untold_crowd_hub : SocketHubCounts → CrowdHubTold SocketSeen SocketState
 untold_crowd_hub h = record {
   opened = None;
   sockets = None;

@@ -5,7 +5,7 @@ ghost use Rattle.std.specs.List.{sum_by};
 ghost use Rattle.dns_io.specs.Told.{counted};
 ghost use Rattle.dns_edges.specs.Edges.{HasCause};
 ghost use Rattle.dns_ports.specs.Ports.{CountsPort, IsFreshSocket};
-ghost use Rattle.dns_ports.specs.Sockets.{untold_socket};
+ghost use Rattle.dns_ports.specs.Passed.{socket_told};
 ghost use Rattle.dns_crowd.specs.Crowds.{untold_crowd};
 ghost use Rattle.dns_crowd_server.specs.Hubs.{ClosesPlaces, IsFreshCrowd, OpensPlaces, count_at, crowds_of, seats_of, sockets_of, their_faults};
 ghost use Rattle.dns_crowd_server.specs.Memory.{untold_crowd_hub};
@@ -101,7 +101,7 @@ impl<R: Net<Listener = TcpListener, Stream = TcpStream> + rt::Clock + Copy> Crow
         requires limit { places.now.limit < 2 ^ 47 }
         ensures sockets { IfOk result (λ ports. length ports.0.items ≡ sockets_of places.now) }
         ensures crowds { IfOk result (λ ports. length ports.1.items ≡ crowds_of places.now) }
-        ensures fresh_sockets { IfOk result (λ ports. All (λ one. IsFreshSocket (untold_socket one)) ports.0.items) }
+        ensures fresh_sockets { IfOk result (λ ports. All (λ one. IsFreshSocket (socket_told one)) ports.0.items) }
         ensures fresh_crowds { IfOk result (λ ports. All (λ one. IsFreshCrowd (untold_crowd one)) ports.1.items) }
         ensures told { OpensPlaces (untold_crowd_hub self.old) (untold_crowd_hub self.new) places.now result }
         ensures faults { self.new.faults ≡ counted self.old.faults result }
@@ -123,7 +123,7 @@ impl<R: Net<Listener = TcpListener, Stream = TcpStream> + rt::Clock + Copy> Crow
         requires sockets { length sockets.items ≤ self.old.lent_sockets }
         requires crowds { length crowds.items ≤ self.old.lent_crowds }
         ensures told { ClosesPlaces (untold_crowd_hub self.old) (untold_crowd_hub self.new) sockets.items crowds.items
-            (their_faults untold_socket untold_crowd sockets.items crowds.items) }
+            (their_faults socket_told untold_crowd sockets.items crowds.items) }
     {
         note_failures(&mut self.failure, &self.places, &sockets, &crowds);
         self.faults = faults_after(self.faults, sockets.as_slice(), crowds.as_slice());
@@ -204,7 +204,7 @@ fn opened<R: Net<Listener = TcpListener, Stream = TcpStream> + rt::Clock + Copy>
     requires limit { places.now.limit < 2 ^ 47 }
     ensures sockets { IfOk result (λ ports. length ports.0.items ≡ sockets_of places.now) }
     ensures crowds { IfOk result (λ ports. length ports.1.items ≡ crowds_of places.now) }
-    ensures fresh_sockets { IfOk result (λ ports. All (λ one. IsFreshSocket (untold_socket one)) ports.0.items) }
+    ensures fresh_sockets { IfOk result (λ ports. All (λ one. IsFreshSocket (socket_told one)) ports.0.items) }
     ensures fresh_crowds { IfOk result (λ ports. All (λ one. IsFreshCrowd (untold_crowd one)) ports.1.items) }
 {
     let sockets = sockets_at(alloc, runtime, places.udp, stop, failure)?;
@@ -221,7 +221,7 @@ fn sockets_at<R: Net + rt::Clock + Copy>(
     failure: &mut Option<PortFailure>,
 ) -> Result<Vec<SocketPort<R>>, IoFault>
     ensures count { IfOk result (λ ports. length ports.items ≡ count_at 1 at) }
-    ensures fresh { IfOk result (λ ports. All (λ one. IsFreshSocket (untold_socket one)) ports.items) }
+    ensures fresh { IfOk result (λ ports. All (λ one. IsFreshSocket (socket_told one)) ports.items) }
 {
     let mut sockets = Vec::new(alloc);
     let Some(at) = at else {
@@ -337,14 +337,14 @@ fn faults_after<R: Net + rt::Clock + Copy>(
     sockets: &[SocketPort<R>],
     crowds: &[SocketCrowd<R>],
 ) -> u64
-    ensures { CountsPort (their_faults untold_socket untold_crowd sockets.now crowds.now) faults result }
+    ensures { CountsPort (their_faults socket_told untold_crowd sockets.now crowds.now) faults result }
 {
     faults_behind(faults, faulty(sockets, crowds))
 }
 
 /// 1 where one of these has a count of faults above 0, else 0.
 fn faulty<R: Net + rt::Clock + Copy>(sockets: &[SocketPort<R>], crowds: &[SocketCrowd<R>]) -> u64
-    ensures { result ≡ min (their_faults untold_socket untold_crowd sockets.now crowds.now) 1 }
+    ensures { result ≡ min (their_faults socket_told untold_crowd sockets.now crowds.now) 1 }
 {
     if has_faulty_socket(sockets) {
         return 1;
@@ -356,8 +356,8 @@ fn faulty<R: Net + rt::Clock + Copy>(sockets: &[SocketPort<R>], crowds: &[Socket
 }
 
 /// Whether one of these has a count of faults above 0.
-fn has_faulty_socket<R>(sockets: &[SocketPort<R>]) -> bool
-    ensures { result ≡ nat_lt 0 (sum_by (λ one. (untold_socket one).faults) sockets.now) }
+fn has_faulty_socket<R: Net + rt::Clock + Copy>(sockets: &[SocketPort<R>]) -> bool
+    ensures { result ≡ nat_lt 0 (sum_by (λ one. (socket_told one).faults) sockets.now) }
 {
     for socket in sockets {
         if socket.faults() > 0 {

@@ -2,8 +2,8 @@
 use Rattle.std.proofs.Common.{◌≡◌, ◌<◌, ℕ, List, [], ◌∷◌, ◌++◌, length, Bool, true, false, ◌||◌, Result, Ok, Err, refl, ap, ◌∙◌}
 use Rattle.std.specs.List.{list_any}
 use Rattle.std.proofs.lemmas.Bool.{eq-eqb, lt-ltb}
-use Rattle.dns_network.specs.Calls.{Noted, looked, read, shut, watched, wrote}
-use Rattle.dns_network.specs.Words.{IsLookedSince, HasWork, has_ended, has_gone, worked_by, is_stopped, is_unwatched, looked_by, stopped_by, unwatched_by, was_shut}
+use Rattle.dns_network.specs.Calls.{Noted, ceased, looked, read, shut, watched, wrote}
+use Rattle.dns_network.specs.Words.{IsLookedSince, HasWork, has_ceased, has_ended, has_gone, worked_by, is_stopped, is_unwatched, looked_by, stopped_by, unwatched_by, was_shut}
 use Rattle.dns_network.specs.declared.call.Watch.{Watch}
 use Rattle.dns_network.specs.declared.refused.Refused.{Refused}
 use Rattle.dns_network.specs.declared.refused.Refused.TheVariants as refusal
@@ -34,6 +34,9 @@ unwatched n xs what refused = found_one (unwatched_by n) false xs (watched n wha
 
 pub was_shut_now : (n : ℕ) (xs : List Noted) (given : Result (Unit {0}) Refused) → was_shut n (xs ++ shut n given ∷ []) ≡ true
 was_shut_now n xs given = any_last _ xs (shut n given) (rw (eq-eqb n n refl) refl)
+
+pub ceased_now : (xs : List Noted) → has_ceased (xs ++ ceased ∷ []) ≡ true
+ceased_now xs = any_last _ xs ceased refl
 
 pub stopped : (xs : List Noted) → is_stopped (xs ++ looked true ∷ []) ≡ true
 stopped xs = found_one stopped_by false xs (looked true)

@@ -4,7 +4,7 @@ use Rattle.std.specs.List.{flat_map, list_any}
 use Rattle.std.proofs.lemmas.Grind.{flat_map-append}
 use Rattle.std.proofs.lemmas.List.Folds.{list_any-append}
 use Rattle.dns_network.specs.Calls.{Noted}
-use Rattle.dns_network.specs.Words.{found, moment_by, moment_of, no_moment, now_by, now_of, Moment}
+use Rattle.dns_network.specs.Words.{found, moment_by, moment_of, no_moment, no_owing, now_by, now_of, owing_by, owing_of, Moment, Owing}
 use Rattle.dns_network.specs.declared.call.Call.{Call}
 
 -- a word goes on behind the calls that it went over
@@ -36,3 +36,11 @@ moment_now n m (x ∷ xs) = moment_now n (moment_by n m x.0) xs
 
 pub moment_clock : (n : ℕ) (xs : List Noted) → (moment_of n xs).now ≡ now_of xs
 moment_clock n xs = moment_now n no_moment xs
+
+-- so has what is owed
+owing_now : (n : ℕ) (o : Owing) (xs : List Noted) → (found (owing_by n) o xs).now ≡ found now_by o.now xs
+owing_now n o [] = refl
+owing_now n o (x ∷ xs) = owing_now n (owing_by n o x.0) xs
+
+pub owing_clock : (n : ℕ) (xs : List Noted) → (owing_of n xs).now ≡ now_of xs
+owing_clock n xs = owing_now n no_owing xs

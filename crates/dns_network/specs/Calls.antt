@@ -35,6 +35,9 @@ looked stopped = (call.Looked stopped, [])
 abbrev pub clock : Result Reading Refused → Noted
 clock given = (call.Clock given, [])
 
+abbrev pub ceased : Noted
+ceased = (call.Ceased, [])
+
 abbrev pub rested : ℕ → Noted
 rested millis = (call.Rested millis, [])
 

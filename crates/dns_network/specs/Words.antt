@@ -1,5 +1,6 @@
 -- What is read off the calls of a network: what the last of them found, whether one of them was such, or what they moved, in order.
-use Rattle.std.specs.Prelude.{◌≡◌, ◌<◌, ◌+◌, ℕ, List, [], ◌∷◌, if◌then◌else◌, nat_eq, nat_lt, Bool, true, false, not, ◌&&◌, ◌||◌, Result, Ok, Err}
+use Rattle.std.specs.Prelude.{◌≡◌, ◌<◌, ◌+◌, max, ℕ, List, [], ◌∷◌, if◌then◌else◌, nat_eq, nat_lt, Bool, true, false, not, ◌&&◌, ◌||◌}
+use Rattle.std.specs.Prelude.{Option, Some, None, Result, Ok, Err}
 use Rattle.std.specs.List.{flat_map, list_any}
 use Rattle.std.specs.declared.net.socket_addr.SocketAddr.{SocketAddr}
 use Rattle.dns_network.specs.Calls.{Noted}
@@ -37,7 +38,7 @@ stopped_by before other = before
 abbrev pub is_stopped : List Noted → Bool
 is_stopped = found stopped_by false
 
--- whether a call since the last wait gave something, or was interrupted, so that the next wait need not be one for something
+-- whether a call since the last wait gave something, was interrupted, or closed a stream, so that the next wait need not be one for something
 abbrev pub moved_some : Result ℕ Refused → Bool
 moved_some (Ok count) = nat_lt 0 count
 moved_some (Err refusal.Interrupted) = true
@@ -54,6 +55,7 @@ worked_by before (call.Rested millis) = false
 worked_by before (call.Accepted number given) = gave_some given || before
 worked_by before (call.Read number room given) = moved_some given || before
 worked_by before (call.Wrote number handed given) = moved_some given || before
+worked_by before (call.Closed number cause) = true
 worked_by before other = before
 
 abbrev pub has_worked : List Noted → Bool
@@ -62,9 +64,9 @@ has_worked = found worked_by false
 abbrev pub HasWork : List Noted → Type 0
 HasWork calls = has_worked calls ≡ true
 
--- the last reading of the clock that is never set, in milliseconds; 0 before there is one
+-- the greatest reading of the clock that is never set, in milliseconds, which is its last one; 0 before there is one
 abbrev pub now_by : ℕ → Call → ℕ
-now_by before (call.Clock (Ok reading)) = reading.ticks
+now_by before (call.Clock (Ok reading)) = max before reading.ticks
 now_by before other = before
 
 abbrev pub now_of : List Noted → ℕ
@@ -105,6 +107,37 @@ moment_of n = found (moment_by n) no_moment
 
 abbrev pub moved_at : ℕ → List Noted → ℕ
 moved_at n calls = (moment_of n calls).moved
+
+-- whether a write left some of what it was handed
+abbrev pub leaves : ℕ → Result ℕ Refused → Bool
+leaves handed (Ok count) = nat_lt count handed
+leaves handed (Err refused) = nat_lt 0 handed
+
+-- the last reading of the clock, and that since which each write to a stream left some of what it was handed, where its last one did
+pub record Owing : Type 0 where
+  pub now : ℕ
+  pub since : Option ℕ
+
+abbrev pub since_or : ℕ → Option ℕ → Option ℕ
+since_or now None = Some now
+since_or now (Some since) = Some since
+
+abbrev pub since_by : ℕ → Owing → Call → Option ℕ
+since_by n before (call.Wrote number handed given) = if nat_eq number n
+    then (if leaves handed given then since_or before.now before.since else None) else before.since
+since_by n before other = before.since
+
+abbrev pub owing_by : ℕ → Owing → Call → Owing
+owing_by n before c = record { now = now_by before.now c; since = since_by n before c }
+
+abbrev pub no_owing : Owing
+no_owing = record { now = 0; since = None }
+
+abbrev pub owing_of : ℕ → List Noted → Owing
+owing_of n = found (owing_by n) no_owing
+
+abbrev pub owing_since : ℕ → List Noted → Option ℕ
+owing_since n calls = (owing_of n calls).since
 
 -- whether the peer of a stream sends no more: a read for which there was room gave nothing
 abbrev pub is_end : ℕ → Result ℕ Refused → Bool
@@ -165,6 +198,14 @@ crowded_by n before other = before
 abbrev pub is_crowded : ℕ → List Noted → Bool
 is_crowded n = found (crowded_by n) false
 
+-- whether all work on the network was said to end
+abbrev pub ceases : Call → Bool
+ceases call.Ceased = true
+ceases other = false
+
+abbrev pub has_ceased : List Noted → Bool
+has_ceased = list_any (λ c. ceases c.0)
+
 -- whether a stream was closed
 abbrev pub closes : ℕ → Call → Bool
 closes n (call.Closed number cause) = nat_eq number n
@@ -177,15 +218,24 @@ was_closed n = list_any (λ c. closes n c.0)
 abbrev pub IsLate : List Noted → ℕ → ℕ → Type 0
 IsLate calls n patience = moved_at n calls + patience < now_of calls
 
+-- for longer than so many milliseconds each write to a stream left some of what it was handed
+abbrev pub IsSince : ℕ → ℕ → Option ℕ → Type 0
+IsSince time now None = ⊥
+IsSince time now (Some since) = since + time < now
+
+abbrev pub IsSlow : List Noted → ℕ → ℕ → Type 0
+IsSlow calls n time = IsSince time (now_of calls) (owing_since n calls)
+
 -- a stream may be closed for this cause
 abbrev pub IsCause : List Noted → ℕ → Why → Type 0
 IsCause calls n why.Ended = has_ended n calls ≡ true
 IsCause calls n why.Gone = has_gone n calls ≡ true
 IsCause calls n why.Unwatched = is_unwatched n calls ≡ true
 IsCause calls n (why.Late patience) = IsLate calls n patience
+IsCause calls n (why.Slow time) = IsSlow calls n time
 IsCause calls n why.GaveWay = is_crowded n calls ≡ true
 IsCause calls n why.Finished = was_shut n calls ≡ true
-IsCause calls n why.Stopped = is_stopped calls ≡ true
+IsCause calls n why.Ceased = has_ceased calls ≡ true
 
 -- the bytes that were read of a stream, in order
 abbrev pub read_in : ℕ → Call → List ℕ → List ℕ

@@ -49,12 +49,17 @@ pub enum Why {
         /// How long it might be silent.
         patience: u64,
     },
+    /// For longer than so many milliseconds each write to it left some of what it was handed.
+    Slow {
+        /// How long it might take.
+        time: u64,
+    },
     /// Another one came, or would come if there was a descriptor.
     GaveWay,
     /// It was shut behind its last byte.
     Finished,
-    /// The token is stopped.
-    Stopped,
+    /// All work on the network ends.
+    Ceased,
 }
 
 /// A call of the system, with what it was asked and gave. The bytes that it moved stand beside it.
@@ -70,6 +75,8 @@ pub enum Call {
         /// What they read.
         given: Result<Reading, Refused>,
     },
+    /// All work on the network ends.
+    Ceased,
     /// A rest.
     Rested {
         /// How long it was, in milliseconds.

@@ -69,7 +69,7 @@ impl Model for MemoryStream {
 }
 
 /// A network that gives each call the next of its answers. Where that is none for such a call, or there is none left, it refuses the call as
-/// useless; a look sees the token stopped then. A rest and a close take no answer.
+/// useless; a look sees the token stopped then. A rest, an end of all work and a close take no answer.
 #[derive(Drop)]
 pub struct MemoryNetwork {
     alloc: Global,
@@ -221,6 +221,10 @@ impl Network for MemoryNetwork {
 
     fn rest(&mut self, millis: u64) {
         self.told.note(&Call::Rested { millis }, &[]);
+    }
+
+    fn cease(&mut self) {
+        self.told.note(&Call::Ceased, &[]);
     }
 
     fn error(&self) -> Option<io::Error> {

@@ -1,7 +1,7 @@
 //! What the operating system gives, a call of it a method.
 
 ghost use Rattle.std.specs.Prelude.{◌≡◌, ◌≤◌, ◌++◌, ◌∷◌, [], ℕ, List, length, IfOk};
-ghost use Rattle.dns_network.specs.Calls.{Noted, accepted, clock, closed, looked, read, received, rested, sent, shut, waited, watched, wrote};
+ghost use Rattle.dns_network.specs.Calls.{Noted, accepted, ceased, clock, closed, looked, read, received, rested, sent, shut, waited, watched, wrote};
 ghost use Rattle.dns_network.specs.Words.{HasWork, IsCause, IsLookedSince};
 
 use crate::call::{Reading, Ready, Watch, Why};
@@ -26,6 +26,10 @@ pub trait Network {
     /// Does nothing for so many milliseconds.
     fn rest(&mut self, millis: u64)
         ensures told { calls self.new ≡ calls self.old ++ rested millis ∷ [] };
+
+    /// Says that all work on it ends. It is no call of the system.
+    fn cease(&mut self)
+        ensures told { calls self.new ≡ calls self.old ++ ceased ∷ [] };
 
     /// The error of the last call that was refused, for a line that a person reads. No clause tells of it.
     fn error(&self) -> Option<io::Error>;

@@ -39,6 +39,11 @@ impl<R, S> SystemDatagrams<R, S> {
             socket,
         }
     }
+
+    /// Its own address.
+    pub fn address(&self) -> io::Result<SocketAddr> {
+        self.socket.local_addr()
+    }
 }
 
 impl<R: Clock, S: Stop> Network for SystemDatagrams<R, S> {
@@ -54,6 +59,10 @@ impl<R: Clock, S: Stop> Network for SystemDatagrams<R, S> {
 
     fn rest(&mut self, millis: u64) {
         self.system.rest(millis);
+    }
+
+    fn cease(&mut self) {
+        self.system.note(Call::Ceased, &[]);
     }
 
     fn error(&self) -> Option<io::Error> {

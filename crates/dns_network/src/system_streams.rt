@@ -122,6 +122,10 @@ impl<R: Clock, S: Stop> Network for SystemStreams<R, S> {
         self.system.rest(millis);
     }
 
+    fn cease(&mut self) {
+        self.system.note(Call::Ceased, &[]);
+    }
+
     fn error(&self) -> Option<io::Error> {
         self.system.error()
     }

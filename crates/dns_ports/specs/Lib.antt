@@ -4,3 +4,4 @@ pub mod Addresses
 pub mod Sockets
 pub mod Rests
 pub mod Clocks
+pub mod Passed

@@ -1,10 +1,12 @@
 -- How long one rests before a call that the system refused is made again.
-use Rattle.std.specs.Prelude.{ℕ, ◌+◌, if◌then◌else◌, nat_le, min, Bool, true, false, Option, Some, None, Result, Ok, Err}
+use Rattle.std.specs.Prelude.{ℕ, List, [], ◌∷◌, ◌+◌, if◌then◌else◌, nat_le, min, Bool, true, false, Option, Some, None, Result, Ok, Err}
 use Rattle.std.specs.declared.io.ErrorKind.{ErrorKind}
 use Rattle.std.specs.declared.io.ErrorKind.TheVariants as kind
 use Rattle.dns_io.specs.declared.io_fault.IoFault.{IoFault}
-use Rattle.dns_io.specs.Faults.{fault_of}
-use Rattle.dns_ports.specs.Sockets.{arrival_after}
+use Rattle.dns_network.specs.Calls.{Noted, rested}
+use Rattle.dns_network.specs.declared.refused.Refused.{Refused}
+use Rattle.dns_network.specs.declared.refused.Refused.TheVariants as refusal
+use Rattle.dns_ports.specs.Sockets.{arrival_after, fault_for}
 
 -- how long the next rest is, in milliseconds, where one rested for so long in a row: 1, 2, 4 and so on to a second, and behind five
 -- seconds none
@@ -32,8 +34,20 @@ abbrev pub received_with : IoFault → Option ℕ → Result ℕ IoFault
 received_with fault (Some in_a_row) = Ok in_a_row
 received_with fault None = Err fault
 
-abbrev pub rested_to_receive : ErrorKind → ℕ → Result ℕ IoFault
-rested_to_receive error rested = if is_wait error then Ok 0 else received_with (fault_of error) (rested_behind rested)
+abbrev pub is_not_yet : Refused → Bool
+is_not_yet refusal.NotYet = true
+is_not_yet other = false
+
+abbrev pub rested_to_receive : Refused → ℕ → Result ℕ IoFault
+rested_to_receive refused before = if is_not_yet refused then Ok 0 else received_with (fault_for refused) (rested_behind before)
+
+-- the rest that is made of the network before that
+abbrev pub one_rest : Option ℕ → List Noted
+one_rest None = []
+one_rest (Some millis) = rested millis ∷ []
+
+abbrev pub rests_to_receive : Refused → ℕ → List Noted
+rests_to_receive refused before = if is_not_yet refused then [] else one_rest (rest_behind before)
 
 -- the same before an accept is made again: for however long where the error is one peer's, since each is of another connection, and else it
 -- fails behind five seconds of rests

@@ -4,11 +4,14 @@ use Rattle.std.specs.Io.KnownBytes.{ReadConsumes, Keeps as KeepsKnown}
 use Rattle.std.specs.declared.io.ErrorKind.{ErrorKind}
 use Rattle.std.specs.declared.io.ErrorKind.TheVariants as kind
 use Rattle.dns_io.specs.declared.io_fault.IoFault.{IoFault}
-use Rattle.dns_io.specs.declared.io_fault.IoFault.TheVariants.{Failed}
+use Rattle.dns_io.specs.declared.io_fault.IoFault.TheVariants.{Failed, OutOfMemory}
 use Rattle.dns_io.specs.Told.{counted}
 use Rattle.dns_io.specs.Faults.{fault_of}
 use Rattle.dns_edges.specs.Edges.{SourceTold, SinkTold, wanted}
-use Rattle.dns_ports.specs.Ports.{UdpTold, TcpTold, HubTold}
+use Rattle.dns_network.specs.declared.refused.Refused.{Refused}
+use Rattle.dns_network.specs.declared.refused.Refused.TheVariants as refusal
+use Rattle.dns_ports.specs.Passed.{SocketSeen}
+use Rattle.dns_ports.specs.Ports.{TcpTold, HubTold}
 use Rattle.dns_ports.specs.declared.stop_token.Waited.{Waited}
 use Rattle.dns_ports.specs.declared.stop_token.Waited.TheVariants.{Came, Stopped}
 
@@ -30,15 +33,12 @@ pub record OutputCounts : Type 0 where
   pub faults : ℕ
   pub wants : ℕ
 
--- what is told of a socket, which is its count of faults, and of the others: their counts alone. The two directions of a connection are
--- their counts, and its clock is its last reading
-abbrev pub untold_socket : ℕ → UdpTold
-untold_socket faults = record { left = None; received = None; taken = None; faults = faults }
-
+-- what is told of a listener and of a hub: their counts alone. The two directions of a connection are their counts, and its clock is its
+-- last reading
 abbrev pub untold_listener : ListenerCounts → TcpTold ℕ OutputCounts ℕ
 untold_listener p = record { left = None; accepted = None; ended = None; lent = p.lent; faults = p.faults }
 
-abbrev pub untold_hub : HubCounts → HubTold ℕ ListenerCounts
+abbrev pub untold_hub : HubCounts → HubTold SocketSeen ListenerCounts
 untold_hub h = record {
   openings = None;
   closed_udp = None;
@@ -86,10 +86,15 @@ ready_after kind.NotConnected = Ok tt
 ready_after kind.InvalidInput = Ok tt
 ready_after other = arrival_after other
 
+-- the fault for a call that a network refused: want of means is want of memory, and whatever else a failed call
+abbrev pub fault_for : Refused → IoFault
+fault_for refusal.Wanting = OutOfMemory
+fault_for other = Failed
+
 -- whether a sending of a datagram is made again, or the fault that it answers
-abbrev pub sending_after : ErrorKind → Result (Unit {0}) IoFault
-sending_after kind.Interrupted = Ok tt
-sending_after other = Err (fault_of other)
+abbrev pub sending_after : Refused → Result (Unit {0}) IoFault
+sending_after refusal.Interrupted = Ok tt
+sending_after other = Err (fault_for other)
 
 -- a datagram goes out whole, or the sending failed
 abbrev pub sent_whole : ℕ → ℕ → Result (Unit {0}) IoFault

@@ -3,6 +3,7 @@
 ghost use Rattle.std.specs.Prelude.{◌≡◌};
 ghost use Rattle.std.specs.Net.Socket.{socket_ip, socket_port};
 ghost use Rattle.dns_ports.specs.Addresses.{ip_for, ip_of, unmapped, HasBytes};
+ghost use Rattle.dns_ports.specs.Passed.{peer_of};
 
 use dns_io::{Ip, Peer};
 use std::net::{IpAddr, Ipv4Addr, Ipv6Addr, SocketAddr};
@@ -17,6 +18,7 @@ const ALL_OF_IPV4: u128 = 1 << 32;
 pub fn peer_at(address: SocketAddr) -> Peer
     ensures ip { result.ip ≡ ip_of (socket_ip address) }
     ensures port { result.port ≡ socket_port address }
+    ensures peer { result ≡ peer_of address }
 {
     let ip = match address.ip() {
         IpAddr::V4(ip) => Ip::V4(ip.to_bits()),

@@ -3,9 +3,10 @@
 ghost use Rattle.std.specs.Prelude.{◌≡◌};
 ghost use Rattle.dns_ports.specs.Ports.{CountsPort};
 ghost use Rattle.dns_ports.specs.Memory.{faults_behind};
-ghost use Rattle.dns_ports.specs.Sockets.{arrival_after, ready_after, sending_after, sent_whole, waits_after, waits_behind};
+ghost use Rattle.dns_ports.specs.Sockets.{arrival_after, fault_for, ready_after, sending_after, sent_whole, waits_after, waits_behind};
 
 use dns_io::IoFault;
+use dns_network::Refused;
 use std::io::ErrorKind;
 
 /// The count of faults of a hub after a port with this count was taken back.
@@ -50,13 +51,23 @@ pub(crate) fn ready_after(kind: ErrorKind) -> Result<(), IoFault>
     }
 }
 
-/// Whether a sending of a datagram is made again after an error of this kind, or the fault that it answers.
-pub(crate) fn sending_after(kind: ErrorKind) -> Result<(), IoFault>
-    ensures { result ≡ sending_after kind }
+/// The fault for a call that a network refused.
+pub(crate) fn fault_for(refused: Refused) -> IoFault
+    ensures { result ≡ fault_for refused }
 {
-    match kind {
-        ErrorKind::Interrupted => Ok(()),
-        other => Err(IoFault::from(other)),
+    match refused {
+        Refused::Wanting => IoFault::OutOfMemory,
+        _ => IoFault::Failed,
+    }
+}
+
+/// Whether a sending of a datagram is made again after it was refused so, or the fault that it answers.
+pub(crate) fn sending_after(refused: Refused) -> Result<(), IoFault>
+    ensures { result ≡ sending_after refused }
+{
+    match refused {
+        Refused::Interrupted => Ok(()),
+        other => Err(fault_for(other)),
     }
 }
 

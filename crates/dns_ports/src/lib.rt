@@ -4,6 +4,7 @@
 
 mod address;
 mod connection;
+mod datagrams;
 mod failure;
 mod faults;
 mod history;
@@ -15,6 +16,7 @@ mod memory_udp;
 mod patience;
 mod port;
 mod rests;
+mod socket;
 mod socket_hub;
 mod socket_port;
 mod stop_token;
@@ -31,6 +33,7 @@ pub use memory_tcp::MemoryTcp;
 pub use memory_udp::MemoryUdp;
 pub use port::{Accepted, Arrived, TcpPort, UdpPort};
 pub use rests::{rest, rest_behind};
+pub use socket::Socket;
 pub use socket_hub::SocketHub;
 pub use socket_port::SocketPort;
 pub use stop_token::StopToken;

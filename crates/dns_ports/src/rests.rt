@@ -1,11 +1,12 @@
 //! How long one rests before a call that the system refused is made again.
 
-ghost use Rattle.std.specs.Prelude.{◌≡◌};
+ghost use Rattle.std.specs.Prelude.{◌≡◌, ◌++◌};
 ghost use Rattle.std.specs.IoError.{error_kind};
-ghost use Rattle.dns_ports.specs.Rests.{is_wait, rest_behind, rested_behind, rested_to_accept, rested_to_receive};
+ghost use Rattle.dns_ports.specs.Rests.{is_not_yet, is_wait, rest_behind, rested_behind, rested_to_accept, rested_to_receive, rests_to_receive};
 
-use crate::faults::arrival_after;
+use crate::faults::{arrival_after, fault_for};
 use dns_io::IoFault;
+use dns_network::{Network, Refused};
 use std::io::ErrorKind;
 use std::rt::Clock;
 use std::time::Duration;
@@ -37,21 +38,35 @@ pub fn rest(runtime: &impl Clock, rested: u64) -> Option<u64>
     Some(rested + rest)
 }
 
-/// Rests behind this error of a receive of datagrams, where it is more than a wait that ended: for how long one rested in a row before it is
-/// made again, or the fault that it answers where that was long enough, whatever the error.
-pub(crate) fn rest_to_receive(
-    runtime: &impl Clock,
-    error: &io::Error,
+/// Rests behind a receive of datagrams that the network refused, where it is more than a wait that ended: for how long one rested in a row
+/// before it is made again, or the fault that it answers where that was long enough, whatever the refusal.
+pub(crate) fn rest_to_receive<N: Network>(
+    network: &mut N,
+    refused: Refused,
     rested: u64,
 ) -> Result<u64, IoFault>
-    ensures { result ≡ rested_to_receive (error_kind error.now) rested }
+    ensures is { result ≡ rested_to_receive refused rested }
+    ensures told { N.calls network.new ≡ N.calls network.old ++ rests_to_receive refused rested }
 {
-    if is_wait(error.kind()) {
+    if is_not_yet(refused) {
         return Ok(0);
     }
-    match rest(runtime, rested) {
-        Some(in_a_row) => Ok(in_a_row),
-        None => Err(IoFault::from(error.kind())),
+    match rest_behind(rested) {
+        Some(millis) => {
+            network.rest(millis);
+            Ok(rested + millis)
+        }
+        None => Err(fault_for(refused)),
+    }
+}
+
+/// Whether a receive was refused since nothing came yet.
+fn is_not_yet(refused: Refused) -> bool
+    ensures { result ≡ is_not_yet refused }
+{
+    match refused {
+        Refused::NotYet => true,
+        _ => false,
     }
 }
 

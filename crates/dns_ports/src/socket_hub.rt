@@ -4,7 +4,8 @@ ghost use Rattle.std.specs.Prelude.{◌≡◌, ◌<◌, All, length, IfOk};
 ghost use Rattle.dns_io.specs.Told.{counted};
 ghost use Rattle.dns_ports.specs.Ports.{IsFreshSocket, IsFreshListener, Opens, ClosesSocket, ClosesListener};
 ghost use Rattle.dns_ports.specs.Memory.{faults_behind};
-ghost use Rattle.dns_ports.specs.Sockets.{untold_hub, untold_socket, untold_listener};
+ghost use Rattle.dns_ports.specs.Sockets.{untold_hub, untold_listener};
+ghost use Rattle.dns_ports.specs.Passed.{socket_told};
 ghost use Rattle.dns_ports.specs.declared.hub.Opening.TheVariants.{Socket, Listeners};
 
 use crate::faults::faults_behind;
@@ -70,7 +71,7 @@ impl<R: Net<Listener = TcpListener, Stream = TcpStream> + rt::Clock + Copy> Hub 
     ghost told = { untold_hub };
 
     fn open_udp(&mut self, at: Peer, stop: &StopToken) -> Result<SocketPort<R>, IoFault>
-        ensures fresh { IfOk result (λ port. IsFreshSocket (untold_socket port)) }
+        ensures fresh { IfOk result (λ port. IsFreshSocket (socket_told port)) }
         ensures told { Opens (untold_hub self.old) (untold_hub self.new) (Socket at) 1 0 result }
         ensures faults { self.new.faults ≡ counted self.old.faults result }
     {
@@ -110,8 +111,8 @@ impl<R: Net<Listener = TcpListener, Stream = TcpStream> + rt::Clock + Copy> Hub 
 
     fn close_udp(&mut self, port: SocketPort<R>)
         requires { 0 < self.old.lent_udp }
-        ensures told { ClosesSocket (untold_hub self.old) (untold_hub self.new) port port }
-        ensures faults { self.new.faults ≡ faults_behind self.old.faults port }
+        ensures told { ClosesSocket (untold_hub self.old) (untold_hub self.new) port port.faults }
+        ensures faults { self.new.faults ≡ faults_behind self.old.faults port.faults }
     {
         self.faults = faults_behind(self.faults, port.faults());
         self.lent_udp -= 1;

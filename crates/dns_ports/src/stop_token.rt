@@ -1,6 +1,7 @@
 //! What stops ports, and tells whether their workers have begun.
 
 use dns_io::OutOfMemory;
+use dns_network::Stop;
 use std::alloc::Global;
 use std::sync::Arc;
 use std::sync::atomic::{AtomicBool, AtomicU32, Ordering};
@@ -90,5 +91,11 @@ impl StopToken {
     pub fn again(&self) -> Result<StopToken, OutOfMemory> {
         let shared = Arc::try_clone(&self.shared)?;
         Ok(StopToken { shared })
+    }
+}
+
+impl Stop for StopToken {
+    fn is_stopped(&self) -> bool {
+        self.shared.stopped.load(Ordering::SeqCst)
     }
 }

@@ -64,10 +64,11 @@ fn close_at_end<N: Streams>(
     }
 }
 
-/// Closes a connection where the token is stopped; else it is handed back.
+/// Closes a connection, and ends all work on the network, where the token is stopped; else it is handed back.
 fn close_where_stopped<N: Streams>(network: &mut N, stream: N::Stream) -> Result<(), N::Stream> {
     if network.look() {
-        network.close(stream, Why::Stopped);
+        network.cease();
+        network.close(stream, Why::Ceased);
         return Ok(());
     }
     Err(stream)

@@ -1,8 +1,10 @@
 //! Networks in memory, each of whose calls has the answer that was laid down for it.
 
+use dns_io::{IoFault, Ip, Peer};
 use dns_network::{
     Answer, Datagrams, MemoryNetwork, Network, Reading, Ready, Refused, Streams, Watch, Why,
 };
+use dns_ports::{Arrived, Socket, StopToken, UdpPort};
 use std::alloc::Global;
 use std::net::{IpAddr, Ipv4Addr, SocketAddr};
 use std::test::Fail;
@@ -26,7 +28,8 @@ pub fn streams(alloc: Global) -> Result<String, Fail> {
     );
     let wanting = match network.accept(1) {
         Ok((stream, _whom)) => {
-            network.close(stream, Why::Stopped);
+            network.cease();
+            network.close(stream, Why::Ceased);
             return Err(Fail::from("one was accepted"));
         }
         Err(refused) => refused,
@@ -105,4 +108,68 @@ pub fn datagrams(alloc: Global) -> Result<String, Fail> {
         "{clocks:?} {receives:?} {room:?} {sends:?} {:?}",
         network.pieces()
     )?)
+}
+
+/// What a socket makes of a network of datagrams: three receives, of which the first passes over two refusals, the second comes at the moment of
+/// the first since the clock cannot be read, and the third finds the token stopped; and three answers, one to each of two peers and one that is
+/// refused. The second is made again, and then cut. Then the count of its faults.
+pub fn socket(alloc: Global) -> Result<String, Fail> {
+    let network = MemoryNetwork::new(alloc, socket_answers(alloc)?);
+    let mut socket = Socket::over(network, false, StopToken::new(alloc)?);
+    let mut room = vec![in alloc; 0u8; 65_535]?;
+    let first = heard(&mut socket, &mut room);
+    let second = heard(&mut socket, &mut room);
+    let answers = [
+        socket.answer(asker(2), b"reply"),
+        socket.answer(asker(1), b"longer"),
+        socket.answer(asker(1), b"reply"),
+    ];
+    let third = heard(&mut socket, &mut room);
+    Ok(format!(in alloc;
+        "{first:?} {second:?} {answers:?} {third:?} {}",
+        socket.faults()
+    )?)
+}
+
+/// The answers for that.
+fn socket_answers(alloc: Global) -> Result<Vec<Answer>, Fail> {
+    Ok(vec![in alloc;
+        Answer::Token(false),
+        Answer::Refused(Refused::NotYet),
+        Answer::Token(false),
+        Answer::Refused(Refused::Gone),
+        Answer::Token(false),
+        Answer::Datagram(Vec::from_slice(alloc, b"ask")?, peer(1)),
+        Answer::Clocks(Reading { ticks: 7, wall: 9 }),
+        Answer::Token(false),
+        Answer::Datagram(Vec::from_slice(alloc, b"more")?, peer(2)),
+        Answer::Refused(Refused::Useless),
+        Answer::Takes(100),
+        Answer::Refused(Refused::Interrupted),
+        Answer::Takes(2),
+        Answer::Refused(Refused::Wanting),
+        Answer::Token(true),
+    ]?)
+}
+
+/// The same peer, as ports name it.
+fn asker(port: u16) -> Peer {
+    Peer {
+        ip: Ip::V4(0xc000_0201),
+        port,
+    }
+}
+
+/// What a receive gave: how many bytes, from which port, and at which moment.
+fn heard(
+    socket: &mut Socket<MemoryNetwork>,
+    room: &mut Vec<u8>,
+) -> Result<Option<(usize, u16, u64)>, IoFault> {
+    if room.len() < 65_535 {
+        return Ok(None);
+    }
+    match socket.receive(room.as_mut_slice())? {
+        Some(Arrived { len, from, at }) => Ok(Some((len, from.port, at))),
+        None => Ok(None),
+    }
 }

@@ -1,4 +1,4 @@
-use Rattle.dns_network.proofs.Causes.{ended, gone_read, gone_written, nothing_taken, stopped, unwatched, was_shut_now}
+use Rattle.dns_network.proofs.Causes.{ceased_now, ended, gone_read, gone_written, nothing_taken, unwatched, was_shut_now}
 use Rattle.dns_network.proofs.laws.causes.Goals as goal
 
 pub returns-clause-ended : goal.returns-clause-ended
@@ -19,5 +19,5 @@ returns-clause-unwatched c = unwatched
 pub returns-clause-shut : goal.returns-clause-shut
 returns-clause-shut c = was_shut_now
 
-pub returns-clause-stopped : goal.returns-clause-stopped
-returns-clause-stopped c = stopped
+pub returns-clause-ceased : goal.returns-clause-ceased
+returns-clause-ceased c = ceased_now

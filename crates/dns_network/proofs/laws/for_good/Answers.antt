@@ -12,3 +12,6 @@ returns-clause-shut c = λ n. any_stays _
 
 pub returns-clause-closed : goal.returns-clause-closed
 returns-clause-closed c = λ n. any_stays _
+
+pub returns-clause-ceased : goal.returns-clause-ceased
+returns-clause-ceased c = any_stays _

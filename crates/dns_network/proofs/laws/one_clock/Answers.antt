@@ -1,5 +1,8 @@
-use Rattle.dns_network.proofs.Words.{moment_clock}
+use Rattle.dns_network.proofs.Words.{moment_clock, owing_clock}
 use Rattle.dns_network.proofs.laws.one_clock.Goals as goal
 
-pub returns : goal.returns
-returns c = moment_clock
+pub returns-clause-moved : goal.returns-clause-moved
+returns-clause-moved c = moment_clock
+
+pub returns-clause-owing : goal.returns-clause-owing
+returns-clause-owing c = owing_clock

@@ -24,3 +24,6 @@ returns-clause-unwatched c = λ n. found_one _ _
 
 pub returns-clause-crowded : goal.returns-clause-crowded
 returns-clause-crowded c = λ n. found_one _ _
+
+pub returns-clause-owing : goal.returns-clause-owing
+returns-clause-owing c = λ n. found_one _ _
