@@ -3,9 +3,9 @@
 
 The stamps of updates by each way in, also where the time of day is set and a week has passed, which moves no deadline; connections over
 many workers, of which none gives way while there is room for all; peers that read a little at a time and keep no newcomer out; thousands of
-connections that are closed at once; a standard input that does not block; the greatest datagram; a stop of the whole process behind which
-what had come is answered; refused accepts by which no other connection ends; peers of IPv4 at an address of IPv6, and who is let in; a
-hundred long replies to a peer that reads late; and what is said of a journal with a table too many.
+connections that are closed at once, which a client beside them does not notice; a standard input that does not block; the greatest datagram;
+a stop of the whole process behind which what had come is answered; refused accepts by which no other connection ends; peers of IPv4 at an
+address of IPv6, and who is let in; a hundred long replies to a peer that reads late; and what is said of a journal with a table too many.
 
   sockets.py [WORD..]  the checks in whose names one of these words stands, or all
 
@@ -589,17 +589,16 @@ def change(folder, statements):
         database.execute("PRAGMA wal_checkpoint(TRUNCATE)")
 
 
-# Those of ALONE would spoil one another's times. What NOT_YET has is not kept yet, so it is tried only where it is asked for by its name.
+# Those of ALONE would spoil one another's times.
 TOGETHER = [stamps, deadlines, inputs, payloads, stalls, evictions, mapped, read_late, journals, trickling]
-ALONE = [workers, closing_many]
-NOT_YET = [beside_closing]
+ALONE = [workers, closing_many, beside_closing]
 
 
 def main():
     global library
     with tempfile.TemporaryDirectory() as folder:
         library = servers.built(folder)
-        servers.report("sockets", sys.argv[1:], TOGETHER, [*ALONE, *(NOT_YET if sys.argv[1:] else [])])
+        servers.report("sockets", sys.argv[1:], TOGETHER, ALONE)
 
 
 if __name__ == "__main__":

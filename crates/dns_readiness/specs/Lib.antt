@@ -4,4 +4,5 @@ pub mod Links
 pub mod Tables
 pub mod Steps
 pub mod Order
+pub mod Ready
 pub mod Input

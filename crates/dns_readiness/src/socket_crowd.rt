@@ -1,6 +1,6 @@
 //! The connections of a listener of the operating system.
 
-ghost use Rattle.std.specs.Prelude.{◌≡◌, ◌≤◌, ◌<◌, ◌+◌, ◌-◌, ◌^◌, length, Err, IfErr, IfNone, IfOk, IfSome, None, OnErr, true, vec_len, vec_capacity};
+ghost use Rattle.std.specs.Prelude.{◌≡◌, ◌≤◌, ◌<◌, ◌+◌, ◌-◌, ◌^◌, length, Err, IfErr, IfNone, IfOk, IfSome, None, OnErr, true};
 ghost use Rattle.dns_edges.specs.Edges.{HasCause};
 ghost use Rattle.dns_readiness.specs.Came.{IsGreater, IsNext, greatest_with, last_with};
 ghost use Rattle.dns_readiness.specs.Decisions.{new_crowd, patience_of};
@@ -87,7 +87,8 @@ pub struct SocketCrowd<R> {
 }
 
 impl<R> Model for SocketCrowd<R> {
-    ghost use Rattle.std.specs.Prelude.{◌≤◌, ◌<◌, ◌+◌, ◌^◌};
+    ghost use Rattle.std.specs.Prelude.{◌≡◌, ◌≤◌, ◌<◌, ◌+◌, ◌^◌};
+    ghost use Rattle.mio.specs.Events.{capacity};
     ghost use Rattle.dns_readiness.specs.Decisions.{SocketState};
 
     ghost Value = { SocketState };
@@ -105,7 +106,7 @@ impl<R> Model for SocketCrowd<R> {
     } };
 
     ghost invariant = { λ s. (s.last ≤ s.moments.reading) × (s.moments.reading < 2 ^ 47) × (s.moments.ticked ≤ s.moments.reading)
-        × (s.limit < 2 ^ 47) × (s.table.places.held ≤ s.table.places.most + 1) };
+        × (s.limit < 2 ^ 47) × (s.table.places.held ≤ s.table.places.most + 1) × (capacity s.events ≡ 256) };
 }
 
 impl<R> SocketCrowd<R> {
@@ -261,10 +262,15 @@ impl<R: Net + Clock + Copy> SocketCrowd<R> {
         if let Some(ready) = self.ready.next() {
             return self.attend(ready, room);
         }
-        if self.accepting.is_due() {
+        if self.accepting.is_due() && !self.awaits_an_end() {
             return self.accept();
         }
         self.wait()
+    }
+
+    /// Whether no place is free, and one that ends gives its own back soon: none gives way ahead of it.
+    fn awaits_an_end(&self) -> bool {
+        self.ready.any_ending() && !self.table.any_free()
     }
 
     /// Waits for descriptors that are ready, and reads the clock. Where the wait is refused, it rests, and the next step is made.
@@ -276,7 +282,7 @@ impl<R: Net + Clock + Copy> SocketCrowd<R> {
             return Ok(Step::Stopped);
         }
         self.table.tidy();
-        let is_known = self.accepting.is_known() || self.ready.any_again();
+        let is_known = self.accepting.is_known() || self.ready.any_known();
         if self.ready.make_ready().is_err() {
             return Err(out_of_memory());
         }
@@ -285,9 +291,7 @@ impl<R: Net + Clock + Copy> SocketCrowd<R> {
             return self.rest(&error);
         }
         self.rested = 0;
-        if self.ready.add(&self.events).is_err() {
-            return Err(out_of_memory());
-        }
+        self.ready.add(self.events.iter().as_slice());
         self.accepting.begin();
         if let Err(error) = self.moments.look(&self.runtime) {
             return Err(refused(Call::Time, &error));
@@ -378,7 +382,7 @@ impl<R: Net + Clock + Copy> SocketCrowd<R> {
     }
 
     /// No connection was accepted. The system wants a descriptor before it looks whether one waits (accept(2)), so where none is left one
-    /// connection gives way, whoever waits, and the next one that comes finds the descriptor. Where all was refused for long enough, and no
+    /// connection gives way, whoever waits, unless one ends by itself, and the next one that comes finds the descriptor. Where all was refused for long enough, and no
     /// connection stands for which to go on, it fails.
     fn refused(&mut self, refusal: Refusal, error: &io::Error) -> Result<Step, Fault>
         ensures moved { HasMoved self.old self.new }
@@ -389,7 +393,7 @@ impl<R: Net + Clock + Copy> SocketCrowd<R> {
         if self.accepting.is_hopeless(now, self.table.taken()) {
             return Err(refused(Call::Accept, error));
         }
-        if refusal == Refusal::Wanting {
+        if refusal == Refusal::Wanting && !self.ready.any_ending() {
             return Ok(self.give_way());
         }
         Ok(Step::Nothing)
@@ -592,7 +596,7 @@ impl<R: Net + Clock + Copy> SocketCrowd<R> {
 
 /// Notes that a connection is to be read again, at most once: so it is read at most twice between two waits, and none holds up the others.
 fn note(ready: &mut ReadyList, table: &mut Table, place: usize)
-    requires room { vec_len ready.old.again < vec_capacity ready.old.again }
+    requires room { 0 < ready.old.room }
     requires stands { StandsAt table.old.links place }
     ensures { table.new ≡ table.old }
 {

@@ -91,6 +91,11 @@ impl Table {
         self.places.taken()
     }
 
+    /// Whether a place is free.
+    pub(crate) fn any_free(&self) -> bool {
+        self.places.any_free()
+    }
+
     /// Where the connection of a number stands.
     pub(crate) fn find(&self, number: u32) -> Option<usize>
         ensures { IfSome result (λ place. IsAt self.now.links number place) }
@@ -102,8 +107,7 @@ impl Table {
     pub(crate) fn may_accept(&self, patience: u64, now: u64) -> bool
         ensures { result ≡ true → self.now.places.held ≤ self.now.places.most }
     {
-        let gives_way = !self.places.any_free()
-            && any_may_leave(self.links.as_slice(), patience, now);
+        let gives_way = !self.any_free() && any_may_leave(self.links.as_slice(), patience, now);
         self.places.may_take(gives_way)
     }
 
