@@ -1,0 +1,9 @@
+pub mod Steps
+pub mod Own
+pub mod Causing
+pub mod Tidying
+pub mod Keeping
+pub mod Crowding
+pub mod Finding
+pub mod Stepping
+pub mod Coming

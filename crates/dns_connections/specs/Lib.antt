@@ -1,0 +1,5 @@
+pub mod Links
+pub mod Kept
+pub mod Accepting
+pub mod Moments
+pub mod Crowds
