@@ -62,10 +62,11 @@ PYTHONS = "/usr/lib/python3/dist-packages"  # where a system keeps dnspython
 
 
 def audit(*words, journal=None, into=None, program=PROGRAM, **how):
-    """The auditor's status, its output and what it says on standard error."""
+    """The auditor's status, its output and what it says on standard error, where reasons.py does not see it: of words that are refused."""
     command = [program, *words, *([f"--journal={journal}"] if journal else []), *([f"--into={into}"] if into else [])]
     done = subprocess.run(command, stdin=subprocess.DEVNULL, capture_output=True, timeout=BOUND, **how)
-    return done.returncode, done.stdout.decode("ascii", "replace"), done.stderr.decode("ascii", "replace")
+    told = b"" if done.returncode == 1 else done.stderr
+    return done.returncode, done.stdout.decode("ascii", "replace"), told.decode("ascii", "replace")
 
 
 # A zone as it is due to be printed.

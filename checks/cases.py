@@ -161,9 +161,9 @@ def is_line(written, due):
 
 
 def ran(words, **streams):
-    """The status and the output of a run."""
+    """The status and the output of a run. What is told of words and files that are refused is seen by reasons.py."""
     run = subprocess.run([PROGRAM, *words], stdout=subprocess.PIPE, stderr=subprocess.PIPE, timeout=BOUND, **streams)
-    if run.stderr:
+    if run.stderr and run.returncode not in (1, 2, 6):
         return run.returncode, run.stdout + b"on standard error: " + run.stderr
     return run.returncode, run.stdout
 

@@ -69,10 +69,11 @@ opened; length told; length told without a zone; held rows dropped at the end
 
 
 def run(*words, journal=None, given=b"", program=PROGRAM, **how):
-    """The program's status, its output and what it says on standard error."""
+    """The program's status, its output and what it says on standard error, where reasons.py does not see it: of words that are refused."""
     command = [program, *words, *([f"--journal={journal}"] if journal else [])]
     done = subprocess.run(command, input=given, capture_output=True, timeout=BOUND, **how)
-    return done.returncode, done.stdout, done.stderr.decode("ascii", "replace")
+    told = b"" if done.returncode == 1 else done.stderr
+    return done.returncode, done.stdout, told.decode("ascii", "replace")
 
 
 # Journals, as they stand in files.

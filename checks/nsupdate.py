@@ -189,7 +189,7 @@ WORDS = [
 def run(words, script, **streams):
     """The status and the output of a run."""
     given = script if isinstance(script, bytes) else script.encode()
-    done = subprocess.run([PROGRAM, *words], input=given, timeout=BOUND, **({"stdout": subprocess.PIPE} | streams))
+    done = subprocess.run([PROGRAM, *words], input=given, timeout=BOUND, **({"stdout": subprocess.PIPE, "stderr": subprocess.DEVNULL} | streams))
     return done.returncode, (done.stdout or b"").decode(errors="replace")
 
 

@@ -8,10 +8,12 @@ use crate::decisions::most_read;
 use crate::link::{Incoming, Outgoing, connection};
 use dns_edges::{FileSource, Reading, Sink, Writing};
 use dns_io::OutOfMemory;
+use dns_reasons::{Reason, Why, update_reason};
 use dns_update_client::{HELP, UpdateStatus, VERSION, after_writing, nsupdate, settings_of};
 use dns_words::{Action, action_of, command_words, hex_words, put_text};
 use std::cell::RefCell;
-use std::io::{self, BufWriter, Cursor, Read};
+use std::env;
+use std::io::{self, BufWriter, Cursor, ErrorKind, Read};
 use std::net::TcpStream;
 use std::process::ExitCode;
 
@@ -30,7 +32,55 @@ fn main(rt: HostRuntime) -> ExitCode {
         Action::Version => after_writing(UpdateStatus::Ok, put_text(VERSION, &mut out)),
         Action::Command => update(&rt, &words, &mut out),
     };
+    if status == UpdateStatus::Usage {
+        tell_words(&rt);
+    }
     status.exit_code()
+}
+
+/// Tells a person on standard error which word is wrong, or missing. That this line could not be written changes nothing.
+fn tell_words(rt: &HostRuntime) {
+    if has_unread_word(rt) {
+        tell_reason(rt, None, Why::Text);
+        return;
+    }
+    let Ok(words) = command_words(rt) else {
+        return;
+    };
+    if let Ok(Reason { word, why }) = update_reason(rt.alloc(), words.as_slice()) {
+        tell_reason(rt, word, why);
+    }
+}
+
+/// Whether the words could not be read, since one of them is not UTF-8.
+fn has_unread_word(rt: &HostRuntime) -> bool {
+    match env::args(rt) {
+        Ok(_) => false,
+        Err(error) => match error.kind() {
+            ErrorKind::OutOfMemory => false,
+            _ => true,
+        },
+    }
+}
+
+/// Tells why this word is wrong, or what is missing. Control characters of a word are escaped, so that the line stays one.
+fn tell_reason(rt: &HostRuntime, word: Option<&str>, why: Why) {
+    match word {
+        None => {
+            let _told = eprintln!(rt; "dns-nsupdate: {why}; dns-nsupdate --help tells more");
+        }
+        Some("") => {
+            let _told = eprintln!(rt;
+                "dns-nsupdate: an empty word: {why}; dns-nsupdate --help tells more"
+            );
+        }
+        Some(word) => {
+            let word = word.escape_debug();
+            let _told = eprintln!(rt;
+                "dns-nsupdate: {word}: {why}; dns-nsupdate --help tells more"
+            );
+        }
+    }
 }
 
 /// The words of the command line, without the program's name, with their addresses in hex digits.

@@ -3,11 +3,13 @@
 use crate::choices::Chosen;
 use crate::choices::auditing::{read_journal, written_journal};
 use crate::journals::{Named, opened};
+use crate::telling::tell_these;
 use dns_audit::{AuditStatus, HELP, VERSION, after_writing, audit};
 use dns_edges::{Sink, SystemClock, Writing};
 use dns_io::OutOfMemory;
 use dns_journal::{ClosedJournal, PersistenceError};
 use dns_keeper::Keeper;
+use dns_reasons::Tool;
 use dns_words::{Action, action_of, put_text};
 use std::fs;
 use std::io::{self, BufWriter};
@@ -28,6 +30,9 @@ pub fn run_words(rt: &HostRuntime, words: &Vec<String>) -> Result<ExitCode, OutO
         Action::Version => after_writing(AuditStatus::Ok, put_text(VERSION, &mut out)),
         Action::Command => command(rt, words, &mut out),
     };
+    if status == AuditStatus::Usage {
+        tell_these(rt, NAME, Tool::Auditor, words.as_slice());
+    }
     Ok(status.exit_code())
 }
 

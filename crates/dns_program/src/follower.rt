@@ -2,10 +2,12 @@
 
 use crate::choices::following::followed_journal;
 use crate::journals::{Named, opened};
+use crate::telling::tell_these;
 use dns_edges::{Reading, Sink, SystemClock, Writing};
 use dns_follow::{FollowStatus, HELP, Replicated, VERSION, after_writing, replicate};
 use dns_io::OutOfMemory;
 use dns_keeper::Keeper;
+use dns_reasons::Tool;
 use dns_words::{Action, action_of, put_text};
 use std::io::{self, BufWriter};
 use std::process::ExitCode;
@@ -24,6 +26,9 @@ pub fn run_words(rt: &HostRuntime, words: &Vec<String>) -> Result<ExitCode, OutO
         Action::Version => after_writing(FollowStatus::Ok, put_text(VERSION, &mut out)),
         Action::Command => command(rt, words, &mut out),
     };
+    if status == FollowStatus::Usage {
+        tell_these(rt, NAME, Tool::Follower, words.as_slice());
+    }
     Ok(status.exit_code())
 }
 

@@ -6,6 +6,7 @@ mod choices;
 mod follower;
 mod journals;
 mod server;
+mod telling;
 
 use crate::choices::programs::{Program, own_words, what_is_asked};
 use dns_io::OutOfMemory;

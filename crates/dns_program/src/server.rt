@@ -2,14 +2,16 @@
 
 use crate::choices::serving::{is_server, served_journal, zone_path};
 use crate::journals::{Named, opened};
+use crate::telling::{tell_file, tell_line, tell_words};
 use dns_crowd_server::{PortFailure, SocketCrowdHub};
 use dns_edges::{FileSource, SystemClock, Writing};
 use dns_io::OutOfMemory;
 use dns_keeper::Keeper;
 use dns_ports::StopToken;
 use dns_readiness::StandardInput;
+use dns_reasons::Tool;
 use dns_serve::run::run;
-use dns_serve::{Ended, HELP, Status, VERSION, after_writing};
+use dns_serve::{Ended, HELP, Status, VERSION, ZONE, after_writing};
 use dns_words::{Action, action_of, hex_words, put_text};
 use std::fs::{self, File};
 use std::io::{self, BufWriter, Write};
@@ -37,6 +39,7 @@ pub fn run_words<
         Action::Version => after_writing(Status::Ok, put_text(VERSION, &mut out)),
         Action::Command => command(rt, sockets, &words, &mut out),
     };
+    tell_refusal(rt, &words, status);
     Ok(status.exit_code())
 }
 
@@ -102,6 +105,22 @@ fn tell_failure(rt: &HostRuntime, failure: Option<PortFailure>, lacks_worker: bo
     }
     if lacks_worker {
         let _told = eprintln!(rt; "{NAME}: a worker found no thread");
+    }
+}
+
+/// Tells a person on standard error which word is wrong, why the file of the zone text could not be read, or which of its lines is wrong.
+fn tell_refusal(rt: &HostRuntime, words: &Vec<String>, status: Status) {
+    match status {
+        Status::Usage => tell_words(rt, NAME, Tool::Server),
+        Status::ReadFault => {
+            if let Some(path) = zone_path(words.as_slice()) {
+                tell_file(rt, NAME, ZONE, path);
+            }
+        }
+        Status::ZoneText { line, kind } => {
+            tell_line(rt, NAME, ZONE, zone_path(words.as_slice()), line, kind);
+        }
+        _ => {}
     }
 }
 
