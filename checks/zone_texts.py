@@ -401,7 +401,7 @@ def written(origin, text, events):
         file.write(text)
         file.flush()
         command = [PROGRAM, "events", origin, f"--zone={file.name}"]
-        run = subprocess.run(command, input=events.encode(), stdout=subprocess.PIPE, timeout=BOUND)
+        run = subprocess.run(command, input=events.encode(), stdout=subprocess.PIPE, stderr=subprocess.DEVNULL, timeout=BOUND)
     return run.stdout.decode(errors="replace"), run.returncode
 
 

@@ -1,4 +1,4 @@
-//! Edges, names, messages, frames, networks, ports, counts and the ticket world.
+//! Edges, names, messages, frames, networks, connections, ports, counts and the ticket world.
 //!
 //! The bytes of messages and names were assembled by hand from the RFCs: RFC 1035 3.1, 4.1 and 5.1 (names, header, question,
 //! record, compression), 3.3 and 3.4 (data), RFC 3596 2.2 (AAAA), RFC 2782 (SRV), RFC 3597 3 (unknown types), RFC 6891 6.1 (OPT), RFC 4035 3
@@ -6,6 +6,7 @@
 //!
 //! The kinds of rows stand in the order of `answer_of`, each told at its function. Blanks at the end of an answer count for nothing.
 
+mod connections;
 mod counts;
 mod frames;
 mod messages;
@@ -58,8 +59,10 @@ fn answer_of(rt: &HostRuntime, alloc: Global, kind: &str, given: &str) -> Result
         "clock" => sources::clock(alloc),
         "now" => sources::now(rt, given),
         "stream" => frames::stream(alloc, given),
+        "crowd_in_memory" => connections::crowd(alloc),
         "streams_in_memory" => networks::streams(alloc),
         "datagrams_in_memory" => networks::datagrams(alloc),
+        "socket_over_network" => networks::socket(alloc),
         "socket" => ports::socket(alloc),
         "listener" => ports::listener(alloc, given),
         "hub" => ports::hub(alloc),
