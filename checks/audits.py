@@ -41,6 +41,7 @@ import clients
 import journals
 import kit
 import migrations
+import reasons
 import traced
 import updates
 import wire
@@ -62,10 +63,10 @@ PYTHONS = "/usr/lib/python3/dist-packages"  # where a system keeps dnspython
 
 
 def audit(*words, journal=None, into=None, program=PROGRAM, **how):
-    """The auditor's status, its output and what it says on standard error, where reasons.py does not see it: of words that are refused."""
+    """The auditor's status, its output and what it says on standard error, but for the line that is due where words are refused."""
     command = [program, *words, *([f"--journal={journal}"] if journal else []), *([f"--into={into}"] if into else [])]
     done = subprocess.run(command, stdin=subprocess.DEVNULL, capture_output=True, timeout=BOUND, **how)
-    told = b"" if done.returncode == 1 else done.stderr
+    told = reasons.beside(1, done.stderr) if done.returncode == 1 else done.stderr
     return done.returncode, done.stdout.decode("ascii", "replace"), told.decode("ascii", "replace")
 
 

@@ -40,6 +40,7 @@ import tempfile
 from concurrent.futures import ThreadPoolExecutor
 from pathlib import Path
 
+import reasons
 import wire
 
 TOP = Path(__file__).resolve().parent.parent
@@ -161,11 +162,10 @@ def is_line(written, due):
 
 
 def ran(words, **streams):
-    """The status and the output of a run. What is told of words and files that are refused is seen by reasons.py."""
+    """The status and the output of a run, and what it says on standard error that is not due there; which line is due reasons.py sees."""
     run = subprocess.run([PROGRAM, *words], stdout=subprocess.PIPE, stderr=subprocess.PIPE, timeout=BOUND, **streams)
-    if run.stderr and run.returncode not in (1, 2, 6):
-        return run.returncode, run.stdout + b"on standard error: " + run.stderr
-    return run.returncode, run.stdout
+    said = reasons.beside(run.returncode, run.stderr)
+    return run.returncode, run.stdout + (b"on standard error: " + said if said else b"")
 
 
 def tried(case):

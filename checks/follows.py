@@ -44,6 +44,7 @@ import clients
 import journals
 import kit
 import migrations
+import reasons
 import traced
 import updates
 import wire
@@ -69,10 +70,10 @@ opened; length told; length told without a zone; held rows dropped at the end
 
 
 def run(*words, journal=None, given=b"", program=PROGRAM, **how):
-    """The program's status, its output and what it says on standard error, where reasons.py does not see it: of words that are refused."""
+    """The program's status, its output and what it says on standard error, but for the line that is due where words are refused."""
     command = [program, *words, *([f"--journal={journal}"] if journal else [])]
     done = subprocess.run(command, input=given, capture_output=True, timeout=BOUND, **how)
-    told = b"" if done.returncode == 1 else done.stderr
+    told = reasons.beside(1, done.stderr) if done.returncode == 1 else done.stderr
     return done.returncode, done.stdout, told.decode("ascii", "replace")
 
 

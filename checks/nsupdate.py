@@ -22,6 +22,7 @@ import time
 from contextlib import contextmanager
 from pathlib import Path
 
+import reasons
 import serving
 import update_model
 import wire
@@ -187,10 +188,11 @@ WORDS = [
 
 
 def run(words, script, **streams):
-    """The status and the output of a run."""
+    """The status and the output of a run, and what it says on standard error of refused words where that is not the line that is due."""
     given = script if isinstance(script, bytes) else script.encode()
-    done = subprocess.run([PROGRAM, *words], input=given, timeout=BOUND, **({"stdout": subprocess.PIPE, "stderr": subprocess.DEVNULL} | streams))
-    return done.returncode, (done.stdout or b"").decode(errors="replace")
+    done = subprocess.run([PROGRAM, *words], input=given, timeout=BOUND, **({"stdout": subprocess.PIPE, "stderr": subprocess.PIPE} | streams))
+    said = reasons.beside(1, done.stderr) if done.returncode == 1 and done.stderr is not None else b""
+    return done.returncode, ((done.stdout or b"") + said).decode(errors="replace")
 
 
 def sent_to(port, script, first_id, ip=IP):

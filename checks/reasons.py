@@ -39,6 +39,15 @@ NO_PORT = "--udp=IP:PORT or --tcp=IP:PORT is missing: where to listen"
 MOST = 18446744073709551615
 HERE = "serve example.com. --udp=127.0.0.1:0 "
 
+# what the programs say on standard error where they refuse, by the status: of words one line, of the server's zone text one, and of a file
+# that could not be read one, but where it is the event text's, or can be read by then
+SAID = {1: rb"dns[a-z-]*: [^\n]+; dns[a-z-]* --help tells more\n", 2: rb"dns: --zone=[^\n]+\n", 6: rb"(dns: --zone=[^\n]+\n)?"}
+
+
+def beside(status, said):
+    """What was said on standard error beside what is due at a status: nothing, or else all of it, or that it is missing."""
+    return b"" if re.fullmatch(SAID.get(status, b""), said) else said or b"a line is missing"
+
 
 def between(least, most):
     return f"a number from {least} to {most} was expected"

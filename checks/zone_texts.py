@@ -18,6 +18,8 @@ import sys
 import tempfile
 from concurrent.futures import ThreadPoolExecutor
 
+import reasons
+
 TOP = os.path.dirname(os.path.dirname(os.path.abspath(__file__)))
 PROGRAM = os.path.join(TOP, "crates", "dns_program", "out", "dns_program")
 TEXTS = 2_000
@@ -396,13 +398,14 @@ def expected(found, zone):
 
 
 def written(origin, text, events):
-    """What the program says."""
+    """What the program says, also on standard error where that is not due."""
     with tempfile.NamedTemporaryFile(dir="/dev/shm" if os.path.isdir("/dev/shm") else None) as file:
         file.write(text)
         file.flush()
         command = [PROGRAM, "events", origin, f"--zone={file.name}"]
-        run = subprocess.run(command, input=events.encode(), stdout=subprocess.PIPE, stderr=subprocess.DEVNULL, timeout=BOUND)
-    return run.stdout.decode(errors="replace"), run.returncode
+        run = subprocess.run(command, input=events.encode(), stdout=subprocess.PIPE, stderr=subprocess.PIPE, timeout=BOUND)
+    said = run.stdout + reasons.beside(run.returncode, run.stderr)
+    return said.decode(errors="replace"), run.returncode
 
 
 # The texts. A word of bytes is taken from those that are of a form, and seldom from those that are not.
